@@ -1,0 +1,31 @@
+-- The library's answers in plain numbers, as they cross to another language.
+use Prim.Native.Nat.{ℕ}
+use mathlib.Core.Path.{_≡_}
+use lib.IntN.{ℤ, pos}
+use lib.Ieee.{Float, binary32, toBits}
+use Rattle.terms.specs.Answers.{numberOf}
+use Rattle.grid.specs.Places.{Places, answerOf}
+use Rattle.grid.specs.declared.Coordinate.{Coordinate}
+use Rattle.grid.specs.declared.Coordinate.the-variants.{Exact, Shifted, NotFinite, TooFar}
+
+-- the whole number of an answer, or 0
+abbrev pub wholeOf : Coordinate → ℤ
+wholeOf (Exact k) = k
+wholeOf (Shifted k d) = k
+wholeOf NotFinite = pos 0
+wholeOf (TooFar x) = pos 0
+
+-- the bits of the float that comes with an answer, or 0
+abbrev pub floatOf : Coordinate → ℕ
+floatOf (Exact k) = 0
+floatOf (Shifted k d) = toBits binary32 d
+floatOf NotFinite = 0
+floatOf (TooFar x) = toBits binary32 x
+
+-- the number, the whole number and the float are those of the right answer for x
+pub record Tells (x : Float) (number : ℕ) (whole : ℤ) (float : ℕ) : Type 0 where
+  pub coordinate : Coordinate
+  pub right : Places 1 x coordinate
+  pub its-number : number ≡ numberOf (answerOf 0 coordinate)
+  pub its-whole : whole ≡ wholeOf coordinate
+  pub its-float : float ≡ floatOf coordinate

@@ -1,0 +1,23 @@
+-- Every row of the table holds, by computing.
+use mathlib.Core.Path.{_≡_, refl, ap}
+use Prim.Native.Nat.{_<_}
+use native.Mathlib.Omega.{arith}
+use lib.Dec.{lit≤, lit<}
+use lib.IntN.{ℤ, pos, natAbs}
+use lib.Ieee.{ofBits, fits}
+use Rattle.grid.specs.Units.{units}
+use Rattle.grid.specs.Places.{whole}
+use Rattle.bench.specs.Table.{Table}
+
+nonzero : (z : ℤ) → 0 < natAbs z → z ≡ pos 0 → ⊥
+nonzero z h e = omega (arith, ap natAbs e)
+
+pub table : Table
+unfolding ofBits fits units whole
+table = record {
+  half = (record { number = tt; nearest = refl; within = lit≤ tt }, record { some = nonzero _ (lit< tt); fitting = tt; number = tt; exact = refl });
+  half-up = (record { number = tt; nearest = refl; within = lit≤ tt }, record { some = nonzero _ (lit< tt); fitting = tt; number = tt; exact = refl });
+  half-down = (record { number = tt; nearest = refl; within = lit≤ tt }, record { some = nonzero _ (lit< tt); fitting = tt; number = tt; exact = refl });
+  last = (record { number = tt; nearest = refl; within = lit≤ tt }, record { some = nonzero _ (lit< tt); fitting = tt; number = tt; exact = refl });
+  past = (tt, lit< tt, refl);
+}

@@ -1,0 +1,7 @@
+-- The laws of one coordinate, each file for one idea.
+pub mod Nearest
+pub mod Signs
+pub mod Floats
+pub mod Rests
+pub mod Only
+pub mod Coordinates

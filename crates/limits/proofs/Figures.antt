@@ -1,0 +1,23 @@
+-- Figures of the scope that follow from the limits. They hold at these limits and at no others, so none can be moved unseen.
+use Prim.Native.Nat.{ℕ, _+_, _-_, _*_, _/_}
+use mathlib.Core.Path.{_≡_, refl}
+use Rattle.limits.specs.Limits.{points, triangles, words, corners, greatest, longest}
+
+-- three words a point and three corners a triangle
+pub words-are : words ≡ 3 * points
+words-are = refl
+
+pub corners-are : corners ≡ 3 * triangles
+corners-are = refl
+
+-- The longest sheet text: two counts of four digits, 29 bytes a point and 17 a triangle with corners of four digits.
+pub longest-text : 12 + 29 * points + (15 + 17 * triangles) ≡ 47131
+longest-text = refl
+
+-- The greatest weight that is promised: three components, each the difference of two products of differences.
+pub greatest-weight : 3 * (2 * (2 * greatest * (2 * greatest))) ≡ 25768230936
+greatest-weight = refl
+
+-- The pairs of positions in the longest loop that is patched.
+pub pairs : longest * (longest - 1) / 2 ≡ 2016
+pairs = refl

@@ -1,0 +1,29 @@
+-- The limits that the types of `terms` state, for the definitions of every crate above. No number stands here.
+use Prim.Native.Nat.{ℕ}
+use Rattle.terms.proofs.Surface.takes_points.⟦Self·POINTS⟧-asked.Lts as for-points
+use Rattle.terms.proofs.Surface.takes_triangles.⟦Self·TRIANGLES⟧-asked.Lts as for-triangles
+use Rattle.terms.proofs.Surface.takes_words.⟦Self·WORDS⟧-asked.Lts as for-words
+use Rattle.terms.proofs.Surface.takes_corners.⟦Self·CORNERS⟧-asked.Lts as for-corners
+use Rattle.terms.proofs.Grid.holds.⟦Self·GREATEST⟧-asked.Lts as for-grid
+use Rattle.terms.proofs.Loop.is_long.⟦Self·LONGEST⟧-asked.Lts as for-loop
+
+-- how many points and triangles a surface has at most, and how many words and corners those have
+abbrev pub points : ℕ
+points = for-points.answer tt tt
+
+abbrev pub triangles : ℕ
+triangles = for-triangles.answer tt tt
+
+abbrev pub words : ℕ
+words = for-words.answer tt tt
+
+abbrev pub corners : ℕ
+corners = for-corners.answer tt tt
+
+-- how far from 0 the grid reaches
+abbrev pub greatest : ℕ
+greatest = for-grid.answer tt tt
+
+-- how many edges a loop has at most that is not long
+abbrev pub longest : ℕ
+longest = for-loop.answer tt tt

@@ -1,0 +1,17 @@
+-- `is_threes` tests what `threes` says, in its order.
+use mathlib.Core.Path.{_∙_, ap, sym}
+use mathlib.Core.Bool.{Bool, _&&_}
+use Prim.Native.Nat.{_%_}
+use lib.Dec.{eqb, leb}
+use borrow.Author.Tests.{eq-eqb, ne-eqb}
+use Rattle.terms.proofs.is_threes.Statement.{statement}
+use Rattle.terms.proofs.is_threes.Tie as tie
+
+returns : tie.Need-returns
+returns c = rw (eq-eqb _ _ (c .if1 .taken))
+
+returns-2 : tie.Need-returns-2
+returns-2 c = rw (ne-eqb _ _ (c .if1 .left))
+
+pub is-threes-spec : {M : Type 1} → statement M
+is-threes-spec = tie.close (tie.spec returns returns-2)

@@ -1,0 +1,185 @@
+// The workshop's vocabulary: how much a surface, the grid and a loop may hold, and the answers with their numbers.
+ghost use mathlib.Core.Path.{_≡_};
+ghost use Prim.Native.Nat.{_/_};
+ghost use lib.Dec.{leb, ltb};
+ghost use lib.IntN.{natAbs};
+ghost use Rattle.terms.specs.Answers.{numberOf, placeOf, refusing};
+ghost use Rattle.terms.specs.Counts.{threes};
+
+// A surface's counts. Each point has three words and each triangle three corners.
+pub struct Surface {
+    pub points: usize,
+    pub triangles: usize,
+}
+
+impl Surface {
+    pub const POINTS: usize = 1024;
+
+    pub const TRIANGLES: usize = 1024;
+
+    pub const WORDS: usize = 3 * Self::POINTS;
+
+    pub const CORNERS: usize = 3 * Self::TRIANGLES;
+
+    // The surface of that many words and corners.
+    pub fn of(words: usize, corners: usize) -> Surface
+        ensures { λ r. ⌜ (r .points ≡ words / 3) × (r .triangles ≡ corners / 3) ⌝ }
+    {
+        Surface {
+            points: words / 3,
+            triangles: corners / 3,
+        }
+    }
+
+    // That many points are not too many.
+    pub fn takes_points(points: usize) -> bool
+        ensures { λ r. do most ← ⟦Self::POINTS⟧ .entry; ⌜ r ≡ leb points most ⌝ }
+    {
+        points <= Self::POINTS
+    }
+
+    // That many triangles are not too many.
+    pub fn takes_triangles(triangles: usize) -> bool
+        ensures { λ r. do most ← ⟦Self::TRIANGLES⟧ .entry; ⌜ r ≡ leb triangles most ⌝ }
+    {
+        triangles <= Self::TRIANGLES
+    }
+
+    // That many words are three for each of at most POINTS points.
+    pub fn takes_words(words: usize) -> bool
+        ensures { λ r. do most ← ⟦Self::WORDS⟧ .entry; ⌜ r ≡ threes most words ⌝ }
+    {
+        is_threes(words, Self::WORDS)
+    }
+
+    // That many corners are three for each of at most TRIANGLES triangles.
+    pub fn takes_corners(corners: usize) -> bool
+        ensures { λ r. do most ← ⟦Self::CORNERS⟧ .entry; ⌜ r ≡ threes most corners ⌝ }
+    {
+        is_threes(corners, Self::CORNERS)
+    }
+}
+
+fn is_threes(n: usize, most: usize) -> bool
+    ensures { λ r. ⌜ r ≡ threes most n ⌝ }
+{
+    n % 3 == 0 && n <= most
+}
+
+// The grid on which the whole numbers lie, one in every `pitch`.
+pub struct Grid {
+    pub pitch: u32,
+}
+
+impl Grid {
+    pub const GREATEST: u32 = 32767;
+
+    // The grid of all whole numbers.
+    pub fn fine() -> Grid
+        ensures { λ r. ⌜ r .pitch ≡ 1 ⌝ }
+    {
+        Grid { pitch: 1 }
+    }
+
+    // The whole number is no further from 0 than the grid reaches, on either side.
+    pub fn holds(whole: i32) -> bool
+        ensures { λ r. do most ← ⟦Self::GREATEST⟧ .entry; ⌜ r ≡ leb (natAbs whole) most ⌝ }
+    {
+        let most = Self::GREATEST as i32;
+        -most <= whole && whole <= most
+    }
+}
+
+// A loop by its length, which counts its edges.
+pub struct Loop {
+    pub length: usize,
+}
+
+impl Loop {
+    pub const LONGEST: usize = 64;
+
+    // The loop of that many edges.
+    pub fn of(length: usize) -> Loop
+        ensures { λ r. ⌜ r .length ≡ length ⌝ }
+    {
+        Loop { length }
+    }
+
+    // The loop has more edges than are ever patched.
+    pub fn is_long(self) -> bool
+        ensures { λ r. do most ← ⟦Self::LONGEST⟧ .entry; ⌜ r ≡ ltb most (self .length) ⌝ }
+    {
+        let length = self.length;
+        Self::LONGEST < length
+    }
+}
+
+// What an entry point says: done or passed, one of the refusals 1 to 10, or one of the verdicts 11 to 15.
+pub enum Answer {
+    Done,
+    Words,
+    Corners,
+    Buffer(usize),
+    Unnamed(usize),
+    Twice(usize),
+    Repeated(usize),
+    NotFinite(usize),
+    TooFar(usize),
+    States(usize),
+    Line(usize),
+    Misdeclared(usize),
+    Uncovered(usize),
+    Barred(usize),
+    Heavy(usize),
+    LeftOver(usize),
+}
+
+impl Answer {
+    // The number of the answer.
+    pub fn number(self) -> u32
+        ensures { λ r. ⌜ r ≡ numberOf self ⌝ }
+    {
+        match self {
+            Answer::Done => 0,
+            Answer::Words => 1,
+            Answer::Corners => 2,
+            Answer::Buffer(_) => 3,
+            Answer::Unnamed(_) => 4,
+            Answer::Twice(_) => 5,
+            Answer::Repeated(_) => 6,
+            Answer::NotFinite(_) => 7,
+            Answer::TooFar(_) => 8,
+            Answer::States(_) => 9,
+            Answer::Line(_) => 10,
+            Answer::Misdeclared(_) => 11,
+            Answer::Uncovered(_) => 12,
+            Answer::Barred(_) => 13,
+            Answer::Heavy(_) => 14,
+            Answer::LeftOver(_) => 15,
+        }
+    }
+
+    // The place of the answer.
+    pub fn place(self) -> usize
+        ensures { λ r. ⌜ r ≡ placeOf self ⌝ }
+    {
+        match self {
+            Answer::Done => 0,
+            Answer::Words => 0,
+            Answer::Corners => 0,
+            Answer::Buffer(buffer) => buffer,
+            Answer::Unnamed(corner) => corner,
+            Answer::Twice(triangle) => triangle,
+            Answer::Repeated(half_edge) => half_edge,
+            Answer::NotFinite(word) => word,
+            Answer::TooFar(word) => word,
+            Answer::States(loops) => loops,
+            Answer::Line(line) => line,
+            Answer::Misdeclared(ring) => ring,
+            Answer::Uncovered(ring) => ring,
+            Answer::Barred(ring) => ring,
+            Answer::Heavy(ring) => ring,
+            Answer::LeftOver(corner) => corner,
+        }
+    }
+}
