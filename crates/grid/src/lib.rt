@@ -62,6 +62,5 @@ fn nearest(word: u32) -> i32
     requires { ⌜ word % 2 ^ 31 / 2 ^ 23 < 149 ⌝ }
     ensures { λ r. ⌜ r ≡ whole 1 (units (ofBits binary32 word)) ⌝ }
 {
-    let lifted = (f32::from_bits(word) + LIFT as f32) as u32;
-    lifted as i32 - LIFT as i32
+    (f32::from_bits(word) + LIFT as f32) as i32 - LIFT as i32
 }

@@ -3,7 +3,7 @@ ghost use mathlib.Core.Path.{_≡_};
 ghost use Prim.Native.Nat.{_/_};
 ghost use lib.Dec.{leb, ltb};
 ghost use lib.IntN.{natAbs};
-ghost use Rattle.terms.specs.Answers.{numberOf, placeOf, refusing};
+ghost use Rattle.terms.specs.Answers.{numberOf, placeOf};
 ghost use Rattle.terms.specs.Counts.{threes};
 
 // A surface's counts. Each point has three words and each triangle three corners.

@@ -11,8 +11,8 @@ use lib.IntN.{ℤ, pos, negℤ, natAbs, _-ℤ_}
 use mir.Syntax.{w32}
 use mir.Val.{SFits, toZ, ofZ}
 use mir.ValLaws.{toZ-ofZ, toZ-pos}
-use lib.Ieee.{Float, binary32, ofBits, add, sub, ofInt, eq, level, inFloat, inUnsigned, toUnsigned}
-use lib.Ieee.Back.{unsigned-back}
+use lib.Ieee.{Float, binary32, ofBits, add, sub, ofInt, eq, level, inFloat, inSigned, toSigned}
+use lib.Ieee.Back.{positive-back}
 use lib.Ieee.Exact.{HasValue}
 use lib.Ieee.Fits.{sub-fits}
 use lib.Ieee.Nearest.{closest}
@@ -147,20 +147,17 @@ module _ (w : ℕ) (h : field w < 149) where
         go false = le-trans (omega (arith, size-small)) hi
         go true = le-trans (omega arith) hi
 
-    is-whole : T (inUnsigned binary32 32 (ofInt binary32 (pos above))) × (toUnsigned 32 (ofInt binary32 (pos above)) ≡ above)
-    is-whole = unsigned-back binary32 32 above (in-float false above above-small) (lt-of-le-of-lt above-small (lit< tt))
+    is-whole : T (inSigned binary32 31 (ofInt binary32 (pos above))) × (toSigned 31 (ofInt binary32 (pos above)) ≡ pos above)
+    is-whole = positive-back binary32 31 above (in-float false above above-small) (lt-of-le-of-lt above-small (lit< tt))
 
     lifted-is : lifted ≡ ofInt binary32 (pos above)
     lifted-is = add-high q even lo hi x (minus w) count (p .value) (small-below w p)
 
-    pub lifted-whole : T (inUnsigned binary32 32 lifted)
-    lifted-whole = subst (λ (y : Float). T (inUnsigned binary32 32 y)) (sym lifted-is) (is-whole .0)
+    pub lifted-whole : T (inSigned binary32 31 lifted)
+    lifted-whole = subst (λ (y : Float). T (inSigned binary32 31 y)) (sym lifted-is) (is-whole .0)
 
-    lifted-cast : toUnsigned 32 lifted ≡ above
-    lifted-cast = ap (toUnsigned 32) lifted-is ∙ is-whole .1
-
-    pub lifted-fits : SFits w32 (pos (toUnsigned 32 lifted))
-    lifted-fits = subst (λ (n : ℕ). SFits w32 (pos n)) (sym lifted-cast) (sfits-signed false above (lt-of-le-of-lt above-small (lit< tt)))
+    lifted-cast : toZ w32 (ofZ w32 (toSigned 31 lifted)) ≡ pos above
+    lifted-cast = ap (λ (y : Float). toZ w32 (ofZ w32 (toSigned 31 y))) lifted-is ∙ ap (λ (z : ℤ). toZ w32 (ofZ w32 z)) (is-whole .1) ∙ toZ-pos w32 above (lt-of-le-of-lt above-small (lit< tt))
 
     back-down : (s : Bool) → pos (off s q size) -ℤ pos q ≡ signed s size
     unfolding off
@@ -179,14 +176,14 @@ module _ (w : ℕ) (h : field w < 149) where
             let y : q - size - q ≡ 0 = omega arith in
             signed-over false (q - size) q (omega arith) ∙ ap pos y ∙ sym (ap (λ (n : ℕ). negℤ (pos n)) z)
 
-    lowered : toZ w32 (toUnsigned 32 lifted) -ℤ pos q ≡ whole 1 (units x)
-    lowered = ap (λ (n : ℕ). toZ w32 n -ℤ pos q) lifted-cast ∙ ap (λ (z : ℤ). z -ℤ pos q) (toZ-pos w32 above (lt-of-le-of-lt above-small (lit< tt))) ∙ back-down (minus w) ∙ sym whole-is
+    lowered : toZ w32 (ofZ w32 (toSigned 31 lifted)) -ℤ pos q ≡ whole 1 (units x)
+    lowered = ap (λ (z : ℤ). z -ℤ pos q) lifted-cast ∙ back-down (minus w) ∙ sym whole-is
 
-    pub lowered-fits : SFits w32 (toZ w32 (toUnsigned 32 lifted) -ℤ pos q)
+    pub lowered-fits : SFits w32 (toZ w32 (ofZ w32 (toSigned 31 lifted)) -ℤ pos q)
     lowered-fits = subst (SFits w32) (sym (lowered ∙ whole-is)) (sfits-signed (minus w) size (lt-of-le-of-lt size-small (lit< tt)))
 
-    pub found : toZ w32 (ofZ w32 (toZ w32 (toUnsigned 32 lifted) -ℤ pos q)) ≡ whole 1 (units x)
-    found = held (toZ w32 (toUnsigned 32 lifted) -ℤ pos q) lowered
+    pub found : toZ w32 (ofZ w32 (toZ w32 (ofZ w32 (toSigned 31 lifted)) -ℤ pos q)) ≡ whole 1 (units x)
+    found = held (toZ w32 (ofZ w32 (toSigned 31 lifted)) -ℤ pos q) lowered
 
   -- ---- the answers
 

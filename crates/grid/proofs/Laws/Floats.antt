@@ -10,14 +10,14 @@ use lib.Arith.{lt-of-le-ne}
 use lib.Dec.{T, ltb, leb, eqb, ltb→lt, lt→ltb, le→leb, nltb→le, eqb→eq, not-T, lit≤, lit<}
 use lib.Pow.{pow-add, pow-pos, pow-mono, pow-lt, shl-lt}
 use lib.IntN.{ℤ, pos, negsuc, negℤ, natAbs, _-ℤ_, pos-ne-negsuc}
-use lib.Ieee.{Float, nan, inf, fin, Format, binary32, prec, emax, low, up, down, size, round, sum, add, neg, sub, ofInt, eq, level, inUnsigned, toUnsigned, inFloat, ofBits, ofFields, odd, nanBits, fits}
+use lib.Ieee.{Float, nan, inf, fin, Format, binary32, prec, emax, low, up, down, size, round, sum, add, neg, sub, ofInt, eq, level, inFloat, ofBits, ofFields, odd, nanBits, fits}
 use lib.Ieee.Digits.{size-le, size-lt}
 use borrow.Author.Tests.{lt-ltb}
 use lib.Ieee.Nearest.{closest, closest-same}
 use lib.Ieee.Fits.{down-pos, round-fits, ofInt-fits, and-i, and-l, and-r, eq→eqb, nearest-le}
 use lib.Ieee.Exact.{HasValue, round-exact, odd-sign}
 use lib.Ieee.Scale.{finite, round-same, round-val, grid}
-use lib.Ieee.Back.{round-whole, whole-unique, unsigned-back}
+use lib.Ieee.Back.{round-whole, whole-unique}
 use Rattle.grid.specs.Units.{one, signed, units}
 use Rattle.grid.proofs.Laws.Nearest.{apart, closest-up, closest-down}
 use Rattle.grid.proofs.Laws.Signs.{abs-signed, signed-under, signed-over}
