@@ -1,0 +1,7 @@
+-- The laws of searches and of half-edges, each file for one idea.
+pub mod Smallest
+pub mod Edges
+pub mod Passes
+pub mod Words
+pub mod Past
+pub mod Refusing

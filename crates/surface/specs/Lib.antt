@@ -1,0 +1,3 @@
+pub mod Smallest
+pub mod Edges
+pub mod Refusals

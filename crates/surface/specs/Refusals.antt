@@ -1,0 +1,86 @@
+-- The refusals 1 to 8, in their order: "each over the whole input before the next, the smallest index reported".
+use mathlib.Core.Bool.{Bool, true, false, not, cond, _&&_, _||_}
+use mathlib.Core.List.{List}
+use Prim.Native.Nat.{ℕ, _+_, _/_}
+use lib.Dec.{leb, ltb}
+use lib.IntN.{natAbs}
+use lib.ListN.{length, getD}
+use lib.Ieee.{binary32, ofBits}
+use lib.Ieee.Scale.{finite}
+use Rattle.limits.specs.Limits as limits
+use Rattle.terms.specs.Answers.{refusing}
+use Rattle.terms.specs.Counts.{threes}
+use Rattle.terms.specs.declared.Answer.{Answer}
+use Rattle.terms.specs.declared.Answer.the-variants.{Done, Words, Corners, Buffer, Unnamed, Twice, Repeated, NotFinite, TooFar}
+use Rattle.grid.specs.Units.{units}
+use Rattle.grid.specs.Places.{whole}
+use Rattle.surface.specs.declared.Found.{Found}
+use Rattle.surface.specs.declared.Found.the-variants.{At, Nothing}
+use Rattle.surface.specs.Smallest.{least}
+use Rattle.surface.specs.Edges.{twice, repeats}
+
+-- buffer i, from 0, is shorter than it need be
+unfoldable pub short : List ℕ → List ℕ → ℕ → Bool
+short lent needs i = ltb (getD lent i 0) (getD needs i 0)
+
+-- "A corner of the surface names no point."
+unfoldable pub unnamed : List ℕ → ℕ → ℕ → Bool
+unnamed corners points i = leb points (getD corners i 0)
+
+-- "A coordinate isn't finite."
+unfoldable pub notFinite : List ℕ → ℕ → Bool
+notFinite words i = not (finite (ofBits binary32 (getD words i 0)))
+
+-- "A coordinate is too far."
+unfoldable pub tooFar : List ℕ → ℕ → Bool
+tooFar words i = let x = ofBits binary32 (getD words i 0) in finite x && ltb limits.greatest (natAbs (whole 1 (units x)))
+
+-- either of the two: what one pass over the words looks for
+unfoldable pub offGrid : List ℕ → ℕ → Bool
+unfolding notFinite tooFar
+offGrid words i = notFinite words i || tooFar words i
+
+-- a refusal where a place was found
+abbrev pub refuseAt : (ℕ → Answer) → Found → Answer
+refuseAt f (At i) = f i
+refuseAt f Nothing = Done
+
+-- a refusal where a test passes
+abbrev pub refuseIf : Bool → Answer → Answer
+refuseIf true a = a
+refuseIf false a = Done
+
+-- the first check that refuses decides
+abbrev pub thenCheck : Answer → Answer → Answer
+thenCheck a b = cond (refusing a) a b
+
+-- 1 and 2, by the counts of words and corners
+unfoldable pub countRefusal : ℕ → ℕ → Answer
+countRefusal words corners =
+    thenCheck (refuseIf (not (threes limits.words words)) Words)
+    (refuseIf (not (threes limits.corners corners)) Corners)
+
+-- 3, by the lengths of the lent buffers and how long each need be; buffers are numbered from 1
+unfoldable pub bufferRefusal : List ℕ → List ℕ → Answer
+bufferRefusal lent needs = refuseAt (λ i. Buffer (i + 1)) (least (short lent needs) (length needs))
+
+-- 4, 5 and 6, by the corners and the count of points
+unfoldable pub cornerRefusal : List ℕ → ℕ → Answer
+cornerRefusal corners points =
+    thenCheck (refuseAt Unnamed (least (unnamed corners points) (length corners)))
+    (thenCheck (refuseAt Twice (least (twice corners) (length corners / 3)))
+    (refuseAt Repeated (least (repeats corners) (length corners))))
+
+-- 7 and 8, by the words
+unfoldable pub wordRefusal : List ℕ → Answer
+wordRefusal words =
+    thenCheck (refuseAt NotFinite (least (notFinite words) (length words)))
+    (refuseAt TooFar (least (tooFar words) (length words)))
+
+-- the table from 1 to 8
+unfoldable pub refusal : List ℕ → List ℕ → List ℕ → List ℕ → Answer
+refusal words corners lent needs =
+    thenCheck (countRefusal (length words) (length corners))
+    (thenCheck (bufferRefusal lent needs)
+    (thenCheck (cornerRefusal corners (length words / 3))
+    (wordRefusal words)))

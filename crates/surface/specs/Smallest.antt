@@ -1,0 +1,25 @@
+-- "The smallest index reported": the smallest index with a property, or none.
+use mathlib.Core.Bool.{Bool, true, false}
+use Prim.Native.Nat.{ℕ, zero, suc}
+use Rattle.surface.specs.declared.Found.{Found}
+use Rattle.surface.specs.declared.Found.the-variants.{At, Nothing}
+
+-- i where the test passes
+abbrev pub hit : Bool → ℕ → Found
+hit true i = At i
+hit false i = Nothing
+
+-- the first of two
+abbrev pub orElse : Found → Found → Found
+orElse (At i) g = At i
+orElse Nothing g = g
+
+-- the smallest index below n at which p holds
+unfoldable pub least : (ℕ → Bool) → ℕ → Found
+least p zero = Nothing
+least p (suc n) = orElse (least p n) (hit (p n) n)
+
+-- there is one
+abbrev pub any : Found → Bool
+any (At i) = true
+any Nothing = false
