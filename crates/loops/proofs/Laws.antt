@@ -1,0 +1,21 @@
+-- The laws of the next edge, of cycles and of the path rule, each file for one idea.
+pub mod Pigeon
+pub mod Distinct
+pub mod Fan
+pub mod Cycles
+pub mod Leaders
+pub mod Parts
+pub mod Each
+pub mod Linked
+pub mod Paths
+pub mod Behind
+pub mod Counts
+pub mod Kept
+pub mod Places
+pub mod Three
+pub mod Walks
+pub mod Members
+pub mod Rounds
+pub mod Surfaces
+pub mod Middle
+pub mod Opens
