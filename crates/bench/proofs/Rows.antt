@@ -7,17 +7,27 @@ use lib.IntN.{ℤ, pos, natAbs}
 use lib.Ieee.{ofBits, fits}
 use Rattle.grid.specs.Units.{units}
 use Rattle.grid.specs.Places.{whole}
-use Rattle.bench.specs.Table.{Table}
+use Rattle.surface.specs.Smallest.{least}
+use Rattle.surface.specs.Edges.{following, runs, twin, isOpen, repeats, twice}
+use Rattle.surface.specs.Refusals.{unnamed, cornerRefusal}
+use Rattle.loops.specs.Next.{step, turn, next}
+use Rattle.loops.specs.Loops.{around, cycle, leads, startsAt, grow, growAll, loopsOf, loopsBelow, loops}
+use Rattle.bench.specs.Table.{Table, rings}
 
 nonzero : (z : ℤ) → 0 < natAbs z → z ≡ pos 0 → ⊥
 nonzero z h e = omega (arith, ap natAbs e)
 
 pub table : Table
-unfolding ofBits fits units whole
+unfolding ofBits fits units whole rings cornerRefusal unnamed twice repeats loops loopsBelow loopsOf growAll grow startsAt leads cycle around isOpen next turn step twin runs following least
 table = record {
   half = (record { number = tt; nearest = refl; within = lit≤ tt }, record { some = nonzero _ (lit< tt); fitting = tt; number = tt; exact = refl });
   half-up = (record { number = tt; nearest = refl; within = lit≤ tt }, record { some = nonzero _ (lit< tt); fitting = tt; number = tt; exact = refl });
   half-down = (record { number = tt; nearest = refl; within = lit≤ tt }, record { some = nonzero _ (lit< tt); fitting = tt; number = tt; exact = refl });
   last = (record { number = tt; nearest = refl; within = lit≤ tt }, record { some = nonzero _ (lit< tt); fitting = tt; number = tt; exact = refl });
   past = (tt, lit< tt, refl);
+  no-triangles = refl;
+  repeated = refl;
+  bow-tie = refl;
+  strip-cycle = refl;
+  strip-rings = refl
 }
