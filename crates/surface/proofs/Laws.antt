@@ -3,5 +3,5 @@ pub mod Smallest
 pub mod Edges
 pub mod Passes
 pub mod Words
-pub mod Past
+pub mod Over
 pub mod Refusing

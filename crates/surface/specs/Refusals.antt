@@ -77,10 +77,13 @@ wordRefusal words =
     thenCheck (refuseAt NotFinite (least (notFinite words) (length words)))
     (refuseAt TooFar (least (tooFar words) (length words)))
 
+-- 3 to 8, once 1 and 2 were not given
+unfoldable pub contentRefusal : List ℕ → List ℕ → List ℕ → List ℕ → Answer
+contentRefusal words corners lent needs =
+    thenCheck (bufferRefusal lent needs)
+    (thenCheck (cornerRefusal corners (length words / 3))
+    (wordRefusal words))
+
 -- the table from 1 to 8
 unfoldable pub refusal : List ℕ → List ℕ → List ℕ → List ℕ → Answer
-refusal words corners lent needs =
-    thenCheck (countRefusal (length words) (length corners))
-    (thenCheck (bufferRefusal lent needs)
-    (thenCheck (cornerRefusal corners (length words / 3))
-    (wordRefusal words)))
+refusal words corners lent needs = thenCheck (countRefusal (length words) (length corners)) (contentRefusal words corners lent needs)

@@ -58,7 +58,7 @@ pub fn check_words(words: &[u32]) -> Answer
 }
 
 // The first buffer that is shorter than it need be.
-pub fn first_short(lent: &[usize], needs: &[usize]) -> Found
+fn first_short(lent: &[usize], needs: &[usize]) -> Found
     ensures { λ r. ⌜ r ≡ least (short (now (lent .entry)) (now (needs .entry))) (length (now (needs .entry))) ⌝ }
 {
     let mut i = 0;
@@ -82,8 +82,17 @@ fn is_short(lent: &[usize], needs: &[usize], i: usize) -> bool
     0 < needs[i]
 }
 
-// The first corner that names none of the points.
+// The first corner that names none of the points. Where all name one, a quick pass tells it.
 pub fn first_unnamed(corners: &[u16], points: u16) -> Found
+    ensures { λ r. ⌜ r ≡ least (unnamed (now (corners .entry)) points) (length (now (corners .entry))) ⌝ }
+{
+    if all_named(corners, points) {
+        return Found::Nothing;
+    }
+    seek_unnamed(corners, points)
+}
+
+fn seek_unnamed(corners: &[u16], points: u16) -> Found
     ensures { λ r. ⌜ r ≡ least (unnamed (now (corners .entry)) points) (length (now (corners .entry))) ⌝ }
 {
     let mut i = 0;
@@ -97,7 +106,7 @@ pub fn first_unnamed(corners: &[u16], points: u16) -> Found
 }
 
 // Whether every corner names a point: a pass with no way out, so that several corners are taken at a time.
-pub fn all_named(corners: &[u16], points: u16) -> bool
+fn all_named(corners: &[u16], points: u16) -> bool
     ensures { λ r. ⌜ r ≡ not (any (least (unnamed (now (corners .entry)) points) (length (now (corners .entry))))) ⌝ }
 {
     let mut all = true;
@@ -150,7 +159,7 @@ pub fn first_twice(corners: &[u16]) -> Found
 }
 
 // The first word that is no finite number.
-pub fn first_not_finite(words: &[u32]) -> Found
+fn first_not_finite(words: &[u32]) -> Found
     ensures { λ r. ⌜ r ≡ least (notFinite (now (words .entry))) (length (now (words .entry))) ⌝ }
 {
     let mut i = 0;
@@ -178,7 +187,7 @@ fn is_not_finite(words: &[u32], i: usize) -> bool
 }
 
 // The first word that is too far.
-pub fn first_too_far(words: &[u32]) -> Found
+fn first_too_far(words: &[u32]) -> Found
     ensures { λ r. ⌜ r ≡ least (tooFar (now (words .entry))) (length (now (words .entry))) ⌝ }
 {
     let mut i = 0;
@@ -206,7 +215,7 @@ fn is_too_far(words: &[u32], i: usize) -> bool
 }
 
 // Whether every word is on the grid: a pass with no way out, as `all_named` is.
-pub fn all_on_grid(words: &[u32]) -> bool
+fn all_on_grid(words: &[u32]) -> bool
     ensures { λ r. ⌜ r ≡ not (any (least (offGrid (now (words .entry))) (length (now (words .entry))))) ⌝ }
 {
     let mut all = true;

@@ -1,7 +1,7 @@
 -- `is_short` compares, and takes a buffer that is not lent for an empty one.
 
 use Rattle.surface.specs.Refusals.{short}
-use Rattle.surface.proofs.Laws.Past.{getD-past}
+use lib.ListN.{List·getD-eq-default}
 use borrow.Author.Needs.{needs}
 use Rattle.surface.proofs.is_short.Statement.{statement}
 use Rattle.surface.proofs.is_short.Tie as tie
@@ -30,7 +30,7 @@ shared-slice-read-result-3 c = search needs
 
 returns-2 : tie.Need-returns-2
 unfolding short
-returns-2 c = simp (getD-past (c .before .before .args .lent .now) (c .before .before .args .i) 0 (c .before .if1 .left))
+returns-2 c = simp (List·getD-eq-default (c .before .before .args .lent .now) 0 {n = c .before .before .args .i} (c .before .if1 .left))
 
 pub is-short-spec : {M : Type 1} → statement M
 is-short-spec =

@@ -1,0 +1,37 @@
+-- What is laid over a buffer's start: one more item goes behind the last, the length stays, and laying the same again changes nothing.
+use mathlib.Core.Path.{_≡_, refl, sym, ap, _∙_}
+use mathlib.Core.List.{List, [], _∷_, _++_, append-assoc, append-nil}
+use Prim.Native.Nat.{ℕ, suc, _+_, _<_, _≤_}
+use native.Mathlib.Omega.{arith}
+use lib.ListN.{length, getD, drop, set, length-append, length-drop}
+use lib.Seq.{drop-cons, set-at, drop-append-add, drop-drop}
+use Rattle.surface.specs.Buffers.{over}
+
+module _ {A : Type 0} where
+  pub over-none : (w : List A) → over [] w ≡ w
+  unfolding over
+  over-none w = refl
+
+  pub over-length : (a w : List A) → length a ≤ length w → length (over a w) ≡ length w
+  unfolding over
+  over-length a w l = length-append a (drop (length a) w) ∙ ap (λ (n : ℕ). length a + n) (length-drop (length a) w) ∙ (omega arith)
+
+  -- one more item; d is any default
+  pub over-snoc : (a w : List A) (v d : A) (n : ℕ) → n ≡ length a → n < length w → set (over a w) n v ≡ over (a ++ (v ∷ [])) w
+  unfolding over
+  over-snoc a w v d n e l =
+      let m : length (a ++ (v ∷ [])) ≡ length a + 1 = length-append a (v ∷ []) in
+      let z : suc n ≡ length (a ++ (v ∷ [])) = omega arith in
+      ap (λ (r : List A). set (a ++ r) n v) (ap (λ (k : ℕ). drop k w) (sym e) ∙ drop-cons w n d l)
+      ∙ set-at a (getD w n d) (drop (suc n) w) v n (sym e)
+      ∙ ap (λ (k : ℕ). a ++ (v ∷ drop k w)) z
+      ∙ sym (append-assoc a (v ∷ []) (drop (length (a ++ (v ∷ []))) w))
+
+  pub over-twice : (a b w : List A) → over (a ++ b) (over a w) ≡ over (a ++ b) w
+  unfolding over
+  over-twice a b w =
+      let m : length (a ++ b) ≡ length a + length b = length-append a b in
+      rw (m, drop-append-add a (drop (length a) w) (length b), drop-drop (length b) (length a) w)
+
+  pub over-self : (a w : List A) → over a (over a w) ≡ over a w
+  over-self a w = rw append-nil at (over-twice a [] w)
