@@ -5,3 +5,4 @@ pub mod Passes
 pub mod Words
 pub mod Over
 pub mod Refusing
+pub mod Thens

@@ -3,7 +3,7 @@ ghost use mathlib.Core.Path.{_≡_};
 ghost use Prim.Native.Nat.{_/_};
 ghost use lib.Dec.{leb, ltb};
 ghost use lib.IntN.{natAbs};
-ghost use Rattle.terms.specs.Answers.{numberOf, placeOf};
+ghost use Rattle.terms.specs.Answers.{numberOf, placeOf, refusing};
 ghost use Rattle.terms.specs.Counts.{threes};
 
 // A surface's counts. Each point has three words and each triangle three corners.
@@ -156,6 +156,30 @@ impl Answer {
             Answer::Barred(_) => 13,
             Answer::Heavy(_) => 14,
             Answer::LeftOver(_) => 15,
+        }
+    }
+
+    // Whether it is a refusal, which leaves all buffers as they were and has zero in every count.
+    pub fn refuses(self) -> bool
+        ensures { λ r. ⌜ r ≡ refusing self ⌝ }
+    {
+        match self {
+            Answer::Done => false,
+            Answer::Words => true,
+            Answer::Corners => true,
+            Answer::Buffer(_) => true,
+            Answer::Unnamed(_) => true,
+            Answer::Twice(_) => true,
+            Answer::Repeated(_) => true,
+            Answer::NotFinite(_) => true,
+            Answer::TooFar(_) => true,
+            Answer::States(_) => true,
+            Answer::Line(_) => true,
+            Answer::Misdeclared(_) => false,
+            Answer::Uncovered(_) => false,
+            Answer::Barred(_) => false,
+            Answer::Heavy(_) => false,
+            Answer::LeftOver(_) => false,
         }
     }
 

@@ -1,0 +1,16 @@
+-- The laws of covers, each file for one idea.
+pub mod Order
+pub mod Sooner
+pub mod Best
+pub mod Parts
+pub mod Steps
+pub mod Least
+pub mod Minimum
+pub mod Chords
+pub mod Pairs
+pub mod Counted
+pub mod Wound
+pub mod Listed
+pub mod Sets
+pub mod Walks
+pub mod Thirds

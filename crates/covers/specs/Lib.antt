@@ -1,0 +1,5 @@
+pub mod Weights
+pub mod Covers
+pub mod Sets
+pub mod Least
+pub mod Reading

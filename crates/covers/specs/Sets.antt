@@ -1,0 +1,23 @@
+-- Triangles of a patch set: "in any order, each begun at any corner, but not turned round".
+use mathlib.Core.Path.{_≡_}
+use mathlib.Core.Logic.{_⊎_}
+use mathlib.Core.List.{List, [], _∷_, _++_}
+use Prim.Native.Nat.{ℕ}
+use Rattle.covers.specs.Covers.{Cover, Triangle, Covers, triangles}
+
+-- begun at the next corner
+abbrev pub turned : Triangle → Triangle
+turned t = record { first = t .second; second = t .third; third = t .first }
+
+-- the same triangle, begun at any corner
+abbrev pub Alike : Triangle → Triangle → Type 0
+Alike s t = (s ≡ t) ⊎ ((s ≡ turned t) ⊎ (s ≡ turned (turned t)))
+
+-- the set s lists the triangles ts in any order, each begun at any corner
+abbrev pub Lists : List Triangle → List Triangle → Type 0
+Lists s [] = s ≡ []
+Lists s (t ∷ ts) = (a b : List Triangle) × (u : Triangle) × (s ≡ a ++ (u ∷ b)) × Alike u t × Lists (a ++ b) ts
+
+-- the set s is the cover c of i..k
+abbrev pub IsCover : List Triangle → ℕ → ℕ → Cover → Type 0
+IsCover s i k c = Covers i k c × Lists s (triangles i k c)

@@ -1,0 +1,1 @@
+// Covers of a loop, over any weight. It has no code of its own.

@@ -1,0 +1,93 @@
+-- What is laid into a buffer behind what stands at its start stands there too: the buffer is then written as far as both reach, and the rest stays.
+use mathlib.Core.Path.{_≡_, refl, sym, ap, _∙_}
+use mathlib.Core.List.{List, [], _∷_, _++_, append-assoc, append-nil, map-append}
+use Prim.Native.Nat.{ℕ, suc, _+_, _-_, _<_, _≤_}
+use native.Mathlib.Nat.{add-zero}
+use native.Mathlib.Numerals.{add-one}
+use native.Mathlib.Omega.{arith}
+use lib.ListN.{length, getD, take, drop, set, length-append, length-take, length-drop, length-map, take-append-drop, drop-of-length-le}
+use lib.Seq.{take-suc, drop-cons, length-take-le, set-at, drop-append-le, drop-append-add, drop-drop, take-append-seam}
+use Rattle.surface.specs.Edges.{startOf}
+use Rattle.loops.specs.Loops.{ring}
+use Rattle.finder.specs.Listing.{over}
+use Rattle.finder.specs.Walking.{laid, part}
+
+-- ---- over the start
+
+pub over-none : (w : List ℕ) → over [] w ≡ w
+unfolding over
+over-none w = refl
+
+-- one more item
+pub over-snoc : (a w : List ℕ) (v n : ℕ) → n ≡ length a → n < length w → set (over a w) n v ≡ over (a ++ (v ∷ [])) w
+unfolding over
+over-snoc a w v n e l =
+    let m : length (a ++ (v ∷ [])) ≡ length a + 1 = length-append a (v ∷ []) in
+    let z : suc n ≡ length (a ++ (v ∷ [])) = omega arith in
+    ap (λ (r : List ℕ). set (a ++ r) n v) (ap (λ (k : ℕ). drop k w) (sym e) ∙ drop-cons w n 0 l)
+    ∙ set-at a (getD w n 0) (drop (suc n) w) v n (sym e)
+    ∙ ap (λ (k : ℕ). a ++ (v ∷ drop k w)) z
+    ∙ sym (append-assoc a (v ∷ []) (drop (length (a ++ (v ∷ []))) w))
+
+-- more items
+pub laid-over : (a b w : List ℕ) (n : ℕ) → n ≡ length a → laid n b (over a w) ≡ over (a ++ b) w
+unfolding over laid
+laid-over a b w n e =
+    let m : length (a ++ b) ≡ length a + length b = length-append a b in
+    rw (e, take-append-seam a (drop (length a) w), drop-append-add a (drop (length a) w) (length b), drop-drop (length b) (length a) w, m, append-assoc)
+
+-- once more the same, and then some
+pub over-twice : (a b w : List ℕ) → over (a ++ b) (over a w) ≡ over (a ++ b) w
+unfolding over
+over-twice a b w =
+    let m : length (a ++ b) ≡ length a + length b = length-append a b in
+    rw (m, drop-append-add a (drop (length a) w) (length b), drop-drop (length b) (length a) w)
+
+pub over-self : (a w : List ℕ) → over a (over a w) ≡ over a w
+over-self a w = rw append-nil at (over-twice a [] w)
+
+-- ---- laid one by one
+
+module _ (at : ℕ) (w : List ℕ) where
+  pub laid-none : laid at [] w ≡ w
+  unfolding laid
+  laid-none = rw add-zero (take-append-drop at w)
+
+  pub laid-more : (new : List ℕ) (a o : ℕ) → o ≡ at + length new → o < length w → set (laid at new w) o a ≡ laid at (new ++ (a ∷ [])) w
+  unfolding laid
+  laid-more new a o e l =
+      let n : length (take at w ++ new) ≡ o = length-append (take at w) new ∙ ap (λ (k : ℕ). k + length new) (length-take-le at w (omega arith)) ∙ sym e in
+      let m : length (new ++ (a ∷ [])) ≡ length new + 1 = length-append new (a ∷ []) in
+      let z : suc o ≡ at + length (new ++ (a ∷ [])) = omega arith in
+      ap (λ (r : List ℕ). set r o a) (sym (append-assoc (take at w) new (drop (at + length new) w)) ∙ ap (λ (k : ℕ). (take at w ++ new) ++ drop k w) (sym e) ∙ ap (λ (r : List ℕ). (take at w ++ new) ++ r) (drop-cons w o 0 l))
+      ∙ set-at (take at w ++ new) (getD w o 0) (drop (suc o) w) a o n
+      ∙ ap (λ (k : ℕ). (take at w ++ new) ++ (a ∷ drop k w)) z
+      ∙ append-assoc (take at w) new (a ∷ drop (at + length (new ++ (a ∷ []))) w)
+      ∙ ap (λ (r : List ℕ). take at w ++ r) (sym (append-assoc new (a ∷ []) (drop (at + length (new ++ (a ∷ []))) w)))
+
+pub part-length : (path : List ℕ) (j end : ℕ) → end ≤ length path → length (part path j end) ≡ end - j
+part-length path j end l = length-drop j (take end path) ∙ ap (λ (z : ℕ). z - j) (length-take-le end path l)
+
+-- the starts of the path's edges from j up to i stand in the rings
+unfoldable pub Wrote : List ℕ → List ℕ → ℕ → ℕ → List ℕ → ℕ → List ℕ → Type 0
+Wrote corners path j from rings i rings′ = rings′ ≡ laid from (ring corners (part path j i)) rings
+
+module _ (corners path : List ℕ) (j from : ℕ) (rings : List ℕ) where
+  pub wrote-none : Wrote corners path j from rings j rings
+  unfolding Wrote
+  wrote-none = rw (drop-of-length-le (take j path) {i = j} (rw length-take (omega arith))) (sym (laid-none from rings))
+
+  more-starts : (i : ℕ) → j ≤ i → i < length path → ring corners (part path j (i + 1)) ≡ ring corners (part path j i) ++ (startOf corners (getD path i 0) ∷ [])
+  more-starts i l m = rw (add-one, take-suc path i 0, drop-append-le j (take i path) (getD path i 0 ∷ []) (rw (length-take-le i path (omega arith)) l), map-append)
+
+  pub wrote-more : (i o : ℕ) (rings′ : List ℕ) → Wrote corners path j from rings i rings′ → j ≤ i → i < length path → o ≡ from + (i - j) → o < length rings → Wrote corners path j from rings (i + 1) (set rings′ o (startOf corners (getD path i 0)))
+  unfolding Wrote
+  wrote-more i o rings′ h l m e n =
+      let k : length (ring corners (part path j i)) ≡ i - j = length-map (part path j i) (startOf corners) ∙ part-length path j i (omega arith) in
+      ap (λ (r : List ℕ). set r o (startOf corners (getD path i 0))) h
+      ∙ laid-more from rings (ring corners (part path j i)) (startOf corners (getD path i 0)) o (omega arith) n
+      ∙ ap (λ (r : List ℕ). laid from r rings) (sym (more-starts i l m))
+
+  pub wrote-end : (i end : ℕ) (rings′ : List ℕ) → Wrote corners path j from rings i rings′ → i ≡ end → rings′ ≡ laid from (ring corners (part path j end)) rings
+  unfolding Wrote
+  wrote-end i end rings′ h e = h ∙ ap (λ (z : ℕ). laid from (ring corners (part path j z)) rings) e

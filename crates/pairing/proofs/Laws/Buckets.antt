@@ -1,0 +1,63 @@
+-- A half-edge between u and v, either way, is in the bucket of u and v, since that takes the two alike.
+use mathlib.Core.Path.{_≡_, sym, ap, ap₂, _∙_}
+use mathlib.Core.Bool.{true, false}
+use mathlib.Core.List.{List}
+use Prim.Native.Nat.{ℕ, _+_, _-_, _*_, _/_, _%_, _<_, _≤_}
+use native.Mathlib.Nat.{mul-comm, mul-le-mul}
+use native.Mathlib.Omega.{arith}
+use borrow.Author.Tests.{eqb-true, eq-eqb, ne-eqb}
+use Rattle.surface.specs.Edges.{runs}
+use Rattle.surface.proofs.Laws.Smallest.{true-not-false}
+use Rattle.surface.proofs.Laws.Edges.{Runs, runs-says}
+use Rattle.pairing.specs.Chains.{buckets, spread, bucketOf, home, inBucket, top}
+use Rattle.pairing.proofs.Laws.Cases.{not-so}
+use Rattle.pairing.proofs.Laws.Tops.{top-says, top-never}
+
+pub bucket-small : (u v : ℕ) → bucketOf u v < buckets
+unfolding bucketOf
+bucket-small u v = omega arith
+
+pub bucket-turned : (u v : ℕ) → bucketOf u v ≡ bucketOf v u
+unfolding bucketOf
+bucket-turned u v = ap (λ (z : ℕ). z / 8 % buckets) (mul-comm (u + spread) (v + spread))
+
+-- 16-bit numbers are small enough for the product
+pub product-fits : (u v w : ℕ) → u < w → v < w → (u + spread) * (v + spread) ≤ (w + spread) * (w + spread)
+product-fits u v w l m = mul-le-mul (omega arith) (omega arith)
+
+pub home-bucket : (corners : List ℕ) (b k : ℕ) → inBucket corners b k ≡ true → home corners k ≡ b
+unfolding inBucket
+home-bucket corners b k e = eqb-true _ _ e
+
+pub bucket-home : (corners : List ℕ) (b k : ℕ) → home corners k ≡ b → inBucket corners b k ≡ true
+unfolding inBucket
+bucket-home corners b k e = eq-eqb _ _ e
+
+pub bucket-other : (corners : List ℕ) (b k : ℕ) → (home corners k ≡ b → ⊥) → inBucket corners b k ≡ false
+unfolding inBucket
+bucket-other corners b k e = ne-eqb _ _ e
+
+pub runs-home : (corners : List ℕ) (u v k : ℕ) → Runs corners u v k → home corners k ≡ bucketOf u v
+unfolding home
+runs-home corners u v k r = ap₂ bucketOf (r .starts) (r .ends)
+
+-- k joins u and v neither way
+abbrev pub Apart : List ℕ → ℕ → ℕ → ℕ → Type 0
+Apart corners u v k = (runs corners u v k ≡ false) × (runs corners v u k ≡ false)
+
+pub apart-from : (corners : List ℕ) (u v k : ℕ) → (Runs corners u v k → ⊥) → (Runs corners v u k → ⊥) → Apart corners u v k
+apart-from corners u v k a b = (not-so _ (λ e. a (runs-says corners u v k e)), not-so _ (λ e. b (runs-says corners v u k e)))
+
+-- what is in another bucket does not join u and v
+pub apart-outside : (corners : List ℕ) (u v k : ℕ) → inBucket corners (bucketOf u v) k ≡ false → Apart corners u v k
+apart-outside corners u v k e =
+    let away : home corners k ≡ bucketOf u v → ⊥ = λ q. true-not-false (sym (bucket-home corners (bucketOf u v) k q) ∙ e) in
+    apart-from corners u v k (λ r. away (runs-home corners u v k r)) (λ r. away (runs-home corners v u k r ∙ bucket-turned v u))
+
+module _ (corners : List ℕ) (b n last : ℕ) (e : last ≡ top (inBucket corners b) n) where
+  -- the head of a chain is in its bucket
+  pub head-home : 0 < last → home corners (last - 1) ≡ b
+  head-home l = home-bucket corners b (last - 1) (top-says (inBucket corners b) n (last - 1) (sym e ∙ omega arith))
+
+  pub head-rest : (u v : ℕ) → b ≡ bucketOf u v → (k : ℕ) → last ≤ k → k < n → Apart corners u v k
+  head-rest u v q k l m = apart-outside corners u v k (ap (λ (z : ℕ). inBucket corners z k) (sym q) ∙ top-never (inBucket corners b) n k (rw (← e) l) m)

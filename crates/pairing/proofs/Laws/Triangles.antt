@@ -1,0 +1,101 @@
+-- The three half-edges of a triangle are paired one after the other, and the first that stops the pairing is the first of all.
+use mathlib.Core.Path.{_≡_, refl, sym, ap, _∙_, subst}
+use mathlib.Core.Bool.{Bool, true, false, _&&_, _||_}
+use mathlib.Core.List.{List}
+use Prim.Native.Nat.{ℕ, _+_, _*_, _/_, _%_, _<_}
+use native.Mathlib.Omega.{arith}
+use lib.Dec.{eqb}
+use lib.ListN.{length, getD}
+use borrow.Author.Tests.{eq-eqb, not-false}
+use Rattle.surface.specs.declared.Found.the-variants.{At, Nothing}
+use Rattle.surface.specs.Edges.{following, startOf, twice, repeats}
+use Rattle.surface.proofs.Laws.Smallest.{At-not-Nothing, least-at}
+use Rattle.pairing.specs.Turns.{stops}
+use Rattle.pairing.specs.Chains.{Going, PairRoom, PairDone, TriangleRoom, TriangleDone}
+
+stop-repeats : (p q : Bool) → p ≡ true → (p || q) ≡ true
+stop-repeats true q e = refl
+stop-repeats false q e = absurd (let z : _≡_ {A = ℕ} 0 1 = cc in omega arith)
+
+stop-twice : (p q r : Bool) → q ≡ true → r ≡ true → (p || (q && r)) ≡ true
+stop-twice true q r a b = refl
+stop-twice false true r a b = b
+stop-twice false false r a b = a
+
+repeats-stops : (corners : List ℕ) (h : ℕ) → repeats corners h ≡ true → stops corners h ≡ true
+unfolding stops
+repeats-stops corners h e = stop-repeats (repeats corners h) (eqb (h % 3) 0 && twice corners (h / 3)) e
+
+twice-stops : (corners : List ℕ) (i : ℕ) → i % 3 ≡ 0 → twice corners (i / 3) ≡ true → stops corners i ≡ true
+unfolding stops
+twice-stops corners i f e = stop-twice (repeats corners i) (eqb (i % 3) 0) (twice corners (i / 3)) (eq-eqb (i % 3) 0 f) e
+
+-- the pairing stops at h
+pub stops-at : (corners : List ℕ) (i h : ℕ) (heads links ends table heads′ links′ ends′ table′ : List ℕ) → Going corners h heads links ends table → h < i + 3 → stops corners h ≡ true → TriangleDone corners i (At h) heads′ links′ ends′ table′
+stops-at corners i h heads links ends table heads′ links′ ends′ table′ g l s = record { answer = sym (least-at (stops corners) h (i + 3) (g .fresh) s l); going = λ e. absurd (At-not-Nothing e) }
+
+module _ (corners : List ℕ) (i : ℕ) (heads links ends table : List ℕ) (room : TriangleRoom corners i heads links ends table) where
+  pub triangle-inside : i + 2 < length corners
+  triangle-inside =
+      let a : i < length corners = room .edge in
+      let b : i % 3 ≡ 0 = room .first in
+      let c : length corners % 3 ≡ 0 = room .going .room .triples in
+      omega arith
+
+  pub triangle-whole : 3 * (i / 3) + 2 < length corners
+  triangle-whole = let a : i + 2 < length corners = triangle-inside in omega arith
+
+  pub triangle-twice : twice corners (i / 3) ≡ true → (heads′ links′ ends′ table′ : List ℕ) → TriangleDone corners i (At i) heads′ links′ ends′ table′
+  triangle-twice t heads′ links′ ends′ table′ = stops-at corners i i heads links ends table heads′ links′ ends′ table′ (room .going) (omega arith) (twice-stops corners i (room .first) t)
+
+  module _ (plain : twice corners (i / 3) ≡ false) where
+    pub first-room : PairRoom corners i (i + 1) (getD corners i 0) (getD corners (i + 1) 0) heads links ends table
+    unfolding following
+    first-room =
+        let z : i % 3 ≡ 0 = room .first in
+        let f : i + 1 ≡ following i = omega arith in
+        record { going = room .going; edge = room .edge; plain = plain; follows = f; start = refl; end = ap (startOf corners) f }
+
+    module _ (d1 : Bool) (heads1 links1 ends1 table1 : List ℕ) (p1 : PairDone corners i d1 heads1 links1 ends1 table1) where
+      pub first-stops : d1 ≡ false → (heads′ links′ ends′ table′ : List ℕ) → TriangleDone corners i (At i) heads′ links′ ends′ table′
+      first-stops q heads′ links′ ends′ table′ =
+          stops-at corners i i heads links ends table heads′ links′ ends′ table′ (room .going) (omega arith) (repeats-stops corners i (not-false _ (sym (p1 .answer) ∙ q)))
+
+      module _ (q1 : d1 ≡ true) where
+        pub second-room : PairRoom corners (i + 1) (i + 2) (getD corners (i + 1) 0) (getD corners (i + 2) 0) heads1 links1 ends1 table1
+        unfolding following
+        second-room =
+            let z : i % 3 ≡ 0 = room .first in
+            let l : i + 2 < length corners = triangle-inside in
+            let f : i + 2 ≡ following (i + 1) = omega arith in
+            let t : (i + 1) / 3 ≡ i / 3 = omega arith in
+            record { going = p1 .going q1; edge = omega arith; plain = ap (twice corners) t ∙ plain; follows = f; start = refl; end = ap (startOf corners) f }
+
+        module _ (d2 : Bool) (heads2 links2 ends2 table2 : List ℕ) (p2 : PairDone corners (i + 1) d2 heads2 links2 ends2 table2) where
+          pub second-stops : d2 ≡ false → (heads′ links′ ends′ table′ : List ℕ) → TriangleDone corners i (At (i + 1)) heads′ links′ ends′ table′
+          second-stops q heads′ links′ ends′ table′ =
+              stops-at corners i (i + 1) heads1 links1 ends1 table1 heads′ links′ ends′ table′ (p1 .going q1) (omega arith) (repeats-stops corners (i + 1) (not-false _ (sym (p2 .answer) ∙ q)))
+
+          module _ (q2 : d2 ≡ true) where
+            second-going : Going corners (i + 2) heads2 links2 ends2 table2
+            second-going = let e : i + 1 + 1 ≡ i + 2 = omega arith in subst (λ (z : ℕ). Going corners z heads2 links2 ends2 table2) e (p2 .going q2)
+
+            pub third-room : PairRoom corners (i + 2) i (getD corners (i + 2) 0) (getD corners i 0) heads2 links2 ends2 table2
+            unfolding following
+            third-room =
+                let z : i % 3 ≡ 0 = room .first in
+                let l : i + 2 < length corners = triangle-inside in
+                let f : i ≡ following (i + 2) = omega arith in
+                let t : (i + 2) / 3 ≡ i / 3 = omega arith in
+                record { going = second-going; edge = l; plain = ap (twice corners) t ∙ plain; follows = f; start = refl; end = ap (startOf corners) f }
+
+            module _ (d3 : Bool) (heads3 links3 ends3 table3 : List ℕ) (p3 : PairDone corners (i + 2) d3 heads3 links3 ends3 table3) where
+              pub third-stops : d3 ≡ false → (heads′ links′ ends′ table′ : List ℕ) → TriangleDone corners i (At (i + 2)) heads′ links′ ends′ table′
+              third-stops q heads′ links′ ends′ table′ =
+                  stops-at corners i (i + 2) heads2 links2 ends2 table2 heads′ links′ ends′ table′ second-going (omega arith) (repeats-stops corners (i + 2) (not-false _ (sym (p3 .answer) ∙ q)))
+
+              pub triangle-goes : d3 ≡ true → TriangleDone corners i Nothing heads3 links3 ends3 table3
+              triangle-goes q3 =
+                  let e : i + 2 + 1 ≡ i + 3 = omega arith in
+                  let g : Going corners (i + 3) heads3 links3 ends3 table3 = subst (λ (z : ℕ). Going corners z heads3 links3 ends3 table3) e (p3 .going q3) in
+                  record { answer = sym (g .fresh); going = λ q. g }

@@ -1,0 +1,140 @@
+-- Checks one after the other: a refusal decides, and where none is given the next check does. What is no refusal in the table is `Done`.
+use mathlib.Core.Path.{_≡_, refl, sym, ap, _∙_}
+use mathlib.Core.Bool.{Bool, true, false, not, cond, _&&_, true≢false}
+use mathlib.Core.List.{List}
+use Prim.Native.Nat.{ℕ, _+_, _/_, _%_, _≤_, _<_}
+use native.Mathlib.Omega.{arith}
+use lib.ListN.{length, getD}
+use borrow.Author.Tests.{eqb-true, leb-true, ltb-false}
+use Rattle.limits.specs.Limits as limits
+use Rattle.terms.specs.Answers.{refusing}
+use Rattle.terms.specs.Counts.{threes}
+use Rattle.terms.specs.declared.Answer.{Answer}
+use Rattle.terms.specs.declared.Answer.the-variants.{Done, Words, Corners, Buffer, Unnamed, Twice, Repeated, NotFinite, TooFar}
+use Rattle.surface.specs.declared.Found.{Found}
+use Rattle.surface.specs.declared.Found.the-variants.{At, Nothing}
+use Rattle.surface.specs.Smallest.{least}
+use Rattle.surface.specs.Edges.{twice, repeats}
+use Rattle.surface.specs.Refusals.{short, unnamed, notFinite, tooFar, thenCheck, refuseAt, refuseIf, countRefusal, bufferRefusal, cornerRefusal, wordRefusal, contentRefusal}
+use Rattle.surface.proofs.Laws.Smallest.{least-never}
+
+-- ---- one after the other
+
+pub then-refused : (a b : Answer) → refusing a ≡ true → thenCheck a b ≡ a
+then-refused a b e = rw e
+
+pub then-next : (a b : Answer) → refusing a ≡ false → thenCheck a b ≡ b
+then-next a b e = rw e
+
+-- an answer that is `Done` or a refusal
+unfoldable pub Plain : Answer → Type 0
+Plain a = refusing a ≡ false → a ≡ Done
+
+plain-done : Plain Done
+unfolding Plain
+plain-done e = refl
+
+refusal-plain : (a : Answer) → refusing a ≡ true → Plain a
+unfolding Plain
+refusal-plain a r e = absurd (true≢false (sym r ∙ e))
+
+plain-at : (f : ℕ → Answer) (found : Found) → ((i : ℕ) → refusing (f i) ≡ true) → Plain (refuseAt f found)
+plain-at f (At i) r = refusal-plain (f i) (r i)
+plain-at f Nothing r = plain-done
+
+plain-if : (t : Bool) (a : Answer) → refusing a ≡ true → Plain (refuseIf t a)
+plain-if true a r = refusal-plain a r
+plain-if false a r = plain-done
+
+plain-then : (a b : Answer) → Plain a → Plain b → Plain (thenCheck a b)
+plain-then a b p q = go (refusing a) refl
+  where
+    go : (t : Bool) → refusing a ≡ t → Plain (thenCheck a b)
+    go true e = rw e (refusal-plain a e)
+    go false e = rw e q
+
+-- ---- so of each part of the table
+
+pub count-plain : (words corners : ℕ) → Plain (countRefusal words corners)
+unfolding countRefusal
+count-plain words corners =
+    plain-then (refuseIf (not (threes limits.words words)) Words) (refuseIf (not (threes limits.corners corners)) Corners)
+    (plain-if (not (threes limits.words words)) Words refl) (plain-if (not (threes limits.corners corners)) Corners refl)
+
+pub buffer-plain : (lent needs : List ℕ) → Plain (bufferRefusal lent needs)
+unfolding bufferRefusal
+buffer-plain lent needs = plain-at (λ i. Buffer (i + 1)) (least (short lent needs) (length needs)) (λ i. refl)
+
+-- two and three searches after each other
+plain-two : (f g : ℕ → Answer) (a b : Found) → ((i : ℕ) → refusing (f i) ≡ true) → ((i : ℕ) → refusing (g i) ≡ true) → Plain (thenCheck (refuseAt f a) (refuseAt g b))
+plain-two f g a b p q = plain-then (refuseAt f a) (refuseAt g b) (plain-at f a p) (plain-at g b q)
+
+pub corner-plain : (corners : List ℕ) (points : ℕ) → Plain (cornerRefusal corners points)
+unfolding cornerRefusal
+corner-plain corners points =
+    let n = least (unnamed corners points) (length corners) in
+    let t = least (twice corners) (length corners / 3) in
+    let r = least (repeats corners) (length corners) in
+    plain-then (refuseAt Unnamed n) (thenCheck (refuseAt Twice t) (refuseAt Repeated r)) (plain-at Unnamed n (λ i. refl)) (plain-two Twice Repeated t r (λ i. refl) (λ i. refl))
+
+pub word-plain : (words : List ℕ) → Plain (wordRefusal words)
+unfolding wordRefusal
+word-plain words = plain-two NotFinite TooFar (least (notFinite words) (length words)) (least (tooFar words) (length words)) (λ i. refl) (λ i. refl)
+
+pub content-plain : (words corners lent needs : List ℕ) → Plain (contentRefusal words corners lent needs)
+unfolding contentRefusal
+content-plain words corners lent needs =
+    plain-then (bufferRefusal lent needs) (thenCheck (cornerRefusal corners (length words / 3)) (wordRefusal words)) (buffer-plain lent needs)
+    (plain-then (cornerRefusal corners (length words / 3)) (wordRefusal words) (corner-plain corners (length words / 3)) (word-plain words))
+
+pub done-of : (a : Answer) → Plain a → refusing a ≡ false → a ≡ Done
+unfolding Plain
+done-of a p e = p e
+
+-- ---- what is known where a part of the table refuses nothing
+
+and-true : (a b : Bool) → (a && b) ≡ true → (a ≡ true) × (b ≡ true)
+and-true true b e = (refl, e)
+and-true false b e = absurd (true≢false (sym e))
+
+pub threes-say : (most n : ℕ) → threes most n ≡ true → (n % 3 ≡ 0) × (n ≤ most)
+threes-say most n e = let b = and-true _ _ e in (eqb-true (n % 3) 0 (b .0), leb-true n most (b .1))
+
+-- counts that pass are multiples of three, and not too many
+pub record Fitting (words corners : ℕ) : Type 0 where
+  pub word-threes : words % 3 ≡ 0
+  pub few-words : words ≤ limits.words
+  pub corner-threes : corners % 3 ≡ 0
+  pub few-corners : corners ≤ limits.corners
+
+pub counts-fit : (words corners : ℕ) → countRefusal words corners ≡ Done → Fitting words corners
+unfolding countRefusal
+counts-fit words corners = go (threes limits.words words) refl (threes limits.corners corners) refl
+  where
+    go : (t : Bool) → threes limits.words words ≡ t → (u : Bool) → threes limits.corners corners ≡ u
+        → thenCheck (refuseIf (not t) Words) (refuseIf (not u) Corners) ≡ Done → Fitting words corners
+    go true e true f d =
+        let a = threes-say limits.words words e in
+        let b = threes-say limits.corners corners f in
+        record { word-threes = a .0; few-words = a .1; corner-threes = b .0; few-corners = b .1 }
+    go true e false f d = let z : _≡_ {A = ℕ} 0 1 = cc in absurd (omega arith)
+    go false e u f d = let z : _≡_ {A = ℕ} 0 1 = cc in absurd (omega arith)
+
+pub buffers-long : (lent needs : List ℕ) → bufferRefusal lent needs ≡ Done → (i : ℕ) → i < length needs → getD needs i 0 ≤ getD lent i 0
+unfolding bufferRefusal short
+buffers-long lent needs d i l = go (least (short lent needs) (length needs)) refl d
+  where
+    go : (f : Found) → least (short lent needs) (length needs) ≡ f → refuseAt (λ i. Buffer (i + 1)) f ≡ Done → getD needs i 0 ≤ getD lent i 0
+    go (At j) e d = let z : _≡_ {A = ℕ} 0 1 = cc in absurd (omega arith)
+    go Nothing e d = ltb-false (getD lent i 0) (getD needs i 0) (least-never (short lent needs) (length needs) e i l)
+
+-- words that pass are finite and near
+pub words-pass : (words : List ℕ) → wordRefusal words ≡ Done → (least (notFinite words) (length words) ≡ Nothing) × (least (tooFar words) (length words) ≡ Nothing)
+unfolding wordRefusal
+words-pass words = go (least (notFinite words) (length words)) refl (least (tooFar words) (length words)) refl
+  where
+    go : (f : Found) → least (notFinite words) (length words) ≡ f → (g : Found) → least (tooFar words) (length words) ≡ g
+        → thenCheck (refuseAt NotFinite f) (refuseAt TooFar g) ≡ Done → (least (notFinite words) (length words) ≡ Nothing) × (least (tooFar words) (length words) ≡ Nothing)
+    go Nothing e Nothing h d = (e, h)
+    go Nothing e (At j) h d = let z : _≡_ {A = ℕ} 0 1 = cc in absurd (omega arith)
+    go (At i) e g h d = let z : _≡_ {A = ℕ} 0 1 = cc in absurd (omega arith)

@@ -1,0 +1,6 @@
+-- The laws of surveying, each file for one idea.
+pub mod Laying
+pub mod Stops
+pub mod Weaving
+pub mod Checking
+pub mod Surveying
