@@ -3,6 +3,7 @@
 #ifndef WAZELPUNT_H
 #define WAZELPUNT_H
 
+#include <stddef.h>
 #include <stdint.h>
 
 #ifdef __cplusplus
@@ -13,6 +14,14 @@ extern "C" {
    *whole becomes the whole number, or 0; *rest becomes the bits of what is left of the value, or those of the value itself
    where it is too far, or 0 where there is none. */
 uint32_t wazelpunt_coordinate(uint32_t word, int32_t *whole, uint32_t *rest);
+
+/* Finds the loops of a surface: three words a point, three corners a triangle. Returns 0 or a refusal 1 to 8, with its place.
+   Lent are grid (1: at least words_count numbers), rings (2: corners_count) and lengths (3: corners_count / 3). On 0 they hold
+   the grid, the ring vertices of all loops in listed order and the rings' lengths, each from its start, and what lies behind is
+   as it was; on a refusal all is as it was and both counts are 0. */
+uint32_t wazelpunt_survey(const uint32_t *words, size_t words_count, const uint16_t *corners, size_t corners_count,
+                          int32_t *grid, size_t grid_length, uint16_t *rings, size_t rings_length, uint16_t *lengths,
+                          size_t lengths_length, size_t *place, size_t *loops, size_t *vertices);
 
 #ifdef __cplusplus
 }

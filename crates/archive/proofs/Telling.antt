@@ -12,13 +12,15 @@ use mir.Syntax.{w32}
 use mir.Val.{SFits, toZ, ofZ}
 use mir.ValLaws.{toZ-ofZ}
 use Rattle.limits.specs.Limits.{greatest}
-use Rattle.terms.specs.Answers.{numberOf}
+use Rattle.terms.specs.Answers.{numberOf, placeOf}
 use Rattle.terms.specs.declared.Answer.{Answer}
 use Rattle.grid.specs.Places.{Places, Lands, answerOf}
 use Rattle.grid.specs.declared.Coordinate.{Coordinate}
 use Rattle.grid.specs.declared.Coordinate.the-variants.{Shifted, TooFar}
 use Rattle.grid.proofs.Laws.Only.{only}
-use Rattle.archive.specs.Plain.{Tells, wholeOf, floatOf}
+use Rattle.survey.specs.Outcome.{Buffers, Outcome, outcome}
+use Rattle.survey.specs.declared.Surveyed.{Surveyed}
+use Rattle.archive.specs.Plain.{Tells, wholeOf, floatOf, told, surveyed}
 
 number-no-nan : (x : Float) → T (finite x) → T (not (isNan x))
 unfolding isNan
@@ -53,3 +55,7 @@ told-once x n m k l b c p q =
       p .its-whole ∙ ap wholeOf e ∙ sym (q .its-whole),
       p .its-float ∙ ap floatOf e ∙ sym (q .its-float),
     )
+
+-- a survey's answer, field by field
+pub told-survey : (r : Surveyed) (b : Buffers) (o : Outcome) (n p : ℕ) → n ≡ numberOf (r .answer) → p ≡ placeOf (r .answer) → outcome r b ≡ o → told n p (r .loops) (r .vertices) b ≡ surveyed o
+told-survey r b o n p en ep e = (λ t. told (en t) (ep t) (r .loops) (r .vertices) b) ∙ ap surveyed e

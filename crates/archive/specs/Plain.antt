@@ -3,8 +3,9 @@ use Prim.Native.Nat.{ℕ}
 use mathlib.Core.Path.{_≡_}
 use lib.IntN.{ℤ, pos}
 use lib.Ieee.{Float, binary32, toBits}
-use Rattle.terms.specs.Answers.{numberOf}
+use Rattle.terms.specs.Answers.{numberOf, placeOf}
 use Rattle.grid.specs.Places.{Places, answerOf}
+use Rattle.survey.specs.Outcome.{Buffers, Outcome}
 use Rattle.grid.specs.declared.Coordinate.{Coordinate}
 use Rattle.grid.specs.declared.Coordinate.the-variants.{Exact, Shifted, NotFinite, TooFar}
 
@@ -29,3 +30,17 @@ pub record Tells (x : Float) (number : ℕ) (whole : ℤ) (float : ℕ) : Type 0
   pub its-number : number ≡ numberOf (answerOf 0 coordinate)
   pub its-whole : whole ≡ wholeOf coordinate
   pub its-float : float ≡ floatOf coordinate
+
+-- a survey's answer in numbers, with what it leaves
+pub record Told : Type 0 where
+  pub number : ℕ
+  pub place : ℕ
+  pub loops : ℕ
+  pub vertices : ℕ
+  pub left : Buffers
+
+abbrev pub told : ℕ → ℕ → ℕ → ℕ → Buffers → Told
+told number place loops vertices b = record { number = number; place = place; loops = loops; vertices = vertices; left = b }
+
+abbrev pub surveyed : Outcome → Told
+surveyed o = told (numberOf (o .answer)) (placeOf (o .answer)) (o .loops) (o .vertices) (o .left)

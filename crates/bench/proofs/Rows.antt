@@ -29,5 +29,5 @@ table = record {
   repeated = refl;
   bow-tie = refl;
   strip-cycle = refl;
-  strip-rings = refl
+  strip-rings = refl;
 }

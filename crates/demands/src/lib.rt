@@ -1,0 +1,1 @@
+// What the workshop demands, stated and proved. It has no code of its own.

@@ -1,0 +1,1036 @@
+/* A seeded maker of surfaces, patch sets and texts: shapes, coordinates, damage and buffer lengths. */
+
+#include "generate.h"
+#include "reference.h"
+
+/* ---- Chance ---- */
+
+void generate_start(struct generator *generator, uint64_t seed)
+{
+    generator->state = seed * 0x9e3779b97f4a7c15u + 0x632be59bd9b4e019u;
+    if (generator->state == 0) {
+        generator->state = 1;
+    }
+}
+
+/* xorshift64*. */
+uint64_t generate_bits(struct generator *generator)
+{
+    uint64_t x = generator->state;
+    x ^= x >> 12;
+    x ^= x << 25;
+    x ^= x >> 27;
+    generator->state = x;
+    return x * 0x2545f4914f6cdd1du;
+}
+
+size_t generate_below(struct generator *generator, size_t below)
+{
+    return (size_t)((generate_bits(generator) >> 16) % below);
+}
+
+/* Once in `times`. */
+static int chance(struct generator *generator, size_t times)
+{
+    return generate_below(generator, times) == 0;
+}
+
+static size_t between(struct generator *generator, size_t low, size_t high)
+{
+    return low + generate_below(generator, high - low + 1);
+}
+
+/* ---- Building a surface ---- */
+
+/* A surface as it grows: triangles over points numbered from 0. */
+struct build {
+    uint16_t corners[REFERENCE_MOST_CORNERS];
+    size_t count;
+    size_t points;
+};
+
+/* A fresh point, or an old one where there are no more. */
+static uint16_t new_point(struct build *build)
+{
+    if (build->points < REFERENCE_MOST_POINTS) {
+        build->points += 1;
+    }
+    return (uint16_t)(build->points - 1);
+}
+
+/* A run of fresh points. */
+static void new_points(struct build *build, uint16_t *points, size_t count)
+{
+    for (size_t p = 0; p < count; p++) {
+        points[p] = new_point(build);
+    }
+}
+
+static void add_any_triangle(struct build *build, uint16_t a, uint16_t b, uint16_t c)
+{
+    if (build->count + 3 <= REFERENCE_MOST_CORNERS) {
+        build->corners[build->count] = a;
+        build->corners[build->count + 1] = b;
+        build->corners[build->count + 2] = c;
+        build->count += 3;
+    }
+}
+
+/* Adds a triangle unless it repeats a point or a half-edge. */
+static void add_triangle(struct build *build, uint16_t a, uint16_t b, uint16_t c)
+{
+    if (a == b || b == c || c == a
+        || reference_find_edge(build->corners, build->count, a, b) != REFERENCE_NO_EDGE
+        || reference_find_edge(build->corners, build->count, b, c) != REFERENCE_NO_EDGE
+        || reference_find_edge(build->corners, build->count, c, a) != REFERENCE_NO_EDGE) {
+        return;
+    }
+    add_any_triangle(build, a, b, c);
+}
+
+/* ---- Shapes ---- */
+
+/* Triangles at random over few points; loose ones may repeat half-edges. */
+static void build_random(struct generator *generator, struct build *build, size_t most, int loose)
+{
+    uint16_t points[REFERENCE_MOST_POINTS];
+    size_t count = between(generator, 3, 4 + most / 3);
+    size_t triangles = between(generator, 1, most);
+    new_points(build, points, count);
+    for (size_t t = 0; t < triangles; t++) {
+        uint16_t a = points[generate_below(generator, count)];
+        uint16_t b = points[generate_below(generator, count)];
+        uint16_t c = points[generate_below(generator, count)];
+        if (loose && a != b && b != c && c != a) {
+            add_any_triangle(build, a, b, c);
+        } else {
+            add_triangle(build, a, b, c);
+        }
+    }
+}
+
+/* A strip of triangles over a run of points. */
+static void build_strip_over(struct build *build, const uint16_t *points, size_t count)
+{
+    for (size_t p = 0; p + 2 < count; p++) {
+        if (p % 2 == 0) {
+            add_triangle(build, points[p], points[p + 1], points[p + 2]);
+        } else {
+            add_triangle(build, points[p + 1], points[p], points[p + 2]);
+        }
+    }
+}
+
+/* A strip; the pinched one ends at the point it began with. */
+static void build_strip(struct generator *generator, struct build *build, size_t most, int pinched)
+{
+    uint16_t points[REFERENCE_MOST_POINTS];
+    size_t count = between(generator, 3, most < 1000 ? most + 2 : 1000);
+    new_points(build, points, count);
+    if (pinched) {
+        points[count - 1] = points[0];
+        if (count > 6 && chance(generator, 2)) {
+            points[count / 2] = points[0];
+        }
+    }
+    build_strip_over(build, points, count);
+}
+
+/* A fan of triangles about a hub; the closed one is a cone with a rim of `count` edges. */
+static void build_fan_over(struct build *build, uint16_t hub, const uint16_t *rim, size_t count, int closed)
+{
+    for (size_t r = 0; r + 1 < count; r++) {
+        add_triangle(build, hub, rim[r], rim[r + 1]);
+    }
+    if (closed) {
+        add_triangle(build, hub, rim[count - 1], rim[0]);
+    }
+}
+
+static void build_fan(struct generator *generator, struct build *build, size_t count, int closed)
+{
+    uint16_t rim[REFERENCE_MOST_POINTS];
+    if (count > REFERENCE_MOST_POINTS - 2) {
+        count = REFERENCE_MOST_POINTS - 2;
+    }
+    if (chance(generator, 2)) {
+        uint16_t hub = new_point(build);
+        new_points(build, rim, count);
+        build_fan_over(build, hub, rim, count, closed);
+    } else {
+        new_points(build, rim, count);
+        build_fan_over(build, new_point(build), rim, count, closed);
+    }
+}
+
+/* Several fans, open or closed, at one hub. */
+static void build_fans_at_one_vertex(struct generator *generator, struct build *build, size_t most)
+{
+    uint16_t rim[16];
+    uint16_t hub = new_point(build);
+    size_t fans = between(generator, 2, 2 + most / 20);
+    for (size_t f = 0; f < fans; f++) {
+        size_t count = between(generator, 2, 8);
+        new_points(build, rim, count);
+        build_fan_over(build, hub, rim, count, count > 2 && chance(generator, 4));
+    }
+}
+
+/* A disc of rows by columns of split squares, some triangles left out as holes. */
+static void build_disc(struct generator *generator, struct build *build, size_t most)
+{
+    size_t side = 1;
+    while (2 * side * side < most && side < 22) {
+        side += 1;
+    }
+    size_t rows = between(generator, 1, side);
+    size_t columns = between(generator, 1, side);
+    size_t first = build->points;
+    size_t holes = between(generator, 3, 12);
+    for (size_t p = 0; p < (rows + 1) * (columns + 1); p++) {
+        new_point(build);
+    }
+    for (size_t row = 0; row < rows; row++) {
+        for (size_t column = 0; column < columns; column++) {
+            uint16_t a = (uint16_t)(first + row * (columns + 1) + column);
+            uint16_t b = (uint16_t)(a + 1);
+            uint16_t c = (uint16_t)(b + columns + 1);
+            uint16_t d = (uint16_t)(a + columns + 1);
+            if (first + (rows + 1) * (columns + 1) > REFERENCE_MOST_POINTS) {
+                return;
+            }
+            if (!chance(generator, holes)) {
+                add_triangle(build, a, b, c);
+            }
+            if (!chance(generator, holes)) {
+                add_triangle(build, a, c, d);
+            }
+        }
+    }
+}
+
+/* A band between two rims of `count` edges each. */
+static void build_band(struct build *build, size_t count)
+{
+    uint16_t inner[REFERENCE_MOST_POINTS];
+    uint16_t outer[REFERENCE_MOST_POINTS];
+    if (2 * count > REFERENCE_MOST_POINTS) {
+        count = REFERENCE_MOST_POINTS / 2;
+    }
+    new_points(build, inner, count);
+    new_points(build, outer, count);
+    for (size_t r = 0; r < count; r++) {
+        size_t s = (r + 1) % count;
+        add_triangle(build, inner[r], inner[s], outer[s]);
+        add_triangle(build, inner[r], outer[s], outer[r]);
+    }
+}
+
+/* A closed surface: a tetrahedron, an octahedron, or the pillow (0,1,2),(0,2,1). */
+static void build_closed(struct generator *generator, struct build *build)
+{
+    static const uint16_t tetrahedron[12] = {0, 1, 2, 0, 2, 3, 0, 3, 1, 1, 3, 2};
+    static const uint16_t octahedron[24] = {0, 1, 2, 0, 2, 3, 0, 3, 4, 0, 4, 1,
+                                            5, 2, 1, 5, 3, 2, 5, 4, 3, 5, 1, 4};
+    static const uint16_t pillow[6] = {0, 1, 2, 0, 2, 1};
+    static const uint16_t *const shapes[3] = {tetrahedron, octahedron, pillow};
+    static const size_t corners[3] = {12, 24, 6};
+    static const size_t needs[3] = {4, 6, 3};
+    size_t shape = generate_below(generator, 3);
+    uint16_t points[6];
+    size_t left_out = chance(generator, 3) ? 3 * generate_below(generator, corners[shape] / 3)
+                                           : corners[shape];
+    new_points(build, points, needs[shape]);
+    for (size_t c = 0; c < corners[shape]; c += 3) {
+        const uint16_t *triangle = shapes[shape] + c;
+        if (c != left_out) {
+            add_triangle(build, points[triangle[0]], points[triangle[1]], points[triangle[2]]);
+        }
+    }
+}
+
+/* Cones whose rims share vertices, so that a diagonal laid for one bars the others. */
+static void build_sharing_cones(struct generator *generator, struct build *build, size_t most)
+{
+    uint16_t shared[4];
+    uint16_t rim[16];
+    size_t cones = between(generator, 2, 3 + most / 20);
+    size_t sharing = between(generator, 1, 4);
+    new_points(build, shared, sharing);
+    for (size_t cone = 0; cone < cones; cone++) {
+        size_t count = between(generator, 2 * sharing < 4 ? 4 : 2 * sharing, 10);
+        new_points(build, rim, count);
+        for (size_t s = 0; s < sharing; s++) {
+            if (!chance(generator, 5)) {
+                rim[2 * s] = shared[s];
+            }
+        }
+        build_fan_over(build, new_point(build), rim, count, 1);
+    }
+}
+
+/* A cone with triangles over pairs of its rim, which bar diagonals. */
+static void build_barred_cone(struct generator *generator, struct build *build, size_t most)
+{
+    uint16_t rim[REFERENCE_LONGEST_LOOP + 1];
+    size_t longest = most < REFERENCE_LONGEST_LOOP ? most : REFERENCE_LONGEST_LOOP + 1;
+    size_t count = between(generator, 4, longest < 5 ? 5 : longest);
+    size_t bars = between(generator, 1, count * (chance(generator, 3) ? 3 : 1));
+    uint16_t hub;
+    new_points(build, rim, count);
+    hub = new_point(build);
+    build_fan_over(build, hub, rim, count, 1);
+    for (size_t bar = 0; bar < bars; bar++) {
+        uint16_t a = rim[generate_below(generator, count)];
+        uint16_t b = rim[generate_below(generator, count)];
+        uint16_t c = chance(generator, 3) ? rim[generate_below(generator, count)] : new_point(build);
+        add_triangle(build, a, b, c);
+    }
+}
+
+/* A loop of exactly 63, 64 or 65 edges, on a cone, a band or a strip. */
+static void build_edge_of_long(struct generator *generator, struct build *build)
+{
+    size_t count = between(generator, REFERENCE_LONGEST_LOOP - 1, REFERENCE_LONGEST_LOOP + 1);
+    uint16_t points[REFERENCE_LONGEST_LOOP + 1];
+    switch (generate_below(generator, 3)) {
+    case 0:
+        build_fan(generator, build, count, 1);
+        break;
+    case 1:
+        build_band(build, count);
+        break;
+    default:
+        new_points(build, points, count);
+        build_strip_over(build, points, count);
+        break;
+    }
+}
+
+/* The surfaces of the scope's bench examples. */
+static void build_example(struct generator *generator, struct build *build)
+{
+    static const uint16_t examples[7][12] = {
+        {0, 1, 2}, {0, 1, 2, 0, 1, 3}, {0, 1, 2, 0, 3, 4},
+        {0, 1, 2, 2, 1, 3, 2, 3, 4, 4, 3, 0}, {0, 1, 2, 0, 2, 3},
+        {0, 1, 4, 1, 2, 4, 2, 3, 4, 3, 0, 4}, {0, 1, 2, 0, 2, 3, 1, 3, 4}};
+    static const size_t counts[7] = {3, 6, 6, 12, 6, 12, 9};
+    uint16_t points[5];
+    size_t example = generate_below(generator, 7);
+    new_points(build, points, 5);
+    for (size_t c = 0; c < counts[example]; c += 3) {
+        const uint16_t *triangle = examples[example] + c;
+        add_any_triangle(build, points[triangle[0]], points[triangle[1]], points[triangle[2]]);
+    }
+}
+
+static void build_shape(struct generator *generator, struct build *build, size_t most, int loose)
+{
+    switch (generate_below(generator, 15)) {
+    case 0: build_random(generator, build, most, loose); break;
+    case 1: build_random(generator, build, most, 0); break;
+    case 2: build_strip(generator, build, most, 0); break;
+    case 3: build_strip(generator, build, most, 1); break;
+    case 4: build_fan(generator, build, between(generator, 2, most + 2), 0); break;
+    case 5: build_fan(generator, build, between(generator, 3, most + 3), 1); break;
+    case 6: build_fans_at_one_vertex(generator, build, most); break;
+    case 7: build_disc(generator, build, most); break;
+    case 8: build_band(build, between(generator, 3, most / 2 + 3)); break;
+    case 9: build_closed(generator, build); break;
+    case 10: build_sharing_cones(generator, build, most); break;
+    case 11: build_barred_cone(generator, build, most); break;
+    case 12: build_barred_cone(generator, build, 8); break;
+    case 13: build_edge_of_long(generator, build); break;
+    default: build_example(generator, build); break;
+    }
+}
+
+/* ---- Changing a whole surface ---- */
+
+/* Makes points one, a few times over, leaving out triangles that no longer fit. */
+static void join_points(struct generator *generator, struct build *build)
+{
+    struct build joined;
+    size_t times = between(generator, 1, 4);
+    for (size_t j = 0; j < times && build->points > 0; j++) {
+        uint16_t keep = (uint16_t)generate_below(generator, build->points);
+        uint16_t drop = (uint16_t)generate_below(generator, build->points);
+        joined.count = 0;
+        joined.points = build->points;
+        for (size_t c = 0; c < build->count; c += 3) {
+            uint16_t t[3];
+            for (size_t s = 0; s < 3; s++) {
+                t[s] = build->corners[c + s] == drop ? keep : build->corners[c + s];
+            }
+            add_triangle(&joined, t[0], t[1], t[2]);
+        }
+        *build = joined;
+    }
+}
+
+static void swap_corners(uint16_t *corners, size_t a, size_t b)
+{
+    uint16_t kept = corners[a];
+    corners[a] = corners[b];
+    corners[b] = kept;
+}
+
+/* Puts triangles into any order and begins each at any corner. */
+static void shuffle_triangles(struct generator *generator, uint16_t *corners, size_t count)
+{
+    for (size_t t = 0; t < count / 3; t++) {
+        size_t other = between(generator, t, count / 3 - 1);
+        for (size_t s = 0; s < 3; s++) {
+            swap_corners(corners, 3 * t + s, 3 * other + s);
+        }
+        for (size_t turns = generate_below(generator, 3); turns > 0; turns--) {
+            swap_corners(corners, 3 * t, 3 * t + 1);
+            swap_corners(corners, 3 * t + 1, 3 * t + 2);
+        }
+    }
+}
+
+/* Gives every point another number. */
+static void renumber_points(struct generator *generator, struct build *build)
+{
+    uint16_t numbers[REFERENCE_MOST_POINTS];
+    for (size_t p = 0; p < build->points; p++) {
+        numbers[p] = (uint16_t)p;
+    }
+    for (size_t p = 0; p < build->points; p++) {
+        swap_corners(numbers, p, between(generator, p, build->points - 1));
+    }
+    for (size_t c = 0; c < build->count; c++) {
+        build->corners[c] = numbers[build->corners[c]];
+    }
+}
+
+/* Islands of shapes, at times joined, renumbered, shuffled, with points no triangle uses. */
+static void build_surface(struct generator *generator, struct build *build, int loose)
+{
+    size_t most = 10;
+    size_t islands = chance(generator, 3) ? between(generator, 0, 4) : 1;
+    if (chance(generator, 10)) {
+        most = chance(generator, 8) ? 1022 : 100;
+    }
+    build->count = 0;
+    build->points = 0;
+    for (size_t island = 0; island < islands; island++) {
+        build_shape(generator, build, most, loose);
+    }
+    if (chance(generator, 4)) {
+        join_points(generator, build);
+    }
+    if (chance(generator, 4)) {
+        for (size_t p = generate_below(generator, 4); p > 0; p--) {
+            new_point(build);
+        }
+    }
+    if (chance(generator, 2)) {
+        renumber_points(generator, build);
+    }
+    if (chance(generator, 2)) {
+        shuffle_triangles(generator, build->corners, build->count);
+    }
+    if (loose && build->count > 0 && chance(generator, 8)) {
+        size_t t = generate_below(generator, build->count / 3);
+        swap_corners(build->corners, 3 * t, 3 * t + 2);
+    }
+}
+
+/* ---- Coordinates ---- */
+
+/* The bits of value / 2^halvings; the value's size is below 2^24. */
+static uint32_t word_of(int64_t value, uint32_t halvings)
+{
+    uint32_t sign = value < 0 ? 0x80000000u : 0u;
+    int64_t magnitude = value < 0 ? -value : value;
+    uint32_t field = 150 - halvings;
+    if (magnitude == 0) {
+        return sign;
+    }
+    while (magnitude < ((int64_t)1 << 23)) {
+        magnitude *= 2;
+        field -= 1;
+    }
+    return sign | (field << 23) | (uint32_t)(magnitude & 0x7fffff);
+}
+
+static int64_t signed_between(struct generator *generator, int64_t low, int64_t high)
+{
+    return low + (int64_t)generate_below(generator, (size_t)(high - low + 1));
+}
+
+/* The farthest values that are kept, and their neighbours inwards. */
+static uint32_t extreme_word(struct generator *generator)
+{
+    static const uint32_t words[8] = {0x46fffe00, 0x46fffeff, 0x46fffd00, 0x46fffcff,
+                                      0x46fffe01, 0x46fffc00, 0x00000000, 0x46fffdff};
+    return words[generate_below(generator, 8)] | (uint32_t)(generate_below(generator, 2) << 31);
+}
+
+/* Zeros, subnormals, the smallest normals, and values about a half. */
+static uint32_t tiny_word(struct generator *generator)
+{
+    static const uint32_t words[12] = {0x00000000, 0x00000001, 0x007fffff, 0x00800000,
+                                       0x00800001, 0x3effffff, 0x3f000000, 0x3f000001,
+                                       0x3fbfffff, 0x3fc00000, 0x3fc00001, 0x33000000};
+    uint32_t sign = (uint32_t)(generate_below(generator, 2) << 31);
+    if (chance(generator, 4)) {
+        return sign | (uint32_t)generate_below(generator, 0x00800000);
+    }
+    return sign | words[generate_below(generator, 12)];
+}
+
+/* Words that are refused: not finite or too far. */
+static uint32_t refused_word(struct generator *generator)
+{
+    static const uint32_t words[10] = {0x7f800000, 0x7fc00000, 0x7f800001, 0x7fffffff, 0x46ffff00,
+                                       0x47000000, 0x7f7fffff, 0x46ffff01, 0x4b000000, 0x4f000000};
+    return words[generate_below(generator, 10)] | (uint32_t)(generate_below(generator, 2) << 31);
+}
+
+/* A word on the plate, in one of the moods of a surface. */
+static uint32_t word_in_mood(struct generator *generator, size_t mood)
+{
+    switch (mood) {
+    case 0: return word_of(signed_between(generator, 0, 3), 0);
+    case 1: return word_of(signed_between(generator, -9, 9), 1);
+    case 2: return word_of(signed_between(generator, -40, 40), 3);
+    case 3: return word_of(signed_between(generator, -32767, 32767), 0);
+    case 4: return extreme_word(generator);
+    case 5: return tiny_word(generator);
+    case 6: return word_of(signed_between(generator, -0x7ffeff, 0x7ffeff), 8);
+    case 7: return word_of(signed_between(generator, -0xffffff, 0xffffff),
+                           (uint32_t)between(generator, 10, 60));
+    default: return word_of(signed_between(generator, -20, 20), 0);
+    }
+}
+
+uint32_t generate_word(struct generator *generator)
+{
+    if (chance(generator, 4)) {
+        return (uint32_t)generate_bits(generator);
+    }
+    if (chance(generator, 4)) {
+        return refused_word(generator);
+    }
+    if (chance(generator, 4)) {
+        return word_of(signed_between(generator, -65540, 65540), 1);
+    }
+    return word_in_mood(generator, generate_below(generator, 9));
+}
+
+/* Points all over, all in one place, on a line, or in a plane. */
+static void place_points(struct generator *generator, uint32_t *words, size_t points)
+{
+    size_t mood = generate_below(generator, 11);
+    size_t lie = generate_below(generator, 8);
+    int64_t step[3];
+    for (size_t axis = 0; axis < 3; axis++) {
+        step[axis] = signed_between(generator, -3, 3);
+    }
+    for (size_t p = 0; p < points; p++) {
+        int64_t along = signed_between(generator, -2000, 2000);
+        for (size_t axis = 0; axis < 3; axis++) {
+            uint32_t *word = &words[3 * p + axis];
+            *word = word_in_mood(generator, mood > 8 ? generate_below(generator, 9) : mood);
+            if (lie == 0 && p > 0) {
+                *word = words[axis];
+            } else if (lie == 1) {
+                *word = word_of(along * step[axis], 0);
+            } else if (lie == 2 && axis == 2) {
+                *word = words[2];
+            } else if (lie == 3 && p > 2 && chance(generator, 2)) {
+                *word = words[3 * (p - 2) + axis];
+            }
+        }
+    }
+}
+
+/* ---- Damage and buffers ---- */
+
+static void damage_counts(struct generator *generator, struct generated_surface *surface)
+{
+    size_t by = between(generator, 1, 2);
+    switch (generate_below(generator, 6)) {
+    case 0: surface->word_count -= surface->word_count >= by ? by : 0; break;
+    case 1: surface->word_count += surface->word_count + by <= GENERATE_WORD_ROOM ? by : 0; break;
+    case 2: surface->corner_count -= surface->corner_count >= by ? by : 0; break;
+    case 3: surface->corner_count += surface->corner_count + by <= GENERATE_CORNER_ROOM ? by : 0; break;
+    case 4: surface->word_count = REFERENCE_MOST_WORDS + between(generator, 1, 12); break;
+    default: surface->corner_count = REFERENCE_MOST_CORNERS + between(generator, 1, 12); break;
+    }
+}
+
+static void damage_corner(struct generator *generator, struct generated_surface *surface)
+{
+    static const uint16_t far[5] = {1023, 1024, 32768, 65535, 9999};
+    size_t points = surface->word_count / 3;
+    if (surface->corner_count == 0) {
+        return;
+    }
+    uint16_t *corner = &surface->corners[generate_below(generator, surface->corner_count)];
+    switch (generate_below(generator, 3)) {
+    case 0: *corner = (uint16_t)(points + generate_below(generator, 2)); break;
+    case 1: *corner = far[generate_below(generator, 5)]; break;
+    default: *corner = (uint16_t)generate_below(generator, points + 1); break;
+    }
+}
+
+/* A point twice in a triangle, a triangle twice, or one turned round. */
+static void damage_triangle(struct generator *generator, struct generated_surface *surface)
+{
+    size_t triangles = surface->corner_count / 3;
+    if (triangles == 0) {
+        return;
+    }
+    size_t t = 3 * generate_below(generator, triangles);
+    size_t other = 3 * generate_below(generator, triangles);
+    size_t turn = generate_below(generator, 3);
+    switch (generate_below(generator, 3)) {
+    case 0:
+        surface->corners[t + turn] = surface->corners[t + (turn + 1) % 3];
+        break;
+    case 1:
+        for (size_t s = 0; s < 3; s++) {
+            surface->corners[other + s] = surface->corners[t + (s + turn) % 3];
+        }
+        break;
+    default:
+        swap_corners(surface->corners, t, t + 2);
+        break;
+    }
+}
+
+static void damage_surface(struct generator *generator, struct generated_surface *surface)
+{
+    switch (generate_below(generator, 6)) {
+    case 0:
+        damage_counts(generator, surface);
+        break;
+    case 1:
+        damage_corner(generator, surface);
+        break;
+    case 2:
+    case 3:
+        damage_triangle(generator, surface);
+        break;
+    default:
+        if (surface->word_count > 0) {
+            surface->words[generate_below(generator, surface->word_count)] = refused_word(generator);
+        }
+        break;
+    }
+}
+
+/* Lends each buffer exactly what is needed. */
+static void lend_exactly(struct generated_surface *surface)
+{
+    size_t triangles = surface->corner_count / 3;
+    surface->lent[0] = surface->word_count;
+    surface->lent[1] = 3 * triangles;
+    surface->lent[2] = triangles;
+    surface->lent[3] = triangles;
+    surface->lent[4] = triangles;
+    surface->lent[5] = 9 * triangles;
+}
+
+/* Lends some buffers too long, and at times some too short by one or empty. */
+static void lend(struct generator *generator, struct generated_surface *surface)
+{
+    int shortage = chance(generator, 6);
+    lend_exactly(surface);
+    for (size_t b = 0; b < GENERATE_BUFFERS; b++) {
+        if (chance(generator, 3)) {
+            surface->lent[b] += between(generator, 1, 5);
+        } else if (shortage && chance(generator, 3)) {
+            surface->lent[b] -= surface->lent[b] > 0 ? 1 : 0;
+        } else if (shortage && chance(generator, 6)) {
+            surface->lent[b] = 0;
+        }
+    }
+}
+
+static void take_build(struct generator *generator, const struct build *build,
+                       struct generated_surface *surface)
+{
+    surface->word_count = 3 * build->points;
+    surface->corner_count = build->count;
+    for (size_t w = 0; w < GENERATE_WORD_ROOM; w++) {
+        surface->words[w] = 0;
+    }
+    for (size_t c = 0; c < GENERATE_CORNER_ROOM; c++) {
+        surface->corners[c] = c < build->count ? build->corners[c] : 0;
+    }
+    place_points(generator, surface->words, build->points);
+    lend_exactly(surface);
+}
+
+void generate_sound_surface(struct generator *generator, struct generated_surface *surface)
+{
+    struct build build;
+    struct reference_answer answer;
+    int32_t grid[REFERENCE_MOST_WORDS];
+    uint16_t rings[REFERENCE_MOST_CORNERS];
+    uint16_t lengths[REFERENCE_MOST_TRIANGLES];
+    do {
+        build_surface(generator, &build, 0);
+        take_build(generator, &build, surface);
+        reference_survey(surface->words, surface->word_count, surface->corners, surface->corner_count,
+                         grid, REFERENCE_MOST_WORDS, rings, REFERENCE_MOST_CORNERS,
+                         lengths, REFERENCE_MOST_TRIANGLES, &answer);
+    } while (answer.number != 0);
+}
+
+void generate_surface(struct generator *generator, struct generated_surface *surface)
+{
+    struct build build;
+    size_t faults = chance(generator, 3) ? 1 : 0;
+    if (faults == 1 && chance(generator, 3)) {
+        faults = between(generator, 2, 4);
+    }
+    build_surface(generator, &build, 1);
+    take_build(generator, &build, surface);
+    while (faults > 0) {
+        damage_surface(generator, surface);
+        faults -= 1;
+    }
+    lend(generator, surface);
+}
+
+/* ---- Patch sets ---- */
+
+/* Which covers a set is made of. */
+enum { COVER_OWN, COVER_EQUALLY_LIGHT, COVER_ALLOWED, COVER_ANY };
+
+/* Whether the choice m may be taken in the stretch i..k. */
+static int may_choose(const struct reference_memo *memo, size_t i, size_t m, size_t k, int kind)
+{
+    int64_t left = memo->least[i][m];
+    int64_t right = memo->least[m][k];
+    if (kind == COVER_ANY) {
+        return 1;
+    }
+    if (left == REFERENCE_NO_COVER || right == REFERENCE_NO_COVER
+        || !reference_is_allowed(memo, i, m, k)) {
+        return 0;
+    }
+    return kind == COVER_ALLOWED
+        || left + right + reference_weight(memo->grid, memo->ring[i], memo->ring[k], memo->ring[m])
+            == memo->least[i][k];
+}
+
+/* Lays a cover of the stretch i..k; of the choices that may be taken the own
+   cover has the smallest, the others have any. */
+static void choose_stretch(struct generator *generator, const struct reference_memo *memo,
+                           size_t i, size_t k, int kind, struct generated_set *set)
+{
+    size_t choices[REFERENCE_LONGEST_LOOP];
+    size_t count = 0;
+    if (k == i + 1) {
+        return;
+    }
+    for (size_t m = i + 1; m < k; m++) {
+        if (may_choose(memo, i, m, k, kind)) {
+            choices[count] = m;
+            count += 1;
+        }
+    }
+    size_t m = choices[kind == COVER_OWN ? 0 : generate_below(generator, count)];
+    set->corners[set->corner_count] = memo->ring[i];
+    set->corners[set->corner_count + 1] = memo->ring[k];
+    set->corners[set->corner_count + 2] = memo->ring[m];
+    set->corner_count += 3;
+    choose_stretch(generator, memo, i, m, kind, set);
+    choose_stretch(generator, memo, m, k, kind, set);
+}
+
+/* The state of one loop and, if it is patched, its triangles. */
+static void choose_loop(struct generator *generator, const struct generated_surface *surface,
+                        const int32_t *grid, const uint16_t *ring, size_t length, int kind, int shuffled,
+                        struct generated_set *set)
+{
+    struct reference_memo memo;
+    size_t before = set->corner_count;
+    uint16_t *state = &set->states[set->state_count];
+    set->state_count += 1;
+    *state = 2;
+    if (length > REFERENCE_LONGEST_LOOP) {
+        return;
+    }
+    reference_fill_memo(&memo, grid, ring, length, surface->corners, surface->corner_count,
+                        set->corners, set->corner_count);
+    *state = 3;
+    if (memo.least[0][length - 1] == REFERENCE_NO_COVER && kind != COVER_ANY) {
+        return;
+    }
+    *state = 1;
+    choose_stretch(generator, &memo, 0, length - 1, kind, set);
+    if (shuffled) {
+        shuffle_triangles(generator, set->corners + before, set->corner_count - before);
+    }
+}
+
+/* A set over all loops: each of the given kind or the patcher's own. */
+static void choose_covers(struct generator *generator, const struct generated_surface *surface,
+                          int kind, int shuffled, struct generated_set *set)
+{
+    int32_t grid[REFERENCE_MOST_WORDS];
+    uint16_t rings[REFERENCE_MOST_CORNERS];
+    uint16_t lengths[REFERENCE_MOST_TRIANGLES];
+    struct reference_answer answer;
+    const uint16_t *ring = rings;
+    set->state_count = 0;
+    set->corner_count = 0;
+    reference_survey(surface->words, surface->word_count, surface->corners, surface->corner_count,
+                     grid, REFERENCE_MOST_WORDS, rings, REFERENCE_MOST_CORNERS,
+                     lengths, REFERENCE_MOST_TRIANGLES, &answer);
+    for (size_t loop = 0; loop < answer.loops; loop++) {
+        choose_loop(generator, surface, grid, ring, lengths[loop],
+                    chance(generator, 2) ? kind : COVER_OWN, shuffled, set);
+        ring += lengths[loop];
+    }
+}
+
+/* Turns one triangle round, or replaces a corner of one. */
+static void change_triangle(struct generator *generator, struct generated_set *set)
+{
+    if (set->corner_count < 3) {
+        return;
+    }
+    size_t t = 3 * generate_below(generator, set->corner_count / 3);
+    if (chance(generator, 2)) {
+        swap_corners(set->corners, t, t + 2);
+    } else if (chance(generator, 4)) {
+        set->corners[t] = (uint16_t)generate_below(generator, 65536);
+    } else {
+        set->corners[t + generate_below(generator, 3)] =
+            set->corners[generate_below(generator, set->corner_count)];
+    }
+}
+
+/* Takes one triangle out, or the last corner. */
+static void leave_out(struct generator *generator, struct generated_set *set)
+{
+    if (set->corner_count < 3) {
+        return;
+    }
+    if (chance(generator, 4)) {
+        set->corner_count -= 1;
+        return;
+    }
+    size_t t = 3 * generate_below(generator, set->corner_count / 3);
+    for (size_t c = t; c + 3 < set->corner_count; c++) {
+        set->corners[c] = set->corners[c + 3];
+    }
+    set->corner_count -= 3;
+}
+
+/* Adds up to four corners: old ones, or ones that may name no point. */
+static void put_in(struct generator *generator, struct generated_set *set)
+{
+    size_t more = chance(generator, 2) ? 3 : between(generator, 1, 4);
+    for (size_t c = 0; c < more && set->corner_count < GENERATE_SET_ROOM; c++) {
+        set->corners[set->corner_count] = set->corner_count > 0 && chance(generator, 2)
+            ? set->corners[generate_below(generator, set->corner_count)]
+            : (uint16_t)generate_below(generator, 1024);
+        set->corner_count += 1;
+    }
+}
+
+/* Changes one state, or their number. */
+static void change_states(struct generator *generator, struct generated_set *set)
+{
+    if (chance(generator, 4)) {
+        set->state_count += set->state_count < GENERATE_STATE_ROOM ? 1 : 0;
+        set->states[set->state_count - 1] = 1;
+    } else if (chance(generator, 4)) {
+        set->state_count -= set->state_count > 0 ? 1 : 0;
+    } else if (set->state_count > 0) {
+        size_t loop = generate_below(generator, set->state_count);
+        set->states[loop] = (uint16_t)(chance(generator, 8) ? generate_below(generator, 65536)
+                                                            : generate_below(generator, 5));
+    }
+}
+
+/* Puts all triangles of the set into any order, over the bounds of loops. */
+static void mix_loops(struct generator *generator, struct generated_set *set)
+{
+    shuffle_triangles(generator, set->corners, set->corner_count - set->corner_count % 3);
+}
+
+static void change_set(struct generator *generator, struct generated_set *set)
+{
+    switch (generate_below(generator, 6)) {
+    case 0:
+    case 1: change_triangle(generator, set); break;
+    case 2: leave_out(generator, set); break;
+    case 3: put_in(generator, set); break;
+    case 4: change_states(generator, set); break;
+    default: mix_loops(generator, set); break;
+    }
+}
+
+void generate_set(struct generator *generator, const struct generated_surface *surface,
+                  struct generated_set *set)
+{
+    int kind = COVER_OWN + (int)generate_below(generator, 4);
+    size_t changes = chance(generator, 2) ? between(generator, 1, 2) : 0;
+    choose_covers(generator, surface, kind, chance(generator, 2), set);
+    if (set->state_count == 0 && chance(generator, 4)) {
+        change_states(generator, set);
+    }
+    while (changes > 0) {
+        change_set(generator, set);
+        changes -= 1;
+    }
+}
+
+/* ---- Texts ---- */
+
+static size_t put_text(uint8_t *text, size_t at, const char *bytes)
+{
+    for (size_t b = 0; bytes[b] != 0; b++) {
+        text[at] = (uint8_t)bytes[b];
+        at += 1;
+    }
+    return at;
+}
+
+/* A number in the digits of a base, at least so many of them. */
+static size_t put_number(uint8_t *text, size_t at, size_t value, size_t base, size_t digits)
+{
+    if (value >= base || digits > 1) {
+        at = put_number(text, at, value / base, base, digits > 1 ? digits - 1 : 1);
+    }
+    text[at] = (uint8_t)"0123456789abcdef"[value % base];
+    return at + 1;
+}
+
+static size_t put_count(uint8_t *text, size_t at, const char *key, size_t count)
+{
+    at = put_text(text, at, key);
+    at = put_number(text, at, count, 10, 1);
+    return put_text(text, at, "\n");
+}
+
+static size_t put_triangles(uint8_t *text, size_t at, const uint16_t *corners, size_t count)
+{
+    at = put_count(text, at, "triangles=", count / 3);
+    for (size_t c = 0; c < count - count % 3; c++) {
+        at = put_text(text, at, c % 3 == 0 ? "t=" : ",");
+        at = put_number(text, at, corners[c], 10, 1);
+        at = put_text(text, at, c % 3 == 2 ? "\n" : "");
+    }
+    return at;
+}
+
+size_t generate_sheet_text(const struct generated_surface *surface, uint8_t *text)
+{
+    size_t words = surface->word_count - surface->word_count % 3;
+    size_t at = put_count(text, 0, "points=", words / 3);
+    for (size_t w = 0; w < words; w++) {
+        at = put_text(text, at, w % 3 == 0 ? "p=" : ",");
+        at = put_number(text, at, surface->words[w], 16, 8);
+        at = put_text(text, at, w % 3 == 2 ? "\n" : "");
+    }
+    return put_triangles(text, at, surface->corners, surface->corner_count);
+}
+
+size_t generate_set_text(const struct generated_set *set, uint8_t *text)
+{
+    size_t at = put_count(text, 0, "states=", set->state_count);
+    for (size_t s = 0; s < set->state_count; s++) {
+        at = put_text(text, at, "s=");
+        at = put_number(text, at, set->states[s], 10, 1);
+        at = put_text(text, at, "\n");
+    }
+    return put_triangles(text, at, set->corners, set->corner_count);
+}
+
+static size_t insert_byte(uint8_t *text, size_t length, size_t at, uint8_t byte)
+{
+    if (length == GENERATE_TEXT_ROOM) {
+        return length;
+    }
+    for (size_t b = length; b > at; b--) {
+        text[b] = text[b - 1];
+    }
+    text[at] = byte;
+    return length + 1;
+}
+
+static size_t remove_byte(uint8_t *text, size_t length, size_t at)
+{
+    for (size_t b = at; b + 1 < length; b++) {
+        text[b] = text[b + 1];
+    }
+    return length - 1;
+}
+
+/* The place after a line's end, reached from a chance place; the text's end where there is none. */
+static size_t line_start(struct generator *generator, const uint8_t *text, size_t length)
+{
+    size_t at = generate_below(generator, length + 1);
+    while (at > 0 && at < length && text[at - 1] != '\n') {
+        at += 1;
+    }
+    return at;
+}
+
+/* Takes a line out, or sets it down twice. */
+static size_t damage_line(struct generator *generator, uint8_t *text, size_t length)
+{
+    size_t from = line_start(generator, text, length);
+    size_t end = from;
+    int twice = chance(generator, 2);
+    while (end < length && text[end] != '\n') {
+        end += 1;
+    }
+    size_t bytes = end < length ? end + 1 - from : 0;
+    for (size_t b = 0; b < bytes; b++) {
+        length = twice ? insert_byte(text, length, from + bytes + b, text[from + b])
+                       : remove_byte(text, length, from);
+    }
+    return length;
+}
+
+/* A byte that is likely to matter. */
+static uint8_t telling_byte(struct generator *generator)
+{
+    static const char bytes[] = "0123456789abcdefAF=,\n\r pts-+.x";
+    if (chance(generator, 8)) {
+        return (uint8_t)generate_below(generator, 256);
+    }
+    return (uint8_t)bytes[generate_below(generator, sizeof bytes - 1)];
+}
+
+size_t generate_text_damage(struct generator *generator, uint8_t *text, size_t length)
+{
+    size_t at = length == 0 ? 0 : generate_below(generator, length);
+    switch (generate_below(generator, 8)) {
+    case 0:
+        return at;
+    case 1:
+        return length == 0 ? 0 : length - 1;
+    case 2:
+        return insert_byte(text, length, at, telling_byte(generator));
+    case 3:
+        return length == 0 ? 0 : remove_byte(text, length, at);
+    case 4:
+        return damage_line(generator, text, length);
+    case 5:
+        return insert_byte(text, length, length, telling_byte(generator));
+    case 6:
+        while (at > 0 && text[at - 1] != '=' && text[at - 1] != ',') {
+            at -= 1;
+        }
+        return insert_byte(text, length, at, '0');
+    default:
+        if (length > 0) {
+            text[at] = telling_byte(generator);
+        }
+        return length;
+    }
+}

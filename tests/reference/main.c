@@ -1,0 +1,353 @@
+/* A command that runs the three programs of the scope over the reference, on files or on cases. */
+
+#define _POSIX_C_SOURCE 200809L
+
+#include <stdio.h>
+#include <stdlib.h>
+#include <string.h>
+
+#include "reference.h"
+#include "self.h"
+
+/* ---- Files and texts ---- */
+
+#define MOST_FILE (1 << 20)
+
+struct file {
+    uint8_t bytes[MOST_FILE];
+    size_t length;
+};
+
+/* Gives 0, and an empty text, where the file cannot be opened. */
+static int read_file(const char *name, struct file *file)
+{
+    FILE *stream = strcmp(name, "-") == 0 ? stdin : fopen(name, "rb");
+    file->length = 0;
+    if (stream == NULL) {
+        return 0;
+    }
+    file->length = fread(file->bytes, 1, MOST_FILE, stream);
+    if (stream != stdin) {
+        fclose(stream);
+    }
+    return 1;
+}
+
+/* A surface as read, with room for all that the programs are lent. */
+struct desk {
+    uint32_t words[REFERENCE_MOST_WORDS];
+    uint16_t corners[REFERENCE_MOST_CORNERS];
+    uint16_t set_states[REFERENCE_MOST_STATES];
+    uint16_t set_corners[3 * REFERENCE_MOST_SET_TRIANGLES];
+    int32_t grid[REFERENCE_MOST_WORDS];
+    uint16_t rings[REFERENCE_MOST_CORNERS];
+    uint16_t lengths[REFERENCE_MOST_TRIANGLES];
+    uint16_t states[REFERENCE_MOST_TRIANGLES];
+    uint64_t weights[REFERENCE_MOST_TRIANGLES];
+    uint16_t patches[REFERENCE_MOST_PATCH_CORNERS];
+    uint8_t text[REFERENCE_LONGEST_TEXT];
+};
+
+static struct desk desk;
+
+/* ---- The three programs ---- */
+
+static void print_answer(FILE *out, size_t number, size_t place)
+{
+    fprintf(out, "answer=%zu,%zu\n", number, place);
+}
+
+static void print_list(FILE *out, const char *key, const uint16_t *values, size_t count)
+{
+    fputs(key, out);
+    for (size_t v = 0; v < count; v++) {
+        fprintf(out, "%s%u", v == 0 ? "" : ",", (unsigned)values[v]);
+    }
+    fputs("\n", out);
+}
+
+/* "then `loops=`, and for each loop `loop=length,state,weight`, `ring=` its
+   vertices, and one `patch=` line for each triangle." */
+static void print_loops(FILE *out, size_t loops)
+{
+    const uint16_t *ring = desk.rings;
+    const uint16_t *patch = desk.patches;
+    fprintf(out, "loops=%zu\n", loops);
+    for (size_t loop = 0; loop < loops; loop++) {
+        size_t length = desk.lengths[loop];
+        fprintf(out, "loop=%zu,%u,%llu\n", length, (unsigned)desk.states[loop],
+                (unsigned long long)desk.weights[loop]);
+        print_list(out, "ring=", ring, length);
+        ring += length;
+        for (size_t t = 0; desk.states[loop] == 1 && t < length - 2; t++) {
+            print_list(out, "patch=", patch, 3);
+            patch += 3;
+        }
+    }
+}
+
+static void patch_desk(const struct reference_read_answer *sheet, struct reference_patch_answer *answer)
+{
+    reference_patch(desk.words, sheet->words, desk.corners, sheet->corners,
+                    desk.grid, REFERENCE_MOST_WORDS, desk.rings, REFERENCE_MOST_CORNERS,
+                    desk.lengths, REFERENCE_MOST_TRIANGLES, desk.states, REFERENCE_MOST_TRIANGLES,
+                    desk.weights, REFERENCE_MOST_TRIANGLES, desk.patches, REFERENCE_MOST_PATCH_CORNERS,
+                    answer);
+}
+
+static void read_sheet(const struct file *file, struct reference_read_answer *answer)
+{
+    reference_read(file->bytes, file->length, desk.words, REFERENCE_MOST_WORDS,
+                   desk.corners, REFERENCE_MOST_CORNERS, answer);
+}
+
+/* "The listing program reads a text from standard input and prints
+   `answer=number,place`; if the number is 0, then" the loops. */
+static void list_program(FILE *out, const struct file *sheet)
+{
+    struct reference_read_answer read;
+    struct reference_patch_answer patch;
+    read_sheet(sheet, &read);
+    if (read.number != 0) {
+        print_answer(out, read.number, read.place);
+        return;
+    }
+    patch_desk(&read, &patch);
+    print_answer(out, patch.number, patch.place);
+    if (patch.number == 0) {
+        print_loops(out, patch.loops);
+    }
+}
+
+/* The number of lines of a text. */
+static size_t count_lines(const struct file *file)
+{
+    size_t lines = 0;
+    for (size_t b = 0; b < file->length; b++) {
+        lines += file->bytes[b] == '\n';
+    }
+    return lines;
+}
+
+/* "a wrong line is counted on after the sheet's last and comes before 4. It
+   prints the answer line alone." */
+static void check_program(FILE *out, const struct file *sheet, const struct file *patches)
+{
+    struct reference_read_answer read;
+    struct reference_set_answer set;
+    struct reference_answer verdict;
+    read_sheet(sheet, &read);
+    if (read.number == 10) {
+        print_answer(out, read.number, read.place);
+        return;
+    }
+    reference_read_set(patches->bytes, patches->length, count_lines(sheet) + 1,
+                       desk.set_states, REFERENCE_MOST_STATES,
+                       desk.set_corners, 3 * REFERENCE_MOST_SET_TRIANGLES, &set);
+    if (set.number != 0) {
+        print_answer(out, set.number, set.place);
+        return;
+    }
+    if (read.number != 0) {
+        print_answer(out, read.number, read.place);
+        return;
+    }
+    reference_check(desk.words, read.words, desk.corners, read.corners,
+                    desk.set_states, set.states, desk.set_corners, set.corners,
+                    desk.grid, REFERENCE_MOST_WORDS, desk.rings, REFERENCE_MOST_CORNERS,
+                    desk.lengths, REFERENCE_MOST_TRIANGLES, &verdict);
+    print_answer(out, verdict.number, verdict.place);
+}
+
+/* "The rewriting program reads a text from standard input and prints it
+   written again, or an answer line." */
+static void rewrite_program(FILE *out, const struct file *sheet)
+{
+    struct reference_read_answer read;
+    struct reference_write_answer write;
+    read_sheet(sheet, &read);
+    if (read.number != 0) {
+        print_answer(out, read.number, read.place);
+        return;
+    }
+    reference_write(desk.words, read.words, desk.corners, read.corners,
+                    desk.text, REFERENCE_LONGEST_TEXT, &write);
+    if (write.number != 0) {
+        print_answer(out, write.number, write.place);
+        return;
+    }
+    fwrite(desk.text, 1, write.bytes, out);
+}
+
+/* ---- `reference cases DIR` ---- */
+
+static struct file case_sheet;
+static struct file case_patches;
+static struct file case_expected;
+
+static int open_case(const char *directory, unsigned number, const char *kind, struct file *file)
+{
+    char name[4096];
+    snprintf(name, sizeof name, "%s/%04u.%s", directory, number, kind);
+    return read_file(name, file);
+}
+
+/* Runs one program, 0 list, 1 check, 2 rewrite, on the case's texts and
+   compares what it prints with what is expected. */
+static int prints_expected(int program)
+{
+    char *printed = NULL;
+    size_t length = 0;
+    FILE *out = open_memstream(&printed, &length);
+    if (program == 0) {
+        list_program(out, &case_sheet);
+    } else if (program == 1) {
+        check_program(out, &case_sheet, &case_patches);
+    } else {
+        rewrite_program(out, &case_sheet);
+    }
+    fclose(out);
+    int same = length == case_expected.length && memcmp(printed, case_expected.bytes, length) == 0;
+    free(printed);
+    return same;
+}
+
+/* Whether one program agrees with a case of the directory. */
+static int agrees(const char *directory, unsigned number, int program)
+{
+    static const char *const kinds[3] = {"listing", "verdict", "rewritten"};
+    int same = open_case(directory, number, kinds[program], &case_expected) && prints_expected(program);
+    if (!same) {
+        printf("differs: %04u.%s\n", number, kinds[program]);
+    }
+    return same;
+}
+
+static int run_cases(const char *directory)
+{
+    size_t cases = 0;
+    size_t agreeing = 0;
+    size_t outputs = 0;
+    for (unsigned number = 0; number < 10000; number++) {
+        size_t same = 0;
+        if (!open_case(directory, number, "sheet", &case_sheet)) {
+            continue;
+        }
+        open_case(directory, number, "patches", &case_patches);
+        for (int program = 0; program < 3; program++) {
+            same += (size_t)agrees(directory, number, program);
+        }
+        cases += 1;
+        outputs += same;
+        agreeing += same == 3;
+    }
+    printf("cases=%zu agree=%zu outputs=%zu of %zu\n", cases, agreeing, outputs, 3 * cases);
+    return cases > 0 && agreeing == cases ? 0 : 1;
+}
+
+/* ---- Bench examples of the scope ---- */
+
+#define ORIGIN "p=00000000,00000000,00000000\n"
+#define TEN_X "p=41200000,00000000,00000000\n"
+#define FIVE_ORIGINS "points=5\n" ORIGIN ORIGIN ORIGIN ORIGIN ORIGIN
+#define SQUARE ORIGIN TEN_X "p=41200000,41200000,00000000\np=00000000,41200000,40800000\n"
+#define RIM ORIGIN TEN_X "p=40400000,40400000,00000000\np=00000000,41200000,00000000\n"
+#define TIP "p=40800000,40800000,41100000\n"
+#define CONE "triangles=4\nt=0,1,4\nt=1,2,4\nt=2,3,4\nt=3,0,4\n"
+#define ONE_PATCHED "states=1\ns=1\ntriangles=2\n"
+
+/* A sheet text, the set text judged against it (NULL where none is), what is
+   listed (NULL where it stands above) and what is judged. */
+struct example {
+    const char *sheet;
+    const char *patches;
+    const char *listing;
+    const char *verdict;
+};
+
+static const struct example examples[] = {
+    {"points=3\n" ORIGIN "p=3f800000,00000000,00000000\np=00000000,3f800000,00000000\ntriangles=1\nt=0,1,2\n",
+     NULL, "answer=0,0\nloops=1\nloop=3,1,1\nring=0,1,2\npatch=0,2,1\n", "answer=10,7\n"},
+    {"points=0\ntriangles=0\n", "states=0\ntriangles=0\n", "answer=0,0\nloops=0\n", "answer=0,0\n"},
+    {FIVE_ORIGINS "triangles=2\nt=0,1,2\nt=0,1,3\n", "", "answer=6,3\n", "answer=10,10\n"},
+    {FIVE_ORIGINS "triangles=1\nt=0,0,1\n", "states=0\ntriangles=0\n", "answer=5,0\n", "answer=5,0\n"},
+    {FIVE_ORIGINS "triangles=2\nt=0,1,2\nt=0,3,4\n", "states=0\ntriangles=0\n",
+     "answer=0,0\nloops=2\nloop=3,1,0\nring=0,1,2\npatch=0,2,1\nloop=3,1,0\nring=0,3,4\npatch=0,4,3\n",
+     "answer=9,2\n"},
+    {FIVE_ORIGINS "triangles=4\nt=0,1,2\nt=2,1,3\nt=2,3,4\nt=4,3,0\n",
+     "states=2\ns=1\ns=1\ntriangles=2\nt=0,3,1\nt=0,2,4\n",
+     "answer=0,0\nloops=2\nloop=3,1,0\nring=0,1,3\npatch=0,3,1\nloop=3,1,0\nring=0,4,2\npatch=0,2,4\n",
+     "answer=0,0\n"},
+    {"points=4\n" SQUARE "triangles=2\nt=0,1,2\nt=0,2,3\n", ONE_PATCHED "t=0,3,2\nt=0,2,1\n",
+     "answer=0,0\nloops=1\nloop=4,1,280\nring=0,1,2,3\npatch=0,3,1\npatch=1,3,2\n", "answer=13,0\n"},
+    {"points=5\n" RIM TIP CONE, ONE_PATCHED "t=3,2,0\nt=2,1,0\n",
+     "answer=0,0\nloops=1\nloop=4,1,60\nring=0,1,2,3\npatch=0,3,2\npatch=0,2,1\n", "answer=0,0\n"},
+    {"points=5\n" RIM TIP CONE, ONE_PATCHED "t=0,3,1\nt=1,3,2\n", NULL, "answer=14,0\n"},
+    {"points=5\n" RIM TIP CONE, ONE_PATCHED "t=0,2,3\nt=0,2,1\n", NULL, "answer=12,0\n"},
+    {"points=5\n" SQUARE TIP CONE, ONE_PATCHED "t=0,3,2\nt=0,2,1\n",
+     "answer=0,0\nloops=1\nloop=4,1,280\nring=0,1,2,3\npatch=0,3,1\npatch=1,3,2\n", "answer=0,0\n"},
+    {FIVE_ORIGINS "triangles=3\nt=0,1,2\nt=0,2,3\nt=1,3,4\n",
+     "states=2\ns=3\ns=1\ntriangles=2\nt=1,4,3\nt=0,0,0\n",
+     "answer=0,0\nloops=2\nloop=4,3,0\nring=0,1,2,3\nloop=3,1,0\nring=1,3,4\npatch=1,4,3\n", "answer=15,3\n"},
+};
+
+static void take_text(struct file *file, const char *text)
+{
+    file->length = text == NULL ? 0 : strlen(text);
+    memcpy(file->bytes, text == NULL ? "" : text, file->length);
+}
+
+/* Gives 0 where all examples come out as the scope has them, else 1. */
+static int run_examples(void)
+{
+    size_t count = sizeof examples / sizeof examples[0];
+    size_t agreeing = 0;
+    for (size_t e = 0; e < count; e++) {
+        take_text(&case_sheet, examples[e].sheet);
+        take_text(&case_patches, examples[e].patches);
+        take_text(&case_expected, examples[e].listing);
+        int same = examples[e].listing == NULL || prints_expected(0);
+        take_text(&case_expected, examples[e].verdict);
+        same = prints_expected(1) && same;
+        if (!same) {
+            printf("differs: example %zu\n", e);
+        }
+        agreeing += (size_t)same;
+    }
+    printf("examples=%zu agree=%zu\n", count, agreeing);
+    return agreeing == count ? 0 : 1;
+}
+
+/* ---- The command ---- */
+
+static int explain(void)
+{
+    fputs("reference cases DIR | list FILE | check SHEET PATCHES | rewrite FILE | self N SEED\n"
+          "(a FILE or SHEET of - is standard input)\n", stderr);
+    return 2;
+}
+
+int main(int count, char **given)
+{
+    if (count == 3 && strcmp(given[1], "cases") == 0) {
+        return run_cases(given[2]);
+    }
+    if (count == 4 && strcmp(given[1], "self") == 0) {
+        int differing = run_examples();
+        return self_run((size_t)strtoull(given[2], NULL, 10), strtoull(given[3], NULL, 10)) | differing;
+    }
+    if (count < 3 || !read_file(given[2], &case_sheet)) {
+        return explain();
+    }
+    if (count == 3 && strcmp(given[1], "list") == 0) {
+        list_program(stdout, &case_sheet);
+    } else if (count == 3 && strcmp(given[1], "rewrite") == 0) {
+        rewrite_program(stdout, &case_sheet);
+    } else if (count == 4 && strcmp(given[1], "check") == 0) {
+        read_file(given[3], &case_patches);
+        check_program(stdout, &case_sheet, &case_patches);
+    } else {
+        return explain();
+    }
+    return 0;
+}

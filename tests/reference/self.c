@@ -1,0 +1,871 @@
+/* Checks of the reference against itself, over generated surfaces, sets and texts. */
+
+#include "self.h"
+
+#include <stdio.h>
+#include <string.h>
+
+#include "generate.h"
+#include "reference.h"
+
+/* ---- Faults and tallies ---- */
+
+enum tally {
+    TALLY_PATCHED, TALLY_LOOPS, TALLY_LONG, TALLY_NO_COVER, TALLY_SPLIT, TALLY_ENUMERATED,
+    TALLY_IS_NO_COVER, TALLY_IS_COVER, TALLY_VERDICT, TALLY_READ, TALLY_WRONG_LINE, TALLIES
+};
+
+static const char *const tally_names[TALLIES] = {
+    "surfaces patched", "loops", "loops of state 2", "loops of state 3", "cycles of several loops",
+    "loops compared with all their covers", "lists tested that are no cover", "lists tested that are a cover",
+    "verdicts compared with all covers", "texts read and written again", "texts with a wrong line"};
+
+static size_t faults;
+static size_t tallies[TALLIES];
+static size_t patch_numbers[9];
+static size_t check_numbers[16];
+static uint64_t self_seed;
+
+static void expect(int holds, const char *what)
+{
+    if (!holds) {
+        faults += 1;
+        printf("seed %llu: %s\n", (unsigned long long)self_seed, what);
+    }
+}
+
+/* ---- Lent buffers ---- */
+
+/* A patcher's buffers with a mark in every place, as long as they can be lent. */
+#define GRID_ROOM (GENERATE_WORD_ROOM + 8)
+#define RING_ROOM (GENERATE_CORNER_ROOM + 8)
+#define PATCH_ROOM (3 * GENERATE_CORNER_ROOM + 8)
+#define MARK 0xa5
+
+static struct lent {
+    int32_t grid[GRID_ROOM];
+    uint16_t rings[RING_ROOM];
+    uint16_t lengths[RING_ROOM];
+    uint16_t states[RING_ROOM];
+    uint64_t weights[RING_ROOM];
+    uint16_t patches[PATCH_ROOM];
+} lent, other;
+
+static int is_marked(const void *bytes, size_t used, size_t size)
+{
+    const unsigned char *byte = bytes;
+    for (size_t b = used; b < size; b++) {
+        if (byte[b] != MARK) {
+            return 0;
+        }
+    }
+    return 1;
+}
+
+/* "everything after that stays." */
+static void expect_rest_stays(const struct lent *l, size_t words, size_t vertices, size_t loops,
+                              size_t run_loops, size_t corners)
+{
+    expect(is_marked(l->grid, words * sizeof l->grid[0], sizeof l->grid), "grid is written past its end");
+    expect(is_marked(l->rings, 2 * vertices, sizeof l->rings), "rings are written past their end");
+    expect(is_marked(l->lengths, 2 * loops, sizeof l->lengths), "lengths are written past their end");
+    expect(is_marked(l->states, 2 * run_loops, sizeof l->states), "states are written past their end");
+    expect(is_marked(l->weights, 8 * run_loops, sizeof l->weights), "weights are written past their end");
+    expect(is_marked(l->patches, 2 * corners, sizeof l->patches), "patches are written past their end");
+}
+
+static void patch_lent(const struct generated_surface *s, struct reference_patch_answer *answer)
+{
+    memset(&lent, MARK, sizeof lent);
+    reference_patch(s->words, s->word_count, s->corners, s->corner_count,
+                    lent.grid, s->lent[0], lent.rings, s->lent[1], lent.lengths, s->lent[2],
+                    lent.states, s->lent[3], lent.weights, s->lent[4], lent.patches, s->lent[5], answer);
+    expect_rest_stays(&lent, answer->number == 0 ? s->word_count : 0, answer->vertices, answer->loops,
+                      answer->loops, answer->corners);
+}
+
+static void check_lent(const struct generated_surface *s, const struct generated_set *set,
+                       struct reference_answer *answer)
+{
+    memset(&other, MARK, sizeof other);
+    reference_check(s->words, s->word_count, s->corners, s->corner_count,
+                    set->states, set->state_count, set->corners, set->corner_count,
+                    other.grid, s->lent[0], other.rings, s->lent[1], other.lengths, s->lent[2], answer);
+    expect_rest_stays(&other, answer->number == 0 || answer->number > 10 ? s->word_count : 0,
+                      answer->vertices, answer->loops, 0, 0);
+}
+
+/* ---- Loops ---- */
+
+/* Between two ring neighbours runs one open edge of the surface, not met before. */
+static void expect_ring(const struct generated_surface *s, const uint16_t *ring, size_t length,
+                        unsigned char *met)
+{
+    expect(length >= 3, "a ring has fewer than 3 vertices");
+    for (size_t v = 0; v < length; v++) {
+        size_t h = reference_find_edge(s->corners, s->corner_count, ring[v], ring[(v + 1) % length]);
+        expect(h != REFERENCE_NO_EDGE, "a ring position is no half-edge");
+        if (h != REFERENCE_NO_EDGE) {
+            expect(reference_is_open(s->corners, s->corner_count, h), "a ring position is not open");
+            expect(!met[h], "an open edge is in two ring positions");
+            met[h] = 1;
+        }
+        for (size_t w = 0; w < v; w++) {
+            expect(ring[w] != ring[v], "a ring has a vertex twice");
+        }
+    }
+}
+
+/* Each open edge lies in exactly one ring position. */
+static void expect_rings(const struct generated_surface *s, size_t loops, size_t vertices)
+{
+    static unsigned char met[GENERATE_CORNER_ROOM];
+    const uint16_t *ring = lent.rings;
+    size_t open = 0;
+    memset(met, 0, sizeof met);
+    for (size_t loop = 0; loop < loops; loop++) {
+        expect_ring(s, ring, lent.lengths[loop], met);
+        ring += lent.lengths[loop];
+    }
+    for (size_t h = 0; h < s->corner_count; h++) {
+        if (reference_is_open(s->corners, s->corner_count, h)) {
+            open += 1;
+            expect(met[h], "an open edge is in no ring");
+        }
+    }
+    expect(open == vertices, "ring vertices are not as many as open edges");
+    expect((size_t)(ring - lent.rings) == vertices, "the lengths do not add up to the ring vertices");
+}
+
+/* ---- A second look at the loops ---- */
+
+/* Whether the triangles of half-edges g and h share an edge at v, run through in both directions. */
+static int share_edge_at(const uint16_t *corners, size_t g, size_t h, uint16_t v)
+{
+    for (size_t a = g - g % 3; a < g - g % 3 + 3; a++) {
+        for (size_t b = h - h % 3; b < h - h % 3 + 3; b++) {
+            if (reference_start(corners, a) == reference_end(corners, b)
+                && reference_end(corners, a) == reference_start(corners, b)
+                && (reference_start(corners, a) == v || reference_end(corners, a) == v)) {
+                return 1;
+            }
+        }
+    }
+    return 0;
+}
+
+/* The open edge that leaves the end v of the open edge h in the fan of h: the fan is all triangles
+   at v that are reached from that of h over shared edges at v. Each is known by its edge that leaves v. */
+static size_t next_in_fan(const struct generated_surface *s, size_t h)
+{
+    static size_t fan[GENERATE_CORNER_ROOM];
+    static unsigned char in_fan[GENERATE_CORNER_ROOM];
+    uint16_t v = reference_end(s->corners, h);
+    size_t count = 1;
+    memset(in_fan, 0, sizeof in_fan);
+    fan[0] = reference_following(h);
+    in_fan[fan[0]] = 1;
+    for (size_t f = 0; f < count; f++) {
+        for (size_t g = 0; g < s->corner_count; g++) {
+            if (reference_start(s->corners, g) == v && !in_fan[g]
+                && share_edge_at(s->corners, g, fan[f], v)) {
+                in_fan[g] = 1;
+                fan[count] = g;
+                count += 1;
+            }
+        }
+    }
+    for (size_t f = 0; f < count; f++) {
+        if (reference_is_open(s->corners, s->corner_count, fan[f])) {
+            return fan[f];
+        }
+    }
+    return REFERENCE_NO_EDGE;
+}
+
+/* Takes out of a cycle, again and again, the loop that closes first; gives how many there were. */
+static size_t split_cycle(const uint16_t *corners, size_t *cycle, size_t count, uint16_t *rings,
+                          size_t *vertices)
+{
+    size_t loops = 0;
+    size_t last = 0;
+    while (last < count) {
+        uint16_t x = reference_end(corners, cycle[last]);
+        size_t first = 0;
+        while (first <= last && reference_start(corners, cycle[first]) != x) {
+            first += 1;
+        }
+        if (first > last) {
+            last += 1;
+            continue;
+        }
+        for (size_t e = first; e <= last; e++) {
+            rings[*vertices] = reference_start(corners, cycle[e]);
+            *vertices += 1;
+        }
+        memmove(cycle + first, cycle + last + 1, (count - last - 1) * sizeof cycle[0]);
+        count -= last + 1 - first;
+        last = 0;
+        loops += 1;
+    }
+    expect(count == 0, "a cycle leaves a path behind");
+    return loops;
+}
+
+/* The rings found over fans and whole cycles are those of the survey. */
+static void expect_second_look(const struct generated_surface *s, size_t loops, size_t vertices)
+{
+    static unsigned char walked[GENERATE_CORNER_ROOM];
+    static size_t cycle[GENERATE_CORNER_ROOM];
+    static uint16_t rings[GENERATE_CORNER_ROOM];
+    size_t seen_vertices = 0;
+    size_t seen_loops = 0;
+    memset(walked, 0, sizeof walked);
+    for (size_t first = 0; first < s->corner_count; first++) {
+        size_t count = 0;
+        size_t h = first;
+        if (!reference_is_open(s->corners, s->corner_count, first)) {
+            continue;
+        }
+        while (h != REFERENCE_NO_EDGE && !walked[h]) {
+            walked[h] = 1;
+            cycle[count] = h;
+            count += 1;
+            h = next_in_fan(s, h);
+        }
+        expect(count == 0 || h == first, "a cycle does not close");
+        size_t split = split_cycle(s->corners, cycle, count, rings, &seen_vertices);
+        tallies[TALLY_SPLIT] += split > 1;
+        seen_loops += split;
+    }
+    expect(seen_loops == loops && seen_vertices == vertices
+               && memcmp(rings, lent.rings, vertices * sizeof rings[0]) == 0,
+           "a second look finds other loops");
+}
+
+/* ---- Patches ---- */
+
+/* After patching no directed edge occurs twice, and the open edges left are those of unpatched loops. */
+static void expect_patched_surface(const struct generated_surface *s,
+                                   const struct reference_patch_answer *answer)
+{
+    static uint16_t all[GENERATE_CORNER_ROOM + PATCH_ROOM];
+    size_t count = s->corner_count + answer->corners;
+    size_t unpatched = 0;
+    size_t open = 0;
+    memcpy(all, s->corners, s->corner_count * sizeof all[0]);
+    memcpy(all + s->corner_count, lent.patches, answer->corners * sizeof all[0]);
+    for (size_t loop = 0; loop < answer->loops; loop++) {
+        tallies[TALLY_LONG] += lent.states[loop] == 2;
+        tallies[TALLY_NO_COVER] += lent.states[loop] == 3;
+        unpatched += lent.states[loop] == 1 ? 0 : lent.lengths[loop];
+    }
+    for (size_t h = 0; h < count; h++) {
+        size_t first = reference_find_edge(all, count, reference_start(all, h), reference_end(all, h));
+        expect(first == h, "a directed edge occurs twice after patching");
+        open += (size_t)reference_is_open(all, count, h);
+    }
+    expect(open == unpatched, "the open edges left are not those of unpatched loops");
+}
+
+/* ---- All covers of small loops ---- */
+
+/* All covers of a small loop, one after another: the least allowed weight, the
+   first cover of that weight in the order of the tie rule, and whether the
+   triangles asked about were met among the covers, with their weight and bars. */
+struct enumeration {
+    const struct reference_memo *memo;
+    int64_t least;
+    uint16_t best[3 * REFERENCE_LONGEST_LOOP];
+    uint16_t cover[3 * REFERENCE_LONGEST_LOOP];
+    size_t count;
+    const uint16_t *asked;
+    int met;
+    int met_barred;
+    int64_t met_weight;
+};
+
+/* Whether two lists of triangles are the same up to order and rotation: every
+   triangle of the one occurs as often in the other. */
+static int same_triangles(const uint16_t *a, const uint16_t *b, size_t triangles)
+{
+    for (size_t t = 0; t < triangles; t++) {
+        size_t in_a = 0;
+        size_t in_b = 0;
+        for (size_t u = 0; u < triangles; u++) {
+            for (size_t turn = 0; turn < 3; turn++) {
+                in_a += a[3 * u + turn] == a[3 * t] && a[3 * u + (turn + 1) % 3] == a[3 * t + 1]
+                    && a[3 * u + (turn + 2) % 3] == a[3 * t + 2];
+                in_b += b[3 * u + turn] == a[3 * t] && b[3 * u + (turn + 1) % 3] == a[3 * t + 1]
+                    && b[3 * u + (turn + 2) % 3] == a[3 * t + 2];
+            }
+        }
+        if (in_a != in_b) {
+            return 0;
+        }
+    }
+    return 1;
+}
+
+/* Takes note of one whole cover. */
+static void note_cover(struct enumeration *e)
+{
+    const struct reference_memo *memo = e->memo;
+    int64_t total = 0;
+    int barred = 0;
+    for (size_t h = 0; h < e->count; h++) {
+        size_t a = 0;
+        size_t b = 0;
+        while (memo->ring[a] != reference_start(e->cover, h)) {
+            a += 1;
+        }
+        while (memo->ring[b] != reference_end(e->cover, h)) {
+            b += 1;
+        }
+        barred = barred || reference_is_barred(memo, a, b);
+    }
+    for (size_t c = 0; c < e->count; c += 3) {
+        total += reference_weight(memo->grid, e->cover[c], e->cover[c + 1], e->cover[c + 2]);
+    }
+    if (!barred && (e->least == REFERENCE_NO_COVER || total < e->least)) {
+        e->least = total;
+        memcpy(e->best, e->cover, e->count * sizeof e->cover[0]);
+    }
+    if (e->asked != NULL && same_triangles(e->cover, e->asked, e->count / 3)) {
+        e->met = 1;
+        e->met_barred = barred;
+        e->met_weight = total;
+    }
+}
+
+/* Stretches still to be covered are kept on a pile; each choice of m is tried in turn, smallest first. */
+static void enumerate_covers(struct enumeration *e, const size_t (*pile)[2], size_t height)
+{
+    size_t higher[2 * REFERENCE_LONGEST_LOOP][2];
+    if (height == 0) {
+        note_cover(e);
+        return;
+    }
+    size_t i = pile[height - 1][0];
+    size_t k = pile[height - 1][1];
+    memcpy(higher, pile, (height - 1) * sizeof higher[0]);
+    if (k == i + 1) {
+        enumerate_covers(e, (const size_t (*)[2])higher, height - 1);
+        return;
+    }
+    for (size_t m = i + 1; m < k; m++) {
+        const uint16_t *ring = e->memo->ring;
+        const uint16_t triangle[3] = {ring[i], ring[k], ring[m]};
+        memcpy(e->cover + e->count, triangle, sizeof triangle);
+        e->count += 3;
+        higher[height - 1][0] = m;
+        higher[height - 1][1] = k;
+        higher[height][0] = i;
+        higher[height][1] = m;
+        enumerate_covers(e, (const size_t (*)[2])higher, height + 1);
+        e->count -= 3;
+    }
+}
+
+static void enumerate_loop(struct enumeration *e, const struct reference_memo *memo, const uint16_t *asked)
+{
+    const size_t pile[1][2] = {{0, memo->length - 1}};
+    e->memo = memo;
+    e->least = REFERENCE_NO_COVER;
+    e->count = 0;
+    e->asked = asked;
+    e->met = 0;
+    enumerate_covers(e, pile, 1);
+}
+
+#define MOST_ENUMERATED 8
+
+/* The patcher's choice on a small loop against all its covers. */
+static void expect_least_cover(const struct generated_surface *s, size_t loop,
+                               const uint16_t *ring, size_t laid)
+{
+    static struct reference_memo memo;
+    static struct enumeration e;
+    size_t length = lent.lengths[loop];
+    if (length > MOST_ENUMERATED) {
+        return;
+    }
+    reference_fill_memo(&memo, lent.grid, ring, length, s->corners, s->corner_count, lent.patches, laid);
+    enumerate_loop(&e, &memo, NULL);
+    if (e.least == REFERENCE_NO_COVER) {
+        expect(lent.states[loop] == 3, "a loop without an allowed cover has not state 3");
+        return;
+    }
+    expect(lent.states[loop] == 1, "a loop with an allowed cover has not state 1");
+    expect(lent.weights[loop] == (uint64_t)e.least, "the weight is not the least");
+    expect(memcmp(e.best, lent.patches + laid, 3 * (length - 2) * sizeof e.best[0]) == 0,
+           "the cover is not the first of the least ones");
+    tallies[TALLY_ENUMERATED] += 1;
+}
+
+static void expect_least_covers(const struct generated_surface *s, size_t loops)
+{
+    const uint16_t *ring = lent.rings;
+    size_t laid = 0;
+    for (size_t loop = 0; loop < loops; loop++) {
+        expect_least_cover(s, loop, ring, laid);
+        laid += lent.states[loop] == 1 ? 3 * (lent.lengths[loop] - (size_t)2) : 0;
+        ring += lent.lengths[loop];
+    }
+}
+
+/* The test of a cover on small loops of a set against all covers. */
+static void expect_cover_test(const struct generated_surface *s,
+                              const struct generated_set *set, size_t loops)
+{
+    static struct reference_memo memo;
+    static struct enumeration e;
+    const uint16_t *ring = lent.rings;
+    size_t taken = 0;
+    for (size_t loop = 0; loop < loops && loop < set->state_count; loop++) {
+        size_t length = lent.lengths[loop];
+        size_t corners = 3 * (length - 2);
+        if (set->states[loop] == 1 && length <= MOST_ENUMERATED && taken + corners <= set->corner_count) {
+            reference_fill_memo(&memo, lent.grid, ring, length, s->corners, s->corner_count, NULL, 0);
+            enumerate_loop(&e, &memo, set->corners + taken);
+            expect(e.met == reference_is_cover(ring, length, set->corners + taken),
+                   "the test of a cover is wrong");
+            tallies[e.met ? TALLY_IS_COVER : TALLY_IS_NO_COVER] += 1;
+        }
+        taken += set->states[loop] == 1 ? corners : 0;
+        ring += length;
+    }
+}
+
+/* ---- The checker ---- */
+
+/* The verdict on one small loop, told from all its covers. */
+static size_t verdict_from_covers(const struct reference_memo *memo, size_t state,
+                                  const uint16_t *next, size_t left)
+{
+    static struct enumeration e;
+    int there = left >= 3 * (memo->length - 2);
+    enumerate_loop(&e, memo, state == 1 && there ? next : NULL);
+    if (state != 1 && (state != 3 || e.least != REFERENCE_NO_COVER)) {
+        return 11;
+    }
+    if (state == 3) {
+        return 0;
+    }
+    if (!e.met) {
+        return 12;
+    }
+    if (e.met_barred) {
+        return 13;
+    }
+    return e.met_weight > e.least ? 14 : 0;
+}
+
+/* The verdict on a set, told from all covers where every loop up to it is small. */
+static void expect_verdict(const struct generated_surface *s, const struct generated_set *set,
+                           size_t loops)
+{
+    static struct reference_memo memo;
+    struct reference_answer answer;
+    const uint16_t *ring = lent.rings;
+    size_t taken = 0;
+    size_t verdict = 0;
+    size_t place = 0;
+    for (size_t loop = 0; loop < loops && set->state_count == loops && verdict == 0; loop++) {
+        size_t length = lent.lengths[loop];
+        if (length > MOST_ENUMERATED) {
+            return;
+        }
+        reference_fill_memo(&memo, lent.grid, ring, length, s->corners, s->corner_count,
+                            set->corners, taken);
+        verdict = verdict_from_covers(&memo, set->states[loop], set->corners + taken,
+                                      set->corner_count - taken);
+        place = verdict != 0 ? loop : 0;
+        taken += set->states[loop] == 1 ? 3 * (length - 2) : 0;
+        ring += length;
+    }
+    if (verdict == 0 && taken < set->corner_count) {
+        verdict = 15;
+        place = taken;
+    }
+    check_lent(s, set, &answer);
+    if (set->state_count != loops) {
+        expect(answer.number == 9 && answer.place == loops, "a wrong number of states is not 9");
+    } else {
+        expect(answer.number == verdict && answer.place == place, "a verdict is not that of all covers");
+        tallies[TALLY_VERDICT] += 1;
+    }
+}
+
+/* The patcher's own set is passed, as it stands. */
+static void expect_own_set_passes(const struct generated_surface *s,
+                                  const struct reference_patch_answer *patch)
+{
+    static struct generated_set own;
+    struct reference_answer verdict;
+    own.state_count = patch->loops;
+    own.corner_count = patch->corners;
+    memcpy(own.states, lent.states, patch->loops * sizeof own.states[0]);
+    memcpy(own.corners, lent.patches, patch->corners * sizeof own.corners[0]);
+    check_lent(s, &own, &verdict);
+    expect(verdict.number == 0 && verdict.place == 0, "the patcher's own set is not passed");
+    expect(verdict.loops == patch->loops && verdict.vertices == patch->vertices,
+           "the checker counts otherwise");
+    expect(memcmp(other.grid, lent.grid, sizeof lent.grid) == 0, "the checker leaves another grid");
+    expect(memcmp(other.rings, lent.rings, sizeof lent.rings) == 0, "the checker leaves other rings");
+    expect(memcmp(other.lengths, lent.lengths, sizeof lent.lengths) == 0, "the checker leaves other lengths");
+}
+
+/* A refusal of patcher, checker and survey is one and the same, but for buffers 4 to 6. */
+static void expect_same_refusal(const struct generated_surface *s, const struct generated_set *set,
+                                const struct reference_patch_answer *patch)
+{
+    struct reference_answer check;
+    struct reference_answer survey;
+    check_lent(s, set, &check);
+    memset(&other, MARK, sizeof other);
+    reference_survey(s->words, s->word_count, s->corners, s->corner_count, other.grid, s->lent[0],
+                     other.rings, s->lent[1], other.lengths, s->lent[2], &survey);
+    if (patch->number != 0 && !(patch->number == 3 && patch->place > 3)) {
+        expect(check.number == patch->number && check.place == patch->place,
+               "the checker refuses otherwise");
+        expect(survey.number == patch->number && survey.place == patch->place,
+               "the survey refuses otherwise");
+    }
+    if (survey.number == 0) {
+        expect(check.number != 9 || check.place == survey.loops, "9 has another place than the loop count");
+        expect(check.number == 9 || check.loops == survey.loops, "the checker has other loops");
+    } else {
+        expect(check.loops == 0 && check.vertices == 0 && survey.loops == 0 && survey.vertices == 0
+                   && patch->loops == 0 && patch->vertices == 0 && patch->corners == 0,
+               "a refusal has a count");
+    }
+    patch_numbers[patch->number] += 1;
+    check_numbers[check.number] += 1;
+}
+
+/* ---- Texts ---- */
+
+static size_t count_lines(const uint8_t *text, size_t length)
+{
+    size_t lines = 0;
+    for (size_t b = 0; b < length; b++) {
+        lines += text[b] == '\n';
+    }
+    return lines;
+}
+
+/* Writing what was read gives the same text; a buffer short by one is refused. */
+static void expect_written_again(const uint8_t *text, size_t length, const uint32_t *words,
+                                 const uint16_t *corners, const struct reference_read_answer *read)
+{
+    static uint8_t written[REFERENCE_LONGEST_TEXT];
+    struct reference_write_answer answer;
+    memset(written, MARK, sizeof written);
+    reference_write(words, read->words, corners, read->corners, written, length - 1, &answer);
+    expect(answer.number == 3 && answer.place == 1 && answer.bytes == 0
+               && is_marked(written, 0, sizeof written),
+           "a text buffer short by one is not refused");
+    reference_write(words, read->words, corners, read->corners, written, length, &answer);
+    expect(answer.number == 0 && answer.place == 0 && answer.bytes == length
+               && memcmp(written, text, length) == 0 && is_marked(written, length, sizeof written),
+           "writing what was read gives another text");
+    tallies[TALLY_READ] += 1;
+}
+
+/* A reader's buffer short by one is refused, words first, and nothing is written. */
+static void expect_short_refused(const uint8_t *text, size_t length, const struct reference_read_answer *read)
+{
+    static uint32_t words[REFERENCE_MOST_WORDS];
+    static uint16_t corners[REFERENCE_MOST_CORNERS];
+    struct reference_read_answer answer;
+    size_t word_room = read->words > 0 ? read->words - 1 : 0;
+    size_t corner_room = read->corners > 0 ? read->corners - 1 : 0;
+    memset(words, MARK, sizeof words);
+    memset(corners, MARK, sizeof corners);
+    if (read->words > 0) {
+        reference_read(text, length, words, word_room, corners, corner_room, &answer);
+        expect(answer.number == 3 && answer.place == 1, "words short by one are not refused");
+    }
+    if (read->corners > 0) {
+        reference_read(text, length, words, read->words, corners, corner_room, &answer);
+        expect(answer.number == 3 && answer.place == 2, "corners short by one are not refused");
+    }
+    expect(is_marked(words, 0, sizeof words) && is_marked(corners, 0, sizeof corners),
+           "a refused reader writes");
+}
+
+/* A surface with faults is written, or refused with 1, 2 or 4 and nothing written. */
+static void expect_surface_written(const struct generated_surface *s)
+{
+    static uint8_t plain[GENERATE_TEXT_ROOM];
+    static uint8_t text[GENERATE_TEXT_ROOM];
+    struct reference_write_answer answer;
+    size_t length = generate_sheet_text(s, plain);
+    memset(text, MARK, sizeof text);
+    reference_write(s->words, s->word_count, s->corners, s->corner_count, text, sizeof text, &answer);
+    if (answer.number == 0) {
+        expect(answer.bytes == length && memcmp(text, plain, length) == 0, "a surface is written otherwise");
+    } else {
+        expect(answer.number == 1 || answer.number == 2 || answer.number == 4,
+               "the writer gives a number that is not its own");
+        expect(answer.bytes == 0, "a refused writer counts bytes");
+    }
+    expect(is_marked(text, answer.bytes, sizeof text), "a text is written past its end");
+}
+
+/* A text, whole or damaged, is read and written again or has its fault within its lines. */
+static void expect_sheet_text(struct generator *generator, const struct generated_surface *s)
+{
+    static uint8_t text[GENERATE_TEXT_ROOM];
+    static uint32_t words[REFERENCE_MOST_WORDS];
+    static uint16_t corners[REFERENCE_MOST_CORNERS];
+    struct reference_read_answer read;
+    size_t length = generate_sheet_text(s, text);
+    if (generate_below(generator, 2) == 0) {
+        length = generate_text_damage(generator, text, length);
+    }
+    memset(words, MARK, sizeof words);
+    memset(corners, MARK, sizeof corners);
+    reference_read(text, length, words, REFERENCE_MOST_WORDS, corners, REFERENCE_MOST_CORNERS, &read);
+    expect(is_marked(words, read.words * sizeof words[0], sizeof words), "words past their end");
+    expect(is_marked(corners, read.corners * sizeof corners[0], sizeof corners), "corners past their end");
+    if (read.number == 0) {
+        expect_written_again(text, length, words, corners, &read);
+        expect_short_refused(text, length, &read);
+    } else if (read.number == 10) {
+        expect(read.place >= 1 && read.place <= count_lines(text, length) + 1,
+               "a wrong line lies past the text");
+        tallies[TALLY_WRONG_LINE] += 1;
+    } else {
+        expect(read.number == 4, "the reader gives a number that is not its own");
+    }
+}
+
+/* Whether a set can be told in a text. */
+static int is_tellable(const struct generated_set *set)
+{
+    if (set->state_count > REFERENCE_MOST_STATES || set->corner_count % 3 != 0
+        || set->corner_count > 3 * REFERENCE_MOST_SET_TRIANGLES) {
+        return 0;
+    }
+    for (size_t s = 0; s < set->state_count; s++) {
+        if (set->states[s] > 9) {
+            return 0;
+        }
+    }
+    for (size_t c = 0; c < set->corner_count; c++) {
+        if (set->corners[c] >= REFERENCE_MOST_POINTS) {
+            return 0;
+        }
+    }
+    return 1;
+}
+
+/* The text of a set comes back as the set where it can be told, and else is a wrong line. */
+static void expect_set_text(const struct generated_set *set)
+{
+    static uint8_t text[GENERATE_TEXT_ROOM];
+    static uint16_t states[REFERENCE_MOST_STATES];
+    static uint16_t corners[3 * REFERENCE_MOST_SET_TRIANGLES];
+    struct reference_set_answer answer;
+    size_t length = generate_set_text(set, text);
+    reference_read_set(text, length, 1, states, REFERENCE_MOST_STATES,
+                       corners, 3 * REFERENCE_MOST_SET_TRIANGLES, &answer);
+    if (is_tellable(set)) {
+        expect(answer.number == 0 && answer.states == set->state_count && answer.corners == set->corner_count
+                   && memcmp(states, set->states, answer.states * sizeof states[0]) == 0
+                   && memcmp(corners, set->corners, answer.corners * sizeof corners[0]) == 0,
+               "a set read from its text is another");
+    } else if (set->corner_count % 3 == 0) {
+        expect(answer.number == 10 && answer.place >= 1 && answer.place <= count_lines(text, length),
+               "a set that cannot be told is read from a text");
+    }
+}
+
+/* A damaged set text is read, or has its fault within its lines, counted from its first. */
+static void expect_damaged_set_text(struct generator *generator, const struct generated_set *set)
+{
+    static uint8_t text[GENERATE_TEXT_ROOM];
+    static uint16_t states[REFERENCE_MOST_STATES];
+    static uint16_t corners[3 * REFERENCE_MOST_SET_TRIANGLES];
+    struct reference_set_answer answer;
+    size_t first = 1 + generate_below(generator, 2050);
+    size_t length = generate_text_damage(generator, text, generate_set_text(set, text));
+    reference_read_set(text, length, first, states, REFERENCE_MOST_STATES,
+                       corners, 3 * REFERENCE_MOST_SET_TRIANGLES, &answer);
+    expect(answer.number == 0 || answer.number == 10, "the set's reader gives a number that is not its own");
+    if (answer.number == 10) {
+        expect(answer.place >= first && answer.place <= first + count_lines(text, length),
+               "a set's wrong line lies past the text");
+        expect(answer.states == 0 && answer.corners == 0, "a refused set has a count");
+    } else if (answer.corners > 0) {
+        reference_read_set(text, length, first, states, answer.states, corners, answer.corners - 1, &answer);
+        expect(answer.number == 3 && answer.place == 2, "set corners short by one are not refused");
+    }
+}
+
+/* ---- Weights ---- */
+
+/* Twice the shadow of a triangle on the plane of two axes, by its three corners alike. */
+static int64_t twice_shadow(const int32_t *a, const int32_t *b, const int32_t *c, size_t x, size_t y)
+{
+    int64_t area = (int64_t)a[x] * (b[y] - c[y]) + (int64_t)b[x] * (c[y] - a[y])
+        + (int64_t)c[x] * (a[y] - b[y]);
+    return area < 0 ? -area : area;
+}
+
+/* "twice the sum of its shadows on the three planes. It is at most 25,768,230,936." */
+static void expect_weights(struct generator *generator, size_t points)
+{
+    for (size_t n = 0; points > 0 && n < 10; n++) {
+        uint16_t a = (uint16_t)generate_below(generator, points);
+        uint16_t b = (uint16_t)generate_below(generator, points);
+        uint16_t c = (uint16_t)generate_below(generator, points);
+        const int32_t *p = lent.grid + 3 * (size_t)a;
+        const int32_t *q = lent.grid + 3 * (size_t)b;
+        const int32_t *r = lent.grid + 3 * (size_t)c;
+        int64_t weight = reference_weight(lent.grid, a, b, c);
+        expect(weight == twice_shadow(p, q, r, 0, 1) + twice_shadow(p, q, r, 1, 2)
+                   + twice_shadow(p, q, r, 2, 0),
+               "a weight is not twice its shadows");
+        expect(weight <= 25768230936, "a weight is above the bound");
+    }
+}
+
+/* ---- Coordinates ---- */
+
+/* A finite word as a whole number of 2^-60; gives 0 where it is none. */
+static int scaled(uint32_t word, __int128 *value)
+{
+    int field = (int)((word >> 23) & 0xff);
+    __int128 magnitude = (word & 0x7fffff) | (field == 0 ? 0u : 0x800000u);
+    int shift = (field == 0 ? 1 : field) - 150 + 60;
+    *value = 0;
+    if (magnitude == 0) {
+        return 1;
+    }
+    if (shift < 0 || shift > 90) {
+        return 0;
+    }
+    *value = (word >> 31) != 0 ? -(magnitude << shift) : magnitude << shift;
+    return 1;
+}
+
+/* "The rest is the value less the whole number; it is always exactly a
+   binary32 number, at most one half in size." "a tie going to the even one". */
+static void expect_parts(__int128 value, int32_t whole, uint32_t rest)
+{
+    const __int128 one = (__int128)1 << 60;
+    __int128 left;
+    expect(scaled(rest, &left) && value == whole * one + left, "a value is not its whole number and rest");
+    expect(2 * left <= one && -2 * left <= one, "a rest is more than a half");
+    expect((2 * left != one && -2 * left != one) || whole % 2 == 0, "a tie goes to the odd one");
+    expect(whole >= -32767 && whole <= 32767, "a whole number is too far");
+    expect(left != 0 || rest == 0, "the rest of an exact word is not 0");
+}
+
+static void expect_coordinate(uint32_t word)
+{
+    const __int128 one = (__int128)1 << 60;
+    uint32_t field = (word >> 23) & 0xff;
+    int32_t whole;
+    uint32_t rest;
+    __int128 value;
+    int number = reference_coordinate(word, &whole, &rest);
+    expect((number == 7) == (field == 255), "not finite is told wrongly");
+    if (number == 7) {
+        expect(whole == 0 && rest == 0, "a word that is not finite has parts");
+    } else if (field > 180) {
+        expect(number == 8 && rest == word, "a large word is not too far");
+    } else if (!scaled(word, &value)) {
+        expect(number == 0 && whole == 0 && rest == word, "a tiny word is not its own rest");
+    } else if (number == 8) {
+        expect((2 * value >= 65535 * one || -2 * value >= 65535 * one) && rest == word,
+               "a word is called too far that is not");
+    } else {
+        expect_parts(value, whole, rest);
+    }
+}
+
+/* "0.5 gives 0 rest 0.5; 1.5 gives 2 rest -0.5; -1.5 gives -2 rest 0.5;
+   32767.498046875 gives 32,767; 32767.5 is too far. Infinity is not finite." */
+static void expect_coordinate_examples(void)
+{
+    static const struct {
+        uint32_t word;
+        int number;
+        int32_t whole;
+        uint32_t rest;
+    } rows[8] = {
+        {0x3f000000, 0, 0, 0x3f000000}, {0x3fc00000, 0, 2, 0xbf000000}, {0xbfc00000, 0, -2, 0x3f000000},
+        {0x46fffeff, 0, 32767, 0x3eff0000}, {0x46ffff00, 8, 0, 0x46ffff00}, {0x7f800000, 7, 0, 0},
+        {0x00000000, 0, 0, 0}, {0x80000000, 0, 0, 0}};
+    for (size_t r = 0; r < 8; r++) {
+        int32_t whole;
+        uint32_t rest;
+        int number = reference_coordinate(rows[r].word, &whole, &rest);
+        expect(number == rows[r].number && whole == rows[r].whole && rest == rows[r].rest,
+               "an example of a coordinate comes out otherwise");
+    }
+}
+
+/* ---- The run ---- */
+
+static void self_check(struct generator *generator)
+{
+    static struct generated_surface surface;
+    static struct generated_set set;
+    struct reference_patch_answer patch;
+    if (generate_below(generator, 4) == 0) {
+        generate_sound_surface(generator, &surface);
+    } else {
+        generate_surface(generator, &surface);
+    }
+    patch_lent(&surface, &patch);
+    generate_set(generator, &surface, &set);
+    if (patch.number == 0) {
+        expect_rings(&surface, patch.loops, patch.vertices);
+        expect_second_look(&surface, patch.loops, patch.vertices);
+        expect_patched_surface(&surface, &patch);
+        expect_least_covers(&surface, patch.loops);
+        expect_cover_test(&surface, &set, patch.loops);
+        expect_own_set_passes(&surface, &patch);
+        expect_verdict(&surface, &set, patch.loops);
+        expect_weights(generator, surface.word_count / 3);
+        tallies[TALLY_PATCHED] += 1;
+        tallies[TALLY_LOOPS] += patch.loops;
+    }
+    expect_same_refusal(&surface, &set, &patch);
+    expect_sheet_text(generator, &surface);
+    expect_surface_written(&surface);
+    expect_set_text(&set);
+    expect_damaged_set_text(generator, &set);
+    for (size_t w = 0; w < 20; w++) {
+        expect_coordinate(generate_word(generator));
+    }
+}
+
+int self_run(size_t count, uint64_t seed)
+{
+    struct generator generator;
+    expect_coordinate_examples();
+    for (size_t n = 0; n < count; n++) {
+        self_seed = seed + n;
+        generate_start(&generator, self_seed);
+        self_check(&generator);
+    }
+    for (size_t t = 0; t < TALLIES; t++) {
+        printf("%s: %zu\n", tally_names[t], tallies[t]);
+    }
+    printf("patcher's numbers 0 to 8:");
+    for (size_t number = 0; number < 9; number++) {
+        printf(" %zu", patch_numbers[number]);
+    }
+    printf("\nchecker's numbers 0 to 15:");
+    for (size_t number = 0; number < 16; number++) {
+        printf(" %zu", check_numbers[number]);
+    }
+    printf("\nsurfaces=%zu faults=%zu\n", count, faults);
+    return faults == 0 ? 0 : 1;
+}

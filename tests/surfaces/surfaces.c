@@ -1,0 +1,136 @@
+/* Compares wazelpunt_survey with the plain reference on made surfaces, sound and damaged: the answer, and every byte of every
+   lent buffer with what lies before and behind it.
+   surfaces COUNT SEED: that many surfaces, from that seed on. */
+#include <inttypes.h>
+#include <stdint.h>
+#include <stdio.h>
+#include <stdlib.h>
+#include <string.h>
+
+#include "../reference/generate.h"
+#include "../reference/reference.h"
+#include "wazelpunt.h"
+
+#define ROOM 4096
+#define GUARD 16
+
+/* the lent buffers 1 to 3, each between guards */
+struct lent {
+    int32_t grid[ROOM + 2 * GUARD];
+    uint16_t rings[ROOM + 2 * GUARD];
+    uint16_t lengths[ROOM + 2 * GUARD];
+};
+
+static struct lent before, ours, theirs;
+static size_t refused[11], loops;
+
+static void fill(struct lent *room, struct generator *generator) {
+    uint8_t *bytes = (uint8_t *)room;
+    for (size_t i = 0; i < sizeof *room; i++) bytes[i] = (uint8_t)generate_bits(generator);
+}
+
+static int agree(const struct generated_surface *surface) {
+    struct reference_answer due, said;
+    ours = theirs = before;
+    said.number = wazelpunt_survey(surface->words, surface->word_count, surface->corners, surface->corner_count, ours.grid + GUARD, surface->lent[0], ours.rings + GUARD, surface->lent[1], ours.lengths + GUARD, surface->lent[2], &said.place, &said.loops, &said.vertices);
+    reference_survey(surface->words, surface->word_count, surface->corners, surface->corner_count, theirs.grid + GUARD, surface->lent[0], theirs.rings + GUARD, surface->lent[1], theirs.lengths + GUARD, surface->lent[2], &due);
+    refused[due.number]++;
+    loops += due.loops;
+    if (said.number != due.number || said.place != due.place || said.loops != due.loops || said.vertices != due.vertices) {
+        printf("answered %zu, %zu, %zu, %zu; due %zu, %zu, %zu, %zu\n", said.number, said.place, said.loops, said.vertices, due.number, due.place, due.loops, due.vertices);
+        return 0;
+    }
+    if (memcmp(&ours, &theirs, sizeof ours) != 0) {
+        printf("a buffer differs, answer %zu\n", due.number);
+        return 0;
+    }
+    return 1;
+}
+
+/* The bench's examples of surfaces and some more, each with what the scope says of it: the answer's number and place, then the
+   rings, each ended by -1. */
+struct example {
+    const char *name;
+    size_t points;
+    size_t corner_count;
+    uint16_t corners[24];
+    size_t number, place;
+    int rings[16];
+};
+
+static const struct example examples[] = {
+    {"no triangles", 3, 0, {0}, 0, 0, {0}},
+    {"no points", 0, 0, {0}, 0, 0, {0}},
+    {"one triangle", 3, 3, {0, 1, 2}, 0, 0, {0, 1, 2, -1}},
+    {"a half-edge repeated", 4, 6, {0, 1, 2, 0, 1, 3}, 6, 3, {0}},
+    {"a point named twice", 2, 3, {0, 0, 1}, 5, 0, {0}},
+    {"5 before 6", 4, 9, {0, 1, 2, 0, 1, 3, 1, 2, 1}, 5, 2, {0}},
+    {"4 before 5", 3, 6, {0, 0, 1, 0, 1, 3}, 4, 5, {0}},
+    {"bow-tie", 5, 6, {0, 1, 2, 0, 3, 4}, 0, 0, {0, 1, 2, -1, 0, 3, 4, -1}},
+    {"pinched strip", 5, 12, {0, 1, 2, 2, 1, 3, 2, 3, 4, 4, 3, 0}, 0, 0, {0, 1, 3, -1, 0, 4, 2, -1}},
+    {"tetrahedron", 4, 12, {0, 1, 2, 0, 2, 3, 0, 3, 1, 1, 3, 2}, 0, 0, {0}},
+    {"pillow", 3, 6, {0, 1, 2, 0, 2, 1}, 0, 0, {0}},
+    {"a vertex met three times in one cycle", 7, 21, {6, 0, 1, 2, 0, 3, 4, 0, 5, 1, 2, 3, 1, 3, 4, 1, 4, 5, 1, 5, 6}, 0, 0, {0, 1, 2, -1, 0, 3, 4, -1, 6, 0, 5, -1}},
+};
+
+static int shows(const struct example *example) {
+    static const uint32_t words[3 * 8];
+    size_t place, loops, vertices, due_loops = 0, due_vertices = 0;
+    uint32_t number = wazelpunt_survey(words, 3 * example->points, example->corners, example->corner_count, ours.grid, ROOM, ours.rings, ROOM, ours.lengths, ROOM, &place, &loops, &vertices);
+    int right = number == example->number && place == example->place;
+    size_t length = 0;
+    for (int i = 0; right && i < 16 && due_vertices <= vertices; i++) {
+        if (example->rings[i] == -1) {
+            right = ours.lengths[due_loops++] == length;
+            length = 0;
+        } else if (example->rings[i] == 0 && length == 0 && (i == 15 || example->rings[i + 1] == 0)) {
+            break;
+        } else {
+            right = ours.rings[due_vertices++] == example->rings[i];
+            length++;
+        }
+    }
+    right = right && loops == due_loops && vertices == due_vertices;
+    if (!right) printf("example \"%s\": answered %" PRIu32 ", %zu with %zu loops of %zu vertices\n", example->name, number, place, loops, vertices);
+    return right;
+}
+
+/* A cone of n triangles about its last point has one loop of n edges. */
+static int cone(size_t n) {
+    static uint32_t words[3 * 128];
+    static uint16_t corners[3 * 128];
+    size_t place, loops, vertices;
+    for (size_t i = 0; i < n; i++) {
+        corners[3 * i] = (uint16_t)i;
+        corners[3 * i + 1] = (uint16_t)((i + 1) % n);
+        corners[3 * i + 2] = (uint16_t)n;
+    }
+    uint32_t number = wazelpunt_survey(words, 3 * (n + 1), corners, 3 * n, ours.grid, ROOM, ours.rings, ROOM, ours.lengths, ROOM, &place, &loops, &vertices);
+    int right = number == 0 && loops == 1 && vertices == n && ours.lengths[0] == n && ours.rings[0] == 0 && ours.rings[n - 1] == n - 1;
+    if (!right) printf("cone of %zu: answered %" PRIu32 "\n", n, number);
+    return right;
+}
+
+int main(int count, char **arguments) {
+    size_t many = count > 1 ? strtoull(arguments[1], 0, 10) : 20000;
+    uint64_t seed = count > 2 ? strtoull(arguments[2], 0, 10) : 20261115;
+    size_t wrong = 0, named = sizeof examples / sizeof examples[0];
+    static struct generated_surface surface;
+    for (size_t i = 0; i < named; i++) wrong += !shows(&examples[i]);
+    wrong += !cone(64) + !cone(65);
+    for (size_t i = 0; i < many; i++) {
+        struct generator generator;
+        generate_start(&generator, seed + i);
+        fill(&before, &generator);
+        if (i % 2 == 0) generate_sound_surface(&generator, &surface);
+        else generate_surface(&generator, &surface);
+        for (int b = 0; b < 3; b++)
+            if (surface.lent[b] > ROOM) surface.lent[b] = ROOM;
+        if (!agree(&surface) && wrong++ < 10) printf("surface of seed %" PRIu64 "\n", seed + i);
+    }
+    printf("surfaces: %zu examples, ", named + 2);
+    printf("%zu made from seed %" PRIu64 ", %zu wrong; %zu loops; by answer:", many, seed, wrong, loops);
+    for (int n = 0; n <= 8; n++) printf(" %d: %zu", n, refused[n]);
+    printf("\n");
+    return wrong != 0;
+}
