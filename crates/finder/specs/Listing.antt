@@ -1,17 +1,14 @@
 -- The loops as they are left in buffers: rings, lengths and first half-edges, each from its buffer's start.
 use mathlib.Core.Path.{_≡_}
-use mathlib.Core.List.{List, [], _∷_, _++_, map, flatten}
+use mathlib.Core.List.{List, map, flatten}
 use Prim.Native.Nat.{ℕ, _/_, _≤_, _<_}
-use lib.ListN.{length, getD, drop}
+use lib.ListN.{length, getD}
 use Rattle.limits.specs.Limits as limits
 use Rattle.surface.specs.Edges.{Sound}
+use Rattle.surface.specs.Buffers.{over}
 use Rattle.pairing.specs.Turns.{Turns}
 use Rattle.loops.specs.Loops.{loops, ring}
 use Rattle.finder.specs.declared.Listed.{Listed}
-
--- "Each is written from its start ... everything after that stays": a buffer with `front` laid over its start
-unfoldable pub over : List ℕ → List ℕ → List ℕ
-over front buffer = front ++ drop (length front) buffer
 
 -- all ring vertices, ring after ring
 unfoldable pub ringsOf : List ℕ → List (List ℕ) → List ℕ

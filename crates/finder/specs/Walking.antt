@@ -1,6 +1,6 @@
 -- What holds while the code walks, for the contracts of its private functions: these definitions are the code's own, and no part of the promise.
 use mathlib.Core.Path.{_≡_}
-use mathlib.Core.Bool.{Bool, true, false, _||_, cond}
+use mathlib.Core.Bool.{Bool, true, false, _||_}
 use mathlib.Core.List.{List, [], _∷_, _++_}
 use Prim.Native.Nat.{ℕ, zero, suc, _+_, _-_, _/_, _≤_, _<_}
 use lib.Dec.{eqb}
@@ -10,7 +10,8 @@ use Rattle.surface.specs.declared.Found.{Found}
 use Rattle.surface.specs.declared.Found.the-variants.{At, Nothing}
 use Rattle.surface.specs.Edges.{Sound, following, startOf, endOf, twin}
 use Rattle.pairing.specs.Turns.{openMark}
-use Rattle.loops.specs.Loops.{Split, startsAt, grow, cycle, leads, loopsBelow, ring}
+use Rattle.loops.specs.Loops.{Split, startsAt, grow, leads, loopsBelow}
+use Rattle.loops.proofs.Laws.Surfaces.{edgesBelow}
 use Rattle.finder.specs.Listing.{Lists}
 use Rattle.finder.specs.declared.Listed.{Listed}
 
@@ -34,11 +35,6 @@ turnNow Nothing false e = openMark + following e
 -- the table has every half-edge's turn, once the edges `walked` were walked
 unfoldable pub Turned : List ℕ → List ℕ → List ℕ → Type 0
 Turned corners walked turns = (e : ℕ) → e < length corners → getD turns e 0 ≡ turnNow (twin corners e) (holds e walked) e
-
--- the edges of the cycles whose smallest is below k, in the order in which they are walked
-unfoldable pub cyclesBelow : List ℕ → ℕ → List ℕ
-cyclesBelow corners zero = []
-cyclesBelow corners (suc k) = let before = cyclesBelow corners k in before ++ cond (leads corners k) (cycle corners k) []
 
 -- none from h up to r is an open edge that was not walked
 unfoldable pub Quiet : List ℕ → ℕ → ℕ → Type 0
@@ -151,11 +147,11 @@ pub record CycleRoom (corners : List ℕ) (h : ℕ) (turns path places rings len
   pub room : Room corners turns path places rings lengths firsts
   pub edge : h < length corners
   pub leading : leads corners h ≡ true
-  pub turned : Turned corners (cyclesBelow corners h) turns
+  pub turned : Turned corners (edgesBelow corners h) turns
   pub no-path : from .path ≡ 0
   pub lists : Lists corners (loopsBelow corners h) rings lengths firsts from rings lengths firsts
 
 pub record CycleListed (corners : List ℕ) (h : ℕ) (rings lengths firsts turns′ : List ℕ) (r : Listed) (rings′ lengths′ firsts′ : List ℕ) : Type 0 where
-  pub turned : Turned corners (cyclesBelow corners (suc h)) turns′
+  pub turned : Turned corners (edgesBelow corners (suc h)) turns′
   pub no-path : r .path ≡ 0
   pub lists : Lists corners (loopsBelow corners (suc h)) rings lengths firsts r rings′ lengths′ firsts′

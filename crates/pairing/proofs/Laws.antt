@@ -1,5 +1,4 @@
 -- The laws of chains and of the table of turns, each file for one idea.
-pub mod Cases
 pub mod Tops
 pub mod Buckets
 pub mod Walks

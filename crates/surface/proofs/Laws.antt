@@ -1,4 +1,5 @@
--- The laws of searches and of half-edges, each file for one idea.
+-- The laws of tests, of searches and of half-edges, each file for one idea.
+pub mod Tests
 pub mod Smallest
 pub mod Edges
 pub mod Passes

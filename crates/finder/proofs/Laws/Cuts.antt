@@ -6,13 +6,15 @@ use native.Mathlib.Nat.{add-zero}
 use native.Mathlib.Omega.{arith}
 use lib.ListN.{length, getD, take, drop, set, length-append, length-drop, length-map}
 use lib.Seq.{getD-drop, getD-take}
+use Rattle.surface.specs.Buffers.{over}
 use Rattle.surface.specs.Edges.{startOf}
+use Rattle.surface.proofs.Laws.Over.{over-none, over-snoc, over-twice, over-self}
 use Rattle.finder.specs.declared.Listed.{Listed}
 use Rattle.loops.specs.Loops.{ring}
-use Rattle.finder.specs.Listing.{over, ringsOf, firstOf, Lists}
+use Rattle.finder.specs.Listing.{ringsOf, firstOf, Lists}
 use Rattle.finder.specs.Walking.{laid, part, CutRoom, WasCut}
-use Rattle.loops.proofs.Laws.Kept.{flatten-append, flatten-snoc, total}
-use Rattle.finder.proofs.Laws.Laid.{over-none, over-snoc, laid-over, over-twice, over-self, part-length}
+use Rattle.loops.proofs.Laws.Kept.{flatten-append, flatten-snoc}
+use Rattle.finder.proofs.Laws.Laid.{laid-over, part-length}
 
 pub rings-append : (corners : List ℕ) (a b : List (List ℕ)) → ringsOf corners (a ++ b) ≡ ringsOf corners a ++ ringsOf corners b
 unfolding ringsOf
@@ -21,15 +23,6 @@ rings-append corners a b = ap flatten (map-append (ring corners) a b) ∙ flatte
 rings-snoc : (corners : List ℕ) (ls : List (List ℕ)) (l : List ℕ) → ringsOf corners (ls ++ (l ∷ [])) ≡ ringsOf corners ls ++ ring corners l
 unfolding ringsOf
 rings-snoc corners ls l = ap flatten (map-append (ring corners) ls (l ∷ [])) ∙ flatten-snoc (map (ring corners) ls) (ring corners l)
-
--- the rings have as many vertices as the loops have edges
-pub rings-total : (corners : List ℕ) (ls : List (List ℕ)) → length (ringsOf corners ls) ≡ total ls
-unfolding ringsOf total flatten
-rings-total corners [] = refl
-rings-total corners (l ∷ ls) =
-    length-append (ring corners l) (flatten (map (ring corners) ls))
-    ∙ ap (λ (n : ℕ). n + length (ringsOf corners ls)) (length-map l (startOf corners))
-    ∙ ap (λ (n : ℕ). length l + n) (rings-total corners ls)
 
 -- room in a written buffer is room in the buffer
 room-before : (a w : List ℕ) (n : ℕ) → n ≡ length a → n < length (over a w) → n < length w
@@ -70,7 +63,7 @@ was-cut corners path j end rings lengths firsts at room rings′ w =
         item f w₀ v b q m e =
             let k : at .loops ≡ length (map f ls) = h .count ∙ sym (length-map ls f) in
             ap (λ (z : List ℕ). set z (at .loops) v) q
-            ∙ over-snoc (map f ls) w₀ v (at .loops) k (room-before (map f ls) w₀ (at .loops) k (subst (λ (z : List ℕ). at .loops < length z) q m))
+            ∙ over-snoc (map f ls) w₀ v 0 (at .loops) k (room-before (map f ls) w₀ (at .loops) k (subst (λ (z : List ℕ). at .loops < length z) q m))
             ∙ ap (λ (z : ℕ). over (map f ls ++ (z ∷ [])) w₀) (sym e)
             ∙ ap (λ (z : List ℕ). over z w₀) (sym (map-append f ls (l ∷ [])))
 

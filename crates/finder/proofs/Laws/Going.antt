@@ -1,6 +1,6 @@
 -- The walk around one cycle, edge by edge: an edge that was not walked is the cycle's next one, and one that was is the first again.
 use mathlib.Core.Path.{_≡_, refl, sym, ap, _∙_, subst}
-use mathlib.Core.Bool.{true}
+use mathlib.Core.Bool.{true, true≢false}
 use mathlib.Core.List.{List, [], _∷_, _++_, append-nil, append-assoc}
 use mathlib.Core.Logic.{⊎-elim}
 use Prim.Native.Nat.{ℕ, suc, _+_, _-_, _/_, _<_, _≤_}
@@ -10,23 +10,23 @@ use lib.ListN.{length, getD, take, set, length-set}
 use lib.Seq.{getD-take, take-all, length-take-le}
 use Rattle.surface.specs.declared.Found.the-variants.{At}
 use Rattle.surface.specs.Edges.{Sound, following, startOf, endOf, isOpen}
-use Rattle.surface.proofs.Laws.Smallest.{true-not-false}
 use Rattle.surface.proofs.Laws.Edges.{below-after}
 use Rattle.pairing.specs.Turns.{openMark}
 use Rattle.finder.specs.declared.Listed.{Listed}
 use Rattle.loops.specs.Next.{next}
 use Rattle.loops.specs.Loops.{Split, startsAt, grow, cycle, loopsOf, loopsBelow}
 use Rattle.finder.specs.Listing.{Lists, ringsOf}
-use Rattle.finder.specs.Walking.{walkedMark, Turned, cyclesBelow, Landing, Landed, Path, Stands, GrowRoom, Grew, CycleRoom, CycleListed}
+use Rattle.finder.specs.Walking.{walkedMark, Turned, Landing, Landed, Path, Stands, GrowRoom, Grew, CycleRoom, CycleListed}
 use Rattle.loops.proofs.Laws.Distinct.{Distinct}
 use Rattle.loops.proofs.Laws.Counts.{Among}
 use Rattle.loops.proofs.Laws.Places.{among-back}
 use Rattle.loops.proofs.Laws.Kept.{total}
 use Rattle.loops.proofs.Laws.Cycles.{ahead, ahead-below, ahead-open, cycle-some, cycle-at, cycle-begins, cycle-closes, cycle-distinct}
 use Rattle.loops.proofs.Laws.Leaders.{leads-open}
-use Rattle.finder.proofs.Laws.Cuts.{rings-total}
+use Rattle.loops.proofs.Laws.Members.{among-either}
+use Rattle.loops.proofs.Laws.Surfaces.{edgesBelow, edges-leader, loops-leader, cycle-new}
+use Rattle.loops.proofs.Laws.Middle.{rings-total}
 use Rattle.finder.proofs.Laws.Marks.{among-holds, OpenAt, open-at, walked-at, turned-same, turned-more, landing, landed-next}
-use Rattle.finder.proofs.Laws.Below.{either, cycle-new, cycles-more, loops-more}
 use Rattle.finder.proofs.Laws.After.{after, after-none, take-more, after-more, after-total, after-fits, after-room, after-free, after-all}
 
 -- k edges of the cycle of h were walked, and e is the next
@@ -34,7 +34,7 @@ pub record Going (corners : List ℕ) (h : ℕ) (turns₀ path₀ places₀ ring
   pub gone : ℕ
   pub short : gone ≤ length (cycle corners h)
   pub here : e ≡ ahead corners gone h
-  pub turned : Turned corners (cyclesBelow corners h ++ take gone (cycle corners h)) turns
+  pub turned : Turned corners (edgesBelow corners h ++ take gone (cycle corners h)) turns
   pub kept : Path corners path (at .path) places
   pub stands : Stands corners (after corners h gone) rings₀ lengths₀ firsts₀ path at rings lengths firsts
   pub turns-same : length turns ≡ length turns₀
@@ -59,7 +59,7 @@ module _ (corners : List ℕ) (h : ℕ) (turns₀ path₀ places₀ rings₀ len
         gone = 0;
         short = omega arith;
         here = refl;
-        turned = turned-same corners _ _ turns₀ (sym (append-nil (cyclesBelow corners h))) (pre .turned);
+        turned = turned-same corners _ _ turns₀ (sym (append-nil (edgesBelow corners h))) (pre .turned);
         kept = record { long = omega arith; edges = λ i l. absurd (omega arith); placed = λ i l. absurd (omega arith) };
         stands = rw (after-none corners h) (record { depth = z; along = ap (λ (d : ℕ). take d path₀) z; lists = pre .lists });
         turns-same = refl;
@@ -85,14 +85,15 @@ module _ (corners : List ℕ) (h : ℕ) (turns₀ path₀ places₀ rings₀ len
 
     -- how far the listing is
     sum : at .vertices + at .path ≡ total (after corners h (go .gone) .listed) + length (after corners h (go .gone) .path)
+    unfolding ringsOf
     sum =
         let a = go .stands .lists .vertices in
         let b = go .stands .depth in
         omega (arith, rings-total corners (after corners h (go .gone) .listed))
 
     module _ (m : openMark ≤ getD turns e 0) where
-      at-open : OpenAt corners (cyclesBelow corners h ++ take (go .gone) (cycle corners h)) turns e
-      at-open = open-at corners sound (pre .room .few) (cyclesBelow corners h ++ take (go .gone) (cycle corners h)) turns (go .turned) e going-edge m
+      at-open : OpenAt corners (edgesBelow corners h ++ take (go .gone) (cycle corners h)) turns e
+      at-open = open-at corners sound (pre .room .few) (edgesBelow corners h ++ take (go .gone) (cycle corners h)) turns (go .turned) e going-edge m
 
       -- after the whole cycle e would be h, which was walked
       pub more : go .gone < length (cycle corners h)
@@ -109,7 +110,7 @@ module _ (corners : List ℕ) (h : ℕ) (turns₀ path₀ places₀ rings₀ len
                 below = omega (arith, length-take-le (go .gone) (cycle corners h) (go .short));
                 is = getD-take (go .gone) (cycle corners h) 0 0 (omega arith) ∙ cycle-begins corners sound h (pre .edge) opens ∙ w;
               } in
-              true-not-false (sym (among-holds e _ (among-back e (cyclesBelow corners h) (take (go .gone) (cycle corners h)) a)) ∙ at-open .new)
+              true≢false (sym (among-holds e _ (among-back e (edgesBelow corners h) (take (go .gone) (cycle corners h)) a)) ∙ at-open .new)
 
       module _ (f : ℕ) (fe : f ≡ getD turns e 0 - openMark) where
         pub going-after : f ≡ following e
@@ -150,12 +151,12 @@ module _ (corners : List ℕ) (h : ℕ) (turns₀ path₀ places₀ rings₀ len
               firsts-room = λ j q. omega (arith, room j q, pre .room .firsts-long);
             }
 
-        marked : Turned corners (cyclesBelow corners h ++ take (suc (go .gone)) (cycle corners h)) (set turns e walkedMark)
+        marked : Turned corners (edgesBelow corners h ++ take (suc (go .gone)) (cycle corners h)) (set turns e walkedMark)
         marked =
             turned-same corners _ _ (set turns e walkedMark)
-            (append-assoc (cyclesBelow corners h) (take (go .gone) (cycle corners h)) (e ∷ [])
-            ∙ ap (λ (z : List ℕ). cyclesBelow corners h ++ z) (ap (λ (x : ℕ). take (go .gone) (cycle corners h) ++ (x ∷ [])) (go .here) ∙ sym (take-more corners sound h (pre .edge) (pre .leading) (go .gone) more)))
-            (turned-more corners sound (pre .room .few) (cyclesBelow corners h ++ take (go .gone) (cycle corners h)) turns (go .turned) e going-index edge-open)
+            (append-assoc (edgesBelow corners h) (take (go .gone) (cycle corners h)) (e ∷ [])
+            ∙ ap (λ (z : List ℕ). edgesBelow corners h ++ z) (ap (λ (x : ℕ). take (go .gone) (cycle corners h) ++ (x ∷ [])) (go .here) ∙ sym (take-more corners sound h (pre .edge) (pre .leading) (go .gone) more)))
+            (turned-more corners sound (pre .room .few) (edgesBelow corners h ++ take (go .gone) (cycle corners h)) turns (go .turned) e going-index edge-open)
 
         marked-long : length corners ≤ length (set turns e walkedMark)
         marked-long = rw length-set turns-long
@@ -191,9 +192,10 @@ module _ (corners : List ℕ) (h : ℕ) (turns₀ path₀ places₀ rings₀ len
               }
 
           pub going-less : length corners - (r .vertices + r .path) < length corners - (at .vertices + at .path)
+          unfolding ringsOf
           going-less =
-              let a : total (after corners h (go .gone) .listed) + length (after corners h (go .gone) .path) ≡ length (cyclesBelow corners h) + go .gone = after-total corners sound h (pre .edge) (pre .leading) (go .gone) (go .short) in
-              let b : total (after corners h (suc (go .gone)) .listed) + length (after corners h (suc (go .gone)) .path) ≡ length (cyclesBelow corners h) + suc (go .gone) = after-total corners sound h (pre .edge) (pre .leading) (suc (go .gone)) more in
+              let a : total (after corners h (go .gone) .listed) + length (after corners h (go .gone) .path) ≡ length (edgesBelow corners h) + go .gone = after-total corners sound h (pre .edge) (pre .leading) (go .gone) (go .short) in
+              let b : total (after corners h (suc (go .gone)) .listed) + length (after corners h (suc (go .gone)) .path) ≡ length (edgesBelow corners h) + suc (go .gone) = after-total corners sound h (pre .edge) (pre .leading) (suc (go .gone)) more in
               let f : total (after corners h (suc (go .gone)) .listed) + length (after corners h (suc (go .gone)) .path) ≤ length corners = after-fits corners sound h (pre .edge) (pre .leading) (suc (go .gone)) more in
               let v : r .vertices ≡ length (ringsOf corners (after corners h (suc (go .gone)) .listed)) = stood .lists .vertices in
               let d : r .path ≡ length (after corners h (suc (go .gone)) .path) = stood .depth in
@@ -208,14 +210,15 @@ module _ (corners : List ℕ) (h : ℕ) (turns₀ path₀ places₀ rings₀ len
         early : go .gone < length (cycle corners h) → ⊥
         early l =
             let q : getD (cycle corners h) (go .gone) 0 ≡ e = cycle-at corners sound h (pre .edge) opens (go .gone) l ∙ sym (go .here) in
-            ⊎-elim (λ a. cycle-new corners sound h (pre .edge) (pre .leading) (go .gone) l (subst (λ (z : ℕ). Among z (cyclesBelow corners h)) (sym q) a))
+            among-either e (edgesBelow corners h) (take (go .gone) (cycle corners h)) ⊥
+            (cycle-new corners sound h (pre .edge) (pre .leading) e (record { place = go .gone; below = l; is = q }))
             (λ a.
             let b : a .place < length (take (go .gone) (cycle corners h)) = a .below in
             let n : length (take (go .gone) (cycle corners h)) ≡ go .gone = length-take-le (go .gone) (cycle corners h) (go .short) in
             let s : getD (cycle corners h) (a .place) 0 ≡ getD (cycle corners h) (go .gone) 0 = sym (getD-take (go .gone) (cycle corners h) (a .place) 0 (omega arith)) ∙ a .is ∙ sym q in
             let z : a .place ≡ go .gone = cycle-distinct corners sound h (pre .edge) opens (a .place) (go .gone) (omega arith) l s in
             omega arith)
-            (either e (cyclesBelow corners h) (take (go .gone) (cycle corners h)) (walked-at corners sound (pre .room .few) _ turns (go .turned) e going-edge m edge-open))
+            (walked-at corners sound (pre .room .few) _ turns (go .turned) e going-edge m edge-open)
 
     pub going-ends : getD turns e 0 < openMark → CycleListed corners h rings₀ lengths₀ firsts₀ turns at rings lengths firsts
     going-ends m =
@@ -224,11 +227,11 @@ module _ (corners : List ℕ) (h : ℕ) (turns₀ path₀ places₀ rings₀ len
         record {
           turned =
               turned-same corners _ _ turns
-              (ap (λ (z : List ℕ). cyclesBelow corners h ++ z) (take-all (go .gone) (cycle corners h) (omega arith)) ∙ sym (cycles-more corners sound h (pre .leading)))
+              (ap (λ (z : List ℕ). edgesBelow corners h ++ z) (take-all (go .gone) (cycle corners h) (omega arith)) ∙ sym (edges-leader corners h (pre .leading)))
               (go .turned);
           no-path = go .stands .depth ∙ ap (λ (z : Split). length (z .path)) s;
           lists =
               subst (λ (ls : List (List ℕ)). Lists corners ls rings₀ lengths₀ firsts₀ at rings lengths firsts)
-              (ap (λ (z : Split). z .listed) s ∙ sym (loops-more corners sound h (pre .leading)))
+              (ap (λ (z : Split). z .listed) s ∙ sym (loops-leader corners h (pre .leading)))
               (go .stands .lists);
         }

@@ -1,50 +1,24 @@
 -- What is laid into a buffer behind what stands at its start stands there too: the buffer is then written as far as both reach, and the rest stays.
-use mathlib.Core.Path.{_≡_, refl, sym, ap, _∙_}
-use mathlib.Core.List.{List, [], _∷_, _++_, append-assoc, append-nil, map-append}
+use mathlib.Core.Path.{_≡_, sym, ap, _∙_}
+use mathlib.Core.List.{List, [], _∷_, _++_, append-assoc, map-append}
 use Prim.Native.Nat.{ℕ, suc, _+_, _-_, _<_, _≤_}
 use native.Mathlib.Nat.{add-zero}
 use native.Mathlib.Numerals.{add-one}
 use native.Mathlib.Omega.{arith}
 use lib.ListN.{length, getD, take, drop, set, length-append, length-take, length-drop, length-map, take-append-drop, drop-of-length-le}
 use lib.Seq.{take-suc, drop-cons, length-take-le, set-at, drop-append-le, drop-append-add, drop-drop, take-append-seam}
+use Rattle.surface.specs.Buffers.{over}
 use Rattle.surface.specs.Edges.{startOf}
 use Rattle.loops.specs.Loops.{ring}
-use Rattle.finder.specs.Listing.{over}
 use Rattle.finder.specs.Walking.{laid, part}
 
--- ---- over the start
+-- ---- behind what stands at the start
 
-pub over-none : (w : List ℕ) → over [] w ≡ w
-unfolding over
-over-none w = refl
-
--- one more item
-pub over-snoc : (a w : List ℕ) (v n : ℕ) → n ≡ length a → n < length w → set (over a w) n v ≡ over (a ++ (v ∷ [])) w
-unfolding over
-over-snoc a w v n e l =
-    let m : length (a ++ (v ∷ [])) ≡ length a + 1 = length-append a (v ∷ []) in
-    let z : suc n ≡ length (a ++ (v ∷ [])) = omega arith in
-    ap (λ (r : List ℕ). set (a ++ r) n v) (ap (λ (k : ℕ). drop k w) (sym e) ∙ drop-cons w n 0 l)
-    ∙ set-at a (getD w n 0) (drop (suc n) w) v n (sym e)
-    ∙ ap (λ (k : ℕ). a ++ (v ∷ drop k w)) z
-    ∙ sym (append-assoc a (v ∷ []) (drop (length (a ++ (v ∷ []))) w))
-
--- more items
 pub laid-over : (a b w : List ℕ) (n : ℕ) → n ≡ length a → laid n b (over a w) ≡ over (a ++ b) w
 unfolding over laid
 laid-over a b w n e =
     let m : length (a ++ b) ≡ length a + length b = length-append a b in
     rw (e, take-append-seam a (drop (length a) w), drop-append-add a (drop (length a) w) (length b), drop-drop (length b) (length a) w, m, append-assoc)
-
--- once more the same, and then some
-pub over-twice : (a b w : List ℕ) → over (a ++ b) (over a w) ≡ over (a ++ b) w
-unfolding over
-over-twice a b w =
-    let m : length (a ++ b) ≡ length a + length b = length-append a b in
-    rw (m, drop-append-add a (drop (length a) w) (length b), drop-drop (length b) (length a) w)
-
-pub over-self : (a w : List ℕ) → over a (over a w) ≡ over a w
-over-self a w = rw append-nil at (over-twice a [] w)
 
 -- ---- laid one by one
 

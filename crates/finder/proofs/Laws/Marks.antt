@@ -1,6 +1,6 @@
 -- The table of turns tells every half-edge's state: what is not open has a turn, below both marks, and an open edge has one of the marks.
 use mathlib.Core.Path.{_≡_, refl, sym, ap, ap₂, _∙_, subst}
-use mathlib.Core.Bool.{Bool, true, false, _||_}
+use mathlib.Core.Bool.{Bool, true, false, _||_, true≢false, or-assoc, or-false, or-true}
 use mathlib.Core.List.{List, [], _∷_, _++_}
 use mathlib.Core.Logic.{⊎-elim}
 use Prim.Native.Nat.{ℕ, zero, suc, _+_, _<_, _≤_}
@@ -14,47 +14,38 @@ use Rattle.limits.specs.Limits as limits
 use Rattle.surface.specs.declared.Found.{Found}
 use Rattle.surface.specs.declared.Found.the-variants.{At, Nothing}
 use Rattle.surface.specs.Edges.{Sound, following, twin, isOpen}
-use Rattle.surface.proofs.Laws.Smallest.{true-not-false}
+use Rattle.surface.proofs.Laws.Tests.{eq-or-not}
 use Rattle.surface.proofs.Laws.Edges.{below-after, twin-says, open-none, none-open, not-open}
 use Rattle.pairing.specs.Turns.{openMark, turnBy, Turns}
 use Rattle.loops.specs.Next.{across, step, turn, next}
 use Rattle.finder.specs.Walking.{walkedMark, holds, turnNow, Turned, jump, Lands, Landing, Landed}
-use Rattle.loops.proofs.Laws.Pigeon.{eq-or-not}
-use Rattle.loops.proofs.Laws.Counts.{Among}
-use Rattle.loops.proofs.Laws.Fan.{Reaches, reach, turn-below}
+use Rattle.loops.proofs.Laws.Counts.{Among, among-later}
+use Rattle.loops.proofs.Laws.Fan.{Reaches, reach, hand-below}
 
 -- ---- what a list holds
 
 pub holds-append : (e : ℕ) (a b : List ℕ) → holds e (a ++ b) ≡ (holds e a || holds e b)
 unfolding holds
 holds-append e [] b = refl
-holds-append e (x ∷ a) b = ap (λ (t : Bool). eqb e x || t) (holds-append e a b) ∙ either (eqb e x) (holds e a) (holds e b)
-  where
-    either : (p q r : Bool) → (p || (q || r)) ≡ ((p || q) || r)
-    either true q r = refl
-    either false q r = refl
+holds-append e (x ∷ a) b = ap (λ (t : Bool). eqb e x || t) (holds-append e a b) ∙ sym (or-assoc (eqb e x) (holds e a) (holds e b))
 
 pub among-holds : (e : ℕ) (l : List ℕ) → Among e l → holds e l ≡ true
 unfolding holds
 among-holds e l m = at l (m .place) (m .below) (m .is)
   where
-    later : (p q : Bool) → q ≡ true → (p || q) ≡ true
-    later true q h = refl
-    later false q h = h
-
     at : (l : List ℕ) (i : ℕ) → i < length l → getD l i 0 ≡ e → holds e l ≡ true
     at [] i b q = absurd (not-suc-le-zero b)
     at (x ∷ l) zero b q = rw (eq-eqb e x (sym q))
-    at (x ∷ l) (suc i) b q = later (eqb e x) (holds e l) (at l i (omega arith) q)
+    at (x ∷ l) (suc i) b q = ap (λ (t : Bool). eqb e x || t) (at l i (omega arith) q) ∙ or-true (eqb e x)
 
 pub holds-among : (e : ℕ) (l : List ℕ) → holds e l ≡ true → Among e l
 unfolding holds
-holds-among e [] h = absurd (true-not-false (sym h))
+holds-among e [] h = absurd (true≢false (sym h))
 holds-among e (x ∷ l) h = go (holds-among e l) (eqb e x) refl h
   where
     go : (holds e l ≡ true → Among e l) → (t : Bool) → eqb e x ≡ t → (t || holds e l) ≡ true → Among e (x ∷ l)
     go r true q k = record { place = 0; below = omega arith; is = sym (eqb-true e x q) }
-    go r false q k = let m = r k in let b = m .below in record { place = suc (m .place); below = omega arith; is = m .is }
+    go r false q k = among-later e x l (r k)
 
 holds-one : (e : ℕ) → holds e (e ∷ []) ≡ true
 unfolding holds
@@ -63,14 +54,6 @@ holds-one e = rw (eq-eqb e e refl)
 holds-other : (e x : ℕ) → (e ≡ x → ⊥) → holds e (x ∷ []) ≡ false
 unfolding holds
 holds-other e x no′ = rw (ne-eqb e x no′)
-
-or-false : (t : Bool) → (t || false) ≡ t
-or-false true = refl
-or-false false = refl
-
-or-true : (t : Bool) → (t || true) ≡ true
-or-true true = refl
-or-true false = refl
 
 -- ---- the table
 
@@ -144,25 +127,19 @@ module _ (corners : List ℕ) (sound : Sound corners) (few : length corners ≤ 
       (eq-or-not x e)
 
   module _ (long : length corners ≤ length turns) (e : ℕ) (l : e < length corners) (o : isOpen corners e ≡ true) where
-    start-below : following e < length corners
-    start-below = below-after corners sound e l
-
-    hand-below : (i : ℕ) → turn corners i (following e) < length corners
-    hand-below i = turn-below corners sound (following e) start-below i
-
     -- up to the open edge the table goes where the turn goes
     jump-turn : (k : ℕ) → Reaches corners e k → (i : ℕ) → i ≤ k → jump turns i (following e) ≡ turn corners i (following e)
     unfolding jump turn
     jump-turn k r zero m = refl
-    jump-turn k r (suc i) m = ap (λ (z : ℕ). getD turns z 0) (jump-turn k r i (omega arith)) ∙ closed-turn (turn corners i (following e)) (hand-below i) (r .closed i m) .0
+    jump-turn k r (suc i) m = ap (λ (z : ℕ). getD turns z 0) (jump-turn k r i (omega arith)) ∙ closed-turn (turn corners i (following e)) (hand-below corners sound e l i) (r .closed i m) .0
 
     reach-lands : (k : ℕ) → Reaches corners e k → Lands turns (following e) k
     reach-lands k r =
         record {
           within = let w = r .within in omega arith;
-          below = λ i m. let q : jump turns i (following e) ≡ turn corners i (following e) = jump-turn k r i m in let b : turn corners i (following e) < length corners = hand-below i in omega arith;
-          closed = λ i m. let q : jump turns i (following e) ≡ turn corners i (following e) = jump-turn k r i (omega arith) in rw q (closed-turn (turn corners i (following e)) (hand-below i) (r .closed i m) .1);
-          opens = let q : jump turns k (following e) ≡ turn corners k (following e) = jump-turn k r k (omega arith) in rw q (open-mark (turn corners k (following e)) (hand-below k) (r .opens));
+          below = λ i m. let q : jump turns i (following e) ≡ turn corners i (following e) = jump-turn k r i m in let b : turn corners i (following e) < length corners = hand-below corners sound e l i in omega arith;
+          closed = λ i m. let q : jump turns i (following e) ≡ turn corners i (following e) = jump-turn k r i (omega arith) in rw q (closed-turn (turn corners i (following e)) (hand-below corners sound e l i) (r .closed i m) .1);
+          opens = let q : jump turns k (following e) ≡ turn corners k (following e) = jump-turn k r k (omega arith) in rw q (open-mark (turn corners k (following e)) (hand-below corners sound e l k) (r .opens));
         }
 
     pub landing : Landing turns (following e)

@@ -1,6 +1,6 @@
 -- What is quiet stays quiet one half-edge further on, where that one is.
 use mathlib.Core.Path.{_≡_, refl, sym, subst}
-use mathlib.Core.Bool.{Bool, true, false, _&&_}
+use mathlib.Core.Bool.{Bool, true, false, _&&_, true≢false}
 use mathlib.Core.List.{List}
 use mathlib.Core.Logic.{⊎-elim}
 use Prim.Native.Nat.{ℕ, _+_, _<_, _≤_}
@@ -9,7 +9,6 @@ use native.Mathlib.Omega.{arith}
 use lib.Dec.{ltb}
 use lib.ListN.{getD}
 use borrow.Author.Tests.{ltb-true}
-use Rattle.surface.proofs.Laws.Smallest.{true-not-false}
 use Rattle.pairing.specs.Turns.{openMark}
 use Rattle.finder.specs.Walking.{Quiet}
 
@@ -30,7 +29,7 @@ quiet-one turns h l = quiet-more turns h h (quiet-none turns h) l
 -- while all were quiet
 pub all-quiet : (turns : List ℕ) (h i : ℕ) (all : Bool) → (all ≡ true → Quiet turns h i) → (all && ltb (getD turns i 0) openMark) ≡ true → Quiet turns h (i + 1)
 all-quiet turns h i true q e = quiet-more turns h i (q refl) (ltb-true _ _ e)
-all-quiet turns h i false q e = absurd (true-not-false (sym e))
+all-quiet turns h i false q e = absurd (true≢false (sym e))
 
 pub quiet-end : (turns : List ℕ) (h i n : ℕ) (all : Bool) → (all ≡ true → Quiet turns h i) → i ≡ n → all ≡ true → Quiet turns h n
 quiet-end turns h i n all q e t = subst (Quiet turns h) e (q t)

@@ -11,15 +11,16 @@ use Rattle.pairing.specs.Turns.{openMark}
 use Rattle.finder.specs.declared.Listed.{Listed}
 use Rattle.loops.specs.Loops.{leads, loops, loopsOf, loopsBelow}
 use Rattle.finder.specs.Listing.{Ready, Lists}
-use Rattle.finder.specs.Walking.{Turned, cyclesBelow, Quiet, CycleRoom, CycleListed}
+use Rattle.finder.specs.Walking.{Turned, Quiet, CycleRoom, CycleListed}
+use Rattle.loops.proofs.Laws.Surfaces.{edgesBelow, loops-leader}
 use Rattle.finder.proofs.Laws.Cuts.{lists-none, lists-self, lists-on}
 use Rattle.finder.proofs.Laws.Marks.{turned-begins}
-use Rattle.finder.proofs.Laws.Below.{loops-more, marked-leads, quiet-same}
+use Rattle.finder.proofs.Laws.Below.{marked-leads, quiet-same}
 
 -- the cycles whose smallest edges are below h were walked, and their loops are listed
 pub record Through (corners turns₀ rings₀ lengths₀ firsts₀ turns rings lengths firsts path places : List ℕ) (at : Listed) (h : ℕ) : Type 0 where
   pub within : h ≤ length corners
-  pub turned : Turned corners (cyclesBelow corners h) turns
+  pub turned : Turned corners (edgesBelow corners h) turns
   pub no-path : at .path ≡ 0
   pub lists : Lists corners (loopsBelow corners h) rings₀ lengths₀ firsts₀ at rings lengths firsts
   pub turns-same : length turns ≡ length turns₀
@@ -31,7 +32,7 @@ pub record Through (corners turns₀ rings₀ lengths₀ firsts₀ turns rings l
 
 module _ (corners turns₀ rings₀ lengths₀ firsts₀ : List ℕ) (ready : Ready corners turns₀ rings₀ lengths₀ firsts₀) where
   pub through-begins : (path places : List ℕ) → length path ≡ limits.corners → length places ≡ limits.points → Through corners turns₀ rings₀ lengths₀ firsts₀ turns₀ rings₀ lengths₀ firsts₀ path places (record { loops = 0; vertices = 0; path = 0 }) 0
-  unfolding cyclesBelow loopsBelow
+  unfolding edgesBelow loopsBelow
   through-begins path places p q =
       record {
         within = omega arith;
@@ -62,7 +63,7 @@ module _ (corners turns₀ rings₀ lengths₀ firsts₀ : List ℕ) (ready : Re
         let s = quiet-same corners (ready .sound) (ready .few) turns h (r - h) (omega arith) (th .turned) (subst (Quiet turns h) (sym z) (w .2)) in
         record {
           within = b;
-          turned = subst (λ (es : List ℕ). Turned corners es turns) (sym (s .0) ∙ ap (cyclesBelow corners) z) (th .turned);
+          turned = subst (λ (es : List ℕ). Turned corners es turns) (sym (s .0) ∙ ap (edgesBelow corners) z) (th .turned);
           no-path = th .no-path;
           lists = subst (λ (ls : List (List ℕ)). Lists corners ls rings₀ lengths₀ firsts₀ at rings lengths firsts) (sym (s .1) ∙ ap (loopsBelow corners) z) (th .lists);
           turns-same = th .turns-same;
@@ -102,7 +103,7 @@ module _ (corners turns₀ rings₀ lengths₀ firsts₀ : List ℕ) (ready : Re
           → length turns′ ≡ length turns → length rings′ ≡ length rings → length lengths′ ≡ length lengths → length firsts′ ≡ length firsts → length path′ ≡ length path → length places′ ≡ length places
           → Through corners turns₀ rings₀ lengths₀ firsts₀ turns′ rings′ lengths′ firsts′ path′ places′ r (h + 1)
       through-on turns′ rings′ lengths′ firsts′ path′ places′ r w a b c d p q =
-          let s : loopsBelow corners (suc h) ≡ loopsBelow corners h ++ loopsOf corners h = loops-more corners (ready .sound) h leading in
+          let s : loopsBelow corners (suc h) ≡ loopsBelow corners h ++ loopsOf corners h = loops-leader corners h leading in
           record {
             within = omega arith;
             turned = rw add-one (w .turned);

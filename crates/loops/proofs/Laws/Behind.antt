@@ -37,9 +37,6 @@ module _ (corners : List ℕ) where
   pub grow-alone : (t : Split) (e : ℕ) → grow corners t e ≡ behind (t .listed) (grow corners (pathOnly (t .path)) e)
   grow-alone t e = ap (λ (z : Split). grow corners z e) (sym (behind-none t)) ∙ grow-behind (t .listed) (pathOnly (t .path)) e
 
-  pub growAll-alone : (t : Split) (es : List ℕ) → growAll corners t es ≡ behind (t .listed) (growAll corners (pathOnly (t .path)) es)
-  growAll-alone t es = ap (λ (z : Split). growAll corners z es) (sym (behind-none t)) ∙ growAll-behind (t .listed) (pathOnly (t .path)) es
-
   -- one part of a walk after the other
   pub growAll-append : (t : Split) (a b : List ℕ) → growAll corners t (a ++ b) ≡ growAll corners (growAll corners t a) b
   unfolding growAll

@@ -52,7 +52,7 @@ among-count e l m = at l (m .place) (m .below) (m .is)
     at (x ∷ l) zero h q = omega (arith, count-first e x l (sym q))
     at (x ∷ l) (suc i) h q = let r : 0 < count e l = at l i (omega arith) q in omega (arith, count-later e x l)
 
-among-later : (e x : ℕ) (l : List ℕ) → Among e l → Among e (x ∷ l)
+pub among-later : (e x : ℕ) (l : List ℕ) → Among e l → Among e (x ∷ l)
 among-later e x l m = record { place = suc (m .place); below = let b = m .below in omega arith; is = m .is }
 
 pub count-among : (e : ℕ) (l : List ℕ) → 0 < count e l → Among e l

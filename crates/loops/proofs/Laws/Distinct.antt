@@ -7,7 +7,8 @@ use native.Mathlib.Omega.{arith}
 use native.Mathlib.Nat.{not-suc-le-zero}
 use lib.ListN.{length, getD, length-append, List·getD-append}
 use lib.Seq.{getD-append-add}
-use Rattle.loops.proofs.Laws.Pigeon.{pigeon, order}
+use Rattle.surface.proofs.Laws.Tests.{lt-or-le}
+use Rattle.loops.proofs.Laws.Pigeon.{pigeon}
 
 -- nothing stands in l twice
 unfoldable pub Distinct : List ℕ → Type 0
@@ -20,15 +21,11 @@ Bounded n l = (i : ℕ) → i < length l → getD l i 0 < n
 pub distinct-bound : (n : ℕ) (l : List ℕ) → Distinct l → Bounded n l → length l ≤ n
 unfolding Distinct Bounded
 distinct-bound n l d b =
-    ⊎-elim (λ m. absurd (pigeon n (λ i. getD l i 0) (λ i h. b i (omega arith)) (λ i j h k e. d i j (omega arith) (omega arith) e))) (λ m. m) (order n (length l))
+    ⊎-elim (λ m. absurd (pigeon n (λ i. getD l i 0) (λ i h. b i (omega arith)) (λ i j h k e. d i j (omega arith) (omega arith) e))) (λ m. m) (lt-or-le n (length l))
 
 pub distinct-none : Distinct []
 unfolding Distinct
 distinct-none i j h l e = absurd (not-suc-le-zero h)
-
-pub bounded-none : (n : ℕ) → Bounded n []
-unfolding Bounded
-bounded-none n i h = absurd (not-suc-le-zero h)
 
 -- what stands at i of two lists in a row
 pub append-at : (a b : List ℕ) (i : ℕ) → i < length (a ++ b) → ((i < length a) × (getD (a ++ b) i 0 ≡ getD a i 0)) ⊎ ((length a ≤ i) × (i - length a < length b) × (getD (a ++ b) i 0 ≡ getD b (i - length a) 0))
@@ -38,7 +35,7 @@ append-at a b i h =
     let e : i ≡ length a + (i - length a) = omega arith in
     let s : length (a ++ b) ≡ length a + length b = length-append a b in
     inr (m, omega arith, ap (λ (k : ℕ). getD (a ++ b) k 0) e ∙ getD-append-add a b (i - length a) 0))
-    (order i (length a))
+    (lt-or-le i (length a))
 
 -- two such lists in a row are one, if they have nothing in common
 pub distinct-append : (a b : List ℕ) → Distinct a → Distinct b → ((i j : ℕ) → i < length a → j < length b → getD a i 0 ≡ getD b j 0 → ⊥) → Distinct (a ++ b)
@@ -53,8 +50,3 @@ distinct-append a b da db apart i j hi hj e =
     (λ y. let q : i - length a ≡ j - length a = db _ _ (x .1) (y .1) (sym (x .2) ∙ e ∙ y .2) in omega arith)
     (append-at a b j hj))
     (append-at a b i hi)
-
-pub bounded-append : (n : ℕ) (a b : List ℕ) → Bounded n a → Bounded n b → Bounded n (a ++ b)
-unfolding Bounded
-bounded-append n a b ba bb i h =
-    ⊎-elim (λ x. rw (x .1) (ba i (x .0))) (λ x. rw (x .2) (bb (i - length a) (x .1))) (append-at a b i h)

@@ -106,7 +106,7 @@ module _ (corners : List ℕ) (sound : Sound corners) where
   abbrev hand : ℕ → ℕ → ℕ
   hand h k = turn corners k (following h)
 
-  hand-below : (h : ℕ) → h < length corners → (k : ℕ) → hand h k < length corners
+  pub hand-below : (h : ℕ) → h < length corners → (k : ℕ) → hand h k < length corners
   hand-below h l k = turn-below (following h) (below-after corners sound h l) k
 
   -- Two turns that meet began at one edge: step by step back, they meet at the beginning of one of them, and by `fresh` of both.

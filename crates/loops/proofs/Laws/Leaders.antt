@@ -1,6 +1,6 @@
 -- Every open edge lies in the cycle of one leader, its cycle's smallest edge: cycles that share an edge are one cycle, and one cycle has one smallest edge.
 use mathlib.Core.Path.{_≡_, refl, sym, ap, _∙_, subst}
-use mathlib.Core.Bool.{Bool, true, false, _&&_}
+use mathlib.Core.Bool.{Bool, true}
 use mathlib.Core.List.{List, [], _∷_}
 use mathlib.Core.Logic.{_⊎_, inl, inr, ⊎-elim}
 use Prim.Native.Nat.{ℕ, zero, suc, _+_, _-_, _<_, _≤_}
@@ -10,15 +10,10 @@ use lib.Dec.{leb}
 use lib.ListN.{length, getD}
 use borrow.Author.Tests.{leb-true, le-leb}
 use Rattle.surface.specs.Edges.{Sound, isOpen}
-use Rattle.surface.proofs.Laws.Smallest.{true-not-false}
+use Rattle.surface.proofs.Laws.Tests.{both-true, lt-or-le}
 use Rattle.loops.specs.Next.{next}
 use Rattle.loops.specs.Loops.{cycle, leads, all}
-use Rattle.loops.proofs.Laws.Pigeon.{order}
 use Rattle.loops.proofs.Laws.Cycles.{ahead, ahead-add, ahead-back, ahead-below, ahead-open, cycle-some, cycle-at, cycle-closes, cycle-holds}
-
-both-true : (a b : Bool) → (a && b) ≡ true → (a ≡ true) × (b ≡ true)
-both-true true b e = (refl, e)
-both-true false b e = absurd (true-not-false (sym e))
 
 -- `all` is each
 pub all-at : (p : ℕ → Bool) (l : List ℕ) → all p l ≡ true → (i : ℕ) → i < length l → p (getD l i 0) ≡ true
@@ -50,7 +45,7 @@ smallest f (suc n) =
           (λ (k : i < suc n). let q : f (s .0) ≤ f i = s .2 i (le-of-suc-le-suc k) in omega arith)
           (eq-or-lt-of-le l),
     ))
-    (order (f (s .0)) (f (suc n)))
+    (lt-or-le (f (s .0)) (f (suc n)))
 
 pub leads-open : (corners : List ℕ) (h : ℕ) → leads corners h ≡ true → isOpen corners h ≡ true
 unfolding leads

@@ -10,7 +10,7 @@ use native.Mathlib.Omega.{arith}
 use lib.Dec.{eqb}
 use lib.ListN.{length, getD, length-map}
 use borrow.Author.Tests.{eqb-true, eqb-false}
-use Rattle.loops.proofs.Laws.Pigeon.{order}
+use Rattle.surface.proofs.Laws.Tests.{lt-or-le}
 use Rattle.loops.proofs.Laws.Distinct.{Distinct, Bounded, append-at, distinct-bound}
 use Rattle.loops.proofs.Laws.Parts.{map-at}
 use Rattle.loops.proofs.Laws.Counts.{count, Among, Same, among-count, count-among, distinct-count}
@@ -74,4 +74,4 @@ members-same a b da db w v e =
     let n : count e b ≤ 1 = distinct-count e b db in
     let there : 0 < count e a → 0 < count e b = λ l. among-count e b (w e (count-among e a l)) in
     let back : 0 < count e b → 0 < count e a = λ l. among-count e a (v e (count-among e b l)) in
-    ⊎-elim (λ l. omega (arith, there l)) (λ l. ⊎-elim (λ k. omega (arith, back k)) (λ k. omega arith) (order 0 (count e b))) (order 0 (count e a))
+    ⊎-elim (λ l. omega (arith, there l)) (λ l. ⊎-elim (λ k. omega (arith, back k)) (λ k. omega arith) (lt-or-le 0 (count e b))) (lt-or-le 0 (count e a))

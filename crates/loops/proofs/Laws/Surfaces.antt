@@ -33,6 +33,15 @@ pub edges-other : (corners : List ℕ) (k : ℕ) → leads corners k ≡ false �
 unfolding edgesBelow
 edges-other corners k t = ap (λ (b : Bool). edgesBelow corners k ++ cond b (cycle corners k) []) t ∙ append-nil (edgesBelow corners k)
 
+-- and its loops
+pub loops-leader : (corners : List ℕ) (k : ℕ) → leads corners k ≡ true → loopsBelow corners (suc k) ≡ loopsBelow corners k ++ loopsOf corners k
+unfolding loopsBelow
+loops-leader corners k t = ap (λ (b : Bool). loopsBelow corners k ++ cond b (loopsOf corners k) []) t
+
+pub loops-other : (corners : List ℕ) (k : ℕ) → leads corners k ≡ false → loopsBelow corners (suc k) ≡ loopsBelow corners k
+unfolding loopsBelow
+loops-other corners k t = ap (λ (b : Bool). loopsBelow corners k ++ cond b (loopsOf corners k) []) t ∙ append-nil (loopsBelow corners k)
+
 -- an edge whose leader is below k is there
 pub led-edge : (corners : List ℕ) (k e g : ℕ) → g < k → Led corners e g → Among e (edgesBelow corners k)
 unfolding edgesBelow
@@ -60,6 +69,13 @@ module _ (corners : List ℕ) (sound : Sound corners) where
           m
       go r false d m = among-either e (edgesBelow corners k) [] _ (λ w. let s = r w in (s .0, omega (arith, s .1), s .2)) (λ w. absurd (not-suc-le-zero (w .below))) m
 
+  -- so an edge of a leader's cycle is in no cycle before it
+  pub cycle-new : (k : ℕ) → k < length corners → leads corners k ≡ true → (e : ℕ) → Among e (cycle corners k) → Among e (edgesBelow corners k) → ⊥
+  cycle-new k l t e m a =
+      let w = edge-led k (omega arith) e a in
+      let s : w .0 ≡ k = leader-once corners sound (w .0) k (w .2 .below) l (w .2 .leading) t (w .2 .place) (m .place) (w .2 .within) (m .below) (w .2 .there ∙ sym (m .is)) in
+      omega (arith, w .1)
+
   -- no edge is there twice
   pub edges-distinct : (k : ℕ) → k ≤ length corners → Distinct (edgesBelow corners k)
   unfolding edgesBelow
@@ -69,10 +85,7 @@ module _ (corners : List ℕ) (sound : Sound corners) where
       go : Distinct (edgesBelow corners k) → (t : Bool) → leads corners k ≡ t → Distinct (edgesBelow corners k ++ cond t (cycle corners k) [])
       go r true d =
           distinct-append (edgesBelow corners k) (cycle corners k) r (cycle-distinct corners sound k l (leads-open corners k d))
-          (λ i j a b q.
-          let w = edge-led k (omega arith) (getD (edgesBelow corners k) i 0) (record { place = i; below = a; is = refl }) in
-          let s : w .0 ≡ k = leader-once corners sound (w .0) k (w .2 .below) l (w .2 .leading) d (w .2 .place) j (w .2 .within) b (w .2 .there ∙ q) in
-          omega (arith, w .1))
+          (λ i j a b q. cycle-new k l d (getD (edgesBelow corners k) i 0) (record { place = j; below = b; is = sym q }) (record { place = i; below = a; is = refl }))
       go r false d = rw append-nil r
 
   -- the loops below k are those of the walks over these edges
@@ -99,13 +112,9 @@ module _ (corners : List ℕ) (sound : Sound corners) where
 
   -- ---- who leads
 
-  -- a leader is in no cycle before its own
+  -- a leader, too, is in no cycle before its own
   pub leader-new : (h : ℕ) → h < length corners → leads corners h ≡ true → Among h (edgesBelow corners h) → ⊥
-  leader-new h l t m =
-      let w = edge-led h (omega arith) h m in
-      let o = leads-open corners h t in
-      let s : w .0 ≡ h = leader-once corners sound (w .0) h (w .2 .below) l (w .2 .leading) t (w .2 .place) 0 (w .2 .within) (cycle-some corners sound h l o) (w .2 .there ∙ sym (cycle-begins corners sound h l o)) in
-      omega (arith, w .1)
+  leader-new h l t = let o = leads-open corners h t in cycle-new h l t h (record { place = 0; below = cycle-some corners sound h l o; is = cycle-begins corners sound h l o })
 
   -- and an open edge that is in none of them leads
   pub new-leads : (h : ℕ) → h < length corners → isOpen corners h ≡ true → (Among h (edgesBelow corners h) → ⊥) → leads corners h ≡ true

@@ -1,16 +1,15 @@
 -- A half-edge between u and v, either way, is in the bucket of u and v, since that takes the two alike.
 use mathlib.Core.Path.{_≡_, sym, ap, ap₂, _∙_}
-use mathlib.Core.Bool.{true, false}
+use mathlib.Core.Bool.{true, false, true≢false}
 use mathlib.Core.List.{List}
 use Prim.Native.Nat.{ℕ, _+_, _-_, _*_, _/_, _%_, _<_, _≤_}
 use native.Mathlib.Nat.{mul-comm, mul-le-mul}
 use native.Mathlib.Omega.{arith}
 use borrow.Author.Tests.{eqb-true, eq-eqb, ne-eqb}
 use Rattle.surface.specs.Edges.{runs}
-use Rattle.surface.proofs.Laws.Smallest.{true-not-false}
+use Rattle.surface.proofs.Laws.Tests.{not-so}
 use Rattle.surface.proofs.Laws.Edges.{Runs, runs-says}
 use Rattle.pairing.specs.Chains.{buckets, spread, bucketOf, home, inBucket, top}
-use Rattle.pairing.proofs.Laws.Cases.{not-so}
 use Rattle.pairing.proofs.Laws.Tops.{top-says, top-never}
 
 pub bucket-small : (u v : ℕ) → bucketOf u v < buckets
@@ -51,7 +50,7 @@ apart-from corners u v k a b = (not-so _ (λ e. a (runs-says corners u v k e)), 
 -- what is in another bucket does not join u and v
 pub apart-outside : (corners : List ℕ) (u v k : ℕ) → inBucket corners (bucketOf u v) k ≡ false → Apart corners u v k
 apart-outside corners u v k e =
-    let away : home corners k ≡ bucketOf u v → ⊥ = λ q. true-not-false (sym (bucket-home corners (bucketOf u v) k q) ∙ e) in
+    let away : home corners k ≡ bucketOf u v → ⊥ = λ q. true≢false (sym (bucket-home corners (bucketOf u v) k q) ∙ e) in
     apart-from corners u v k (λ r. away (runs-home corners u v k r)) (λ r. away (runs-home corners v u k r ∙ bucket-turned v u))
 
 module _ (corners : List ℕ) (b n last : ℕ) (e : last ≡ top (inBucket corners b) n) where

@@ -9,8 +9,8 @@ use lib.Seq.{getD-set-same, getD-set-other}
 use borrow.Author.Count.{below-more}
 use Rattle.limits.specs.Limits as limits
 use Rattle.surface.specs.Edges.{endOf}
+use Rattle.surface.proofs.Laws.Tests.{eq-or-not}
 use Rattle.pairing.specs.Chains.{buckets, home, inBucket, top, Headed, Linked, Ended, Chained}
-use Rattle.pairing.proofs.Laws.Cases.{eq-or-not}
 use Rattle.pairing.proofs.Laws.Tops.{top-none, top-hit, top-miss}
 use Rattle.pairing.proofs.Laws.Buckets.{bucket-home, bucket-other}
 

@@ -1,18 +1,17 @@
 -- What `turn` answers and leaves, by what was met.
 use mathlib.Core.Path.{_≡_, refl, sym, ap, _∙_}
-use mathlib.Core.Bool.{true, false, not}
+use mathlib.Core.Bool.{true, false, not, true≢false}
 use mathlib.Core.List.{List}
 use Prim.Native.Nat.{ℕ, _+_, _-_, _<_, _≤_}
 use lib.ListN.{length, getD, set, length-set}
 use borrow.Author.Tests.{lt-ltb, le-ltb}
-use Rattle.surface.proofs.Laws.Smallest.{true-not-false}
 use Rattle.pairing.specs.declared.Met.{Met}
 use Rattle.pairing.specs.declared.Met.the-variants.{Twin, Like, Nothing}
 use Rattle.pairing.specs.Turns.{openMark}
 use Rattle.pairing.specs.Chains.{refused, turned, TurnDone}
 
 refuses : (met : Met) (h f : ℕ) (table left : List ℕ) → refused met table ≡ true → TurnDone met h f table false left
-refuses met h f table left e = record { answer = sym (ap not e); laid = λ q. absurd (true-not-false (sym q)) }
+refuses met h f table left e = record { answer = sym (ap not e); laid = λ q. absurd (true≢false (sym q)) }
 
 lays : (met : Met) (h f : ℕ) (table left : List ℕ) → refused met table ≡ false → left ≡ turned met h f table → TurnDone met h f table true left
 lays met h f table left e l = record { answer = sym (ap not e); laid = λ q. l }

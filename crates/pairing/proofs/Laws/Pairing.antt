@@ -1,55 +1,28 @@
 -- Where half-edge h is paired, its walk sees all that joins its two ends below h, so that its answer is right and what holds below h holds below h + 1.
 use mathlib.Core.Path.{_≡_, refl, sym, ap, ap₂, _∙_, subst}
-use mathlib.Core.Bool.{Bool, true, false, not, _&&_, _||_}
+use mathlib.Core.Bool.{Bool, true, false, not, true≢false, and-false}
 use mathlib.Core.List.{List}
 use mathlib.Core.Logic.{⊎-elim}
-use Prim.Native.Nat.{ℕ, zero, suc, _+_, _*_, _/_, _%_, _<_, _≤_}
+use Prim.Native.Nat.{ℕ, _+_, _<_, _≤_}
 use native.Mathlib.Omega.{arith}
-use lib.Dec.{eqb}
 use lib.ListN.{length, getD, set}
-use borrow.Author.Tests.{eqb-false, not-true}
+use borrow.Author.Tests.{not-true}
 use Rattle.limits.specs.Limits as limits
 use Rattle.surface.specs.declared.Found.the-variants as found
 use Rattle.surface.specs.Smallest.{least}
-use Rattle.surface.specs.Edges.{following, startOf, endOf, twice, repeats}
-use Rattle.surface.proofs.Laws.Smallest.{true-not-false, least-more}
-use Rattle.surface.proofs.Laws.Edges.{following-below}
+use Rattle.surface.specs.Edges.{following, startOf, endOf, repeats}
+use Rattle.surface.proofs.Laws.Tests.{lt-or-le}
+use Rattle.surface.proofs.Laws.Smallest.{least-more}
+use Rattle.surface.proofs.Laws.Edges.{following-below, plain-apart}
 use Rattle.pairing.specs.declared.Met.{Met}
 use Rattle.pairing.specs.declared.Met.the-variants.{Twin, Like, Nothing}
 use Rattle.pairing.specs.Turns.{stops}
 use Rattle.pairing.specs.Chains.{buckets, bucketOf, home, inBucket, top, Headed, Linked, Ended, MeetRoom, Meets, refused, TurnRoom, TurnDone, TurnsBelow, PairRoom, PairDone}
-use Rattle.pairing.proofs.Laws.Cases.{lt-or-le, either-false}
 use Rattle.pairing.proofs.Laws.Tops.{top-le}
 use Rattle.pairing.proofs.Laws.Buckets.{Apart, bucket-small, head-home, head-rest}
 use Rattle.pairing.proofs.Laws.Chaining.{chained-more}
 use Rattle.pairing.proofs.Laws.Entries.{turned-length}
 use Rattle.pairing.proofs.Laws.Turning.{met-repeats, met-turns}
-
--- a half-edge of a triangle that names no point twice does not end where it starts
-pub plain-apart : (corners : List ℕ) (h : ℕ) → twice corners (h / 3) ≡ false → startOf corners h ≡ endOf corners h → ⊥
-unfolding twice following
-plain-apart corners h p = go (h % 3) refl
-  where
-    parts : (startOf corners (3 * (h / 3)) ≡ startOf corners (3 * (h / 3) + 1) → ⊥) × (startOf corners (3 * (h / 3) + 1) ≡ startOf corners (3 * (h / 3) + 2) → ⊥) × (startOf corners (3 * (h / 3) + 2) ≡ startOf corners (3 * (h / 3)) → ⊥)
-    parts =
-        let c = either-false _ _ p in
-        let b = either-false _ _ (c .0) in
-        (eqb-false _ _ (b .0), eqb-false _ _ (b .1), eqb-false _ _ (c .1))
-
-    go : (r : ℕ) → h % 3 ≡ r → startOf corners h ≡ startOf corners (3 * (h / 3) + (h % 3 + 1) % 3) → ⊥
-    go zero e d =
-        let a : 3 * (h / 3) ≡ h = omega arith in
-        let b : 3 * (h / 3) + (h % 3 + 1) % 3 ≡ 3 * (h / 3) + 1 = omega arith in
-        parts .0 (ap (startOf corners) a ∙ d ∙ ap (startOf corners) b)
-    go (suc zero) e d =
-        let a : 3 * (h / 3) + 1 ≡ h = omega arith in
-        let b : 3 * (h / 3) + (h % 3 + 1) % 3 ≡ 3 * (h / 3) + 2 = omega arith in
-        parts .1 (ap (startOf corners) a ∙ d ∙ ap (startOf corners) b)
-    go (suc (suc zero)) e d =
-        let a : 3 * (h / 3) + 2 ≡ h = omega arith in
-        let b : 3 * (h / 3) + (h % 3 + 1) % 3 ≡ 3 * (h / 3) = omega arith in
-        parts .2 (ap (startOf corners) a ∙ d ∙ ap (startOf corners) b)
-    go (suc (suc (suc r))) e d = absurd (omega arith)
 
 -- what is not there from `last` on need not be met
 meets-all : (corners : List ℕ) (u v last h : ℕ) → last ≤ h → ((k : ℕ) → last ≤ k → k < h → Apart corners u v k) → (met : Met) → Meets corners u v last met → Meets corners u v h met
@@ -61,11 +34,6 @@ meets-all corners u v last h l w Nothing m = λ k n. ⊎-elim (λ q. m k q) (λ 
 twin-below : (corners : List ℕ) (u v n e : ℕ) → Meets corners u v n (Twin e) → e < n
 unfolding Meets
 twin-below corners u v n e m = m .0
-
-no-stop : (p q r : Bool) → p ≡ false → r ≡ false → (p || (q && r)) ≡ false
-no-stop true q r a b = a
-no-stop false true r a b = b
-no-stop false false r a b = refl
 
 module _ (corners : List ℕ) (h f u v : ℕ) (heads links ends table : List ℕ) (room : PairRoom corners h f u v heads links ends table) (b : ℕ) (hb : b ≡ bucketOf u v) where
   pub bucket-inside : b < length heads
@@ -130,7 +98,7 @@ module _ (corners : List ℕ) (h f u v : ℕ) (heads links ends table : List ℕ
       answer-is = d .answer ∙ ap not (met-repeats corners table h (room .going .room) (room .going .fresh) (room .going .turns) (room .edge) met sees)
 
       pub pair-stops : done ≡ false → (heads′ links′ ends′ table′ : List ℕ) → PairDone corners h false heads′ links′ ends′ table′
-      pair-stops q heads′ links′ ends′ table′ = record { answer = sym q ∙ answer-is; going = λ e. absurd (true-not-false (sym e)) }
+      pair-stops q heads′ links′ ends′ table′ = record { answer = sym q ∙ answer-is; going = λ e. absurd (true≢false (sym e)) }
 
       module _ (q : done ≡ true) where
         not-refused : refused met table ≡ false
@@ -141,7 +109,7 @@ module _ (corners : List ℕ) (h f u v : ℕ) (heads links ends table : List ℕ
 
         still-fresh : least (stops corners) (h + 1) ≡ found.Nothing
         unfolding stops
-        still-fresh = least-more (stops corners) h (room .going .fresh) (no-stop (repeats corners h) (eqb (h % 3) 0) (twice corners (h / 3)) not-repeats (room .plain))
+        still-fresh = least-more (stops corners) h (room .going .fresh) (rw (not-repeats, room .plain, and-false))
 
         pub pair-goes : PairDone corners h true (set heads b (h + 1)) (set links h (getD heads b 0)) (set ends h v) left
         pair-goes =

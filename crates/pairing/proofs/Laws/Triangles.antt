@@ -1,10 +1,9 @@
 -- The three half-edges of a triangle are paired one after the other, and the first that stops the pairing is the first of all.
 use mathlib.Core.Path.{_≡_, refl, sym, ap, _∙_, subst}
-use mathlib.Core.Bool.{Bool, true, false, _&&_, _||_}
+use mathlib.Core.Bool.{Bool, true, false, or-true}
 use mathlib.Core.List.{List}
 use Prim.Native.Nat.{ℕ, _+_, _*_, _/_, _%_, _<_}
 use native.Mathlib.Omega.{arith}
-use lib.Dec.{eqb}
 use lib.ListN.{length, getD}
 use borrow.Author.Tests.{eq-eqb, not-false}
 use Rattle.surface.specs.declared.Found.the-variants.{At, Nothing}
@@ -13,22 +12,13 @@ use Rattle.surface.proofs.Laws.Smallest.{At-not-Nothing, least-at}
 use Rattle.pairing.specs.Turns.{stops}
 use Rattle.pairing.specs.Chains.{Going, PairRoom, PairDone, TriangleRoom, TriangleDone}
 
-stop-repeats : (p q : Bool) → p ≡ true → (p || q) ≡ true
-stop-repeats true q e = refl
-stop-repeats false q e = absurd (let z : _≡_ {A = ℕ} 0 1 = cc in omega arith)
-
-stop-twice : (p q r : Bool) → q ≡ true → r ≡ true → (p || (q && r)) ≡ true
-stop-twice true q r a b = refl
-stop-twice false true r a b = b
-stop-twice false false r a b = a
-
 repeats-stops : (corners : List ℕ) (h : ℕ) → repeats corners h ≡ true → stops corners h ≡ true
 unfolding stops
-repeats-stops corners h e = stop-repeats (repeats corners h) (eqb (h % 3) 0 && twice corners (h / 3)) e
+repeats-stops corners h e = rw e
 
 twice-stops : (corners : List ℕ) (i : ℕ) → i % 3 ≡ 0 → twice corners (i / 3) ≡ true → stops corners i ≡ true
 unfolding stops
-twice-stops corners i f e = stop-twice (repeats corners i) (eqb (i % 3) 0) (twice corners (i / 3)) (eq-eqb (i % 3) 0 f) e
+twice-stops corners i f e = rw (eq-eqb (i % 3) 0 f, e, or-true)
 
 -- the pairing stops at h
 pub stops-at : (corners : List ℕ) (i h : ℕ) (heads links ends table heads′ links′ ends′ table′ : List ℕ) → Going corners h heads links ends table → h < i + 3 → stops corners h ≡ true → TriangleDone corners i (At h) heads′ links′ ends′ table′

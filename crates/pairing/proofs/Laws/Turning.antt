@@ -1,6 +1,6 @@
 -- One half-edge more in the table of turns: h repeats an earlier one exactly where it met one that runs its way, or one that has a twin already. Otherwise h and its twin alone get new entries, since no other half-edge below h runs as that twin does.
 use mathlib.Core.Path.{_≡_, refl, sym, ap, ap₂, _∙_}
-use mathlib.Core.Bool.{Bool, false}
+use mathlib.Core.Bool.{Bool, false, true≢false}
 use mathlib.Core.List.{List}
 use mathlib.Core.Logic.{⊎-elim}
 use Prim.Native.Nat.{ℕ, _+_, _-_, _<_, _≤_}
@@ -14,13 +14,13 @@ use Rattle.surface.specs.declared.Found.{Found}
 use Rattle.surface.specs.declared.Found.the-variants as found
 use Rattle.surface.specs.Smallest.{least, any}
 use Rattle.surface.specs.Edges.{following, startOf, endOf, runs, repeats}
-use Rattle.surface.proofs.Laws.Smallest.{true-not-false, least-never, least-sound, least-more, least-at, never-least, never-any}
-use Rattle.surface.proofs.Laws.Edges.{Runs, runs-says, runs-from, repeats-from, following-below}
+use Rattle.surface.proofs.Laws.Tests.{eq-or-not, not-so, either-false}
+use Rattle.surface.proofs.Laws.Smallest.{least-never, least-sound, least-more, least-at, never-least, never-any}
+use Rattle.surface.proofs.Laws.Edges.{Runs, runs-says, runs-from, repeats-from, following-below, one-below}
 use Rattle.pairing.specs.declared.Met.{Met}
 use Rattle.pairing.specs.declared.Met.the-variants.{Twin, Like, Nothing}
 use Rattle.pairing.specs.Turns.{openMark, turnBy, stops, Room}
 use Rattle.pairing.specs.Chains.{Meets, refused, turned, TurnsBelow}
-use Rattle.pairing.proofs.Laws.Cases.{eq-or-not, not-so, either-false}
 use Rattle.pairing.proofs.Laws.Searches.{least-skip, least-keeps}
 
 -- the half-edges that run against k
@@ -28,19 +28,11 @@ abbrev against : List ℕ → ℕ → ℕ → Bool
 against corners k = runs corners (endOf corners k) (startOf corners k)
 
 module _ (corners table : List ℕ) (h : ℕ) (room : Room corners table) (fresh : least (stops corners) h ≡ found.Nothing) (turns : TurnsBelow corners h table) (edge : h < length corners) where
-  earlier-differs : (j k a b : ℕ) → j < k → k < h → Runs corners a b j → Runs corners a b k → ⊥
-  unfolding stops
-  earlier-differs j k a b l m r s =
-      true-not-false
-      (sym (repeats-from corners j k l (record { starts = r .starts ∙ sym (s .starts); ends = r .ends ∙ sym (s .ends) }))
-      ∙ either-false _ _ (least-never (stops corners) h fresh k m) .0)
-
   -- below h no two run alike
-  one-below : (j k a b : ℕ) → j < h → k < h → Runs corners a b j → Runs corners a b k → j ≡ k
-  one-below j k a b l m r s =
-      let before : j < k → ⊥ = λ q. earlier-differs j k a b q m r s in
-      let after : k < j → ⊥ = λ q. earlier-differs k j a b q l s r in
-      omega arith
+  one-runs : (j k a b : ℕ) → j < h → k < h → Runs corners a b j → Runs corners a b k → j ≡ k
+  unfolding stops
+  one-runs j k a b l m r s =
+      one-below corners h (λ i q. either-false _ _ (least-never (stops corners) h fresh i q) .0) j k l m (r .starts ∙ sym (s .starts)) (r .ends ∙ sym (s .ends))
 
   -- what stands with e: where it has a twin below h, something small
   entry-is : (e : ℕ) → e < h → getD table e 0 ≡ turnBy (least (against corners e) h) e
@@ -87,8 +79,8 @@ module _ (corners table : List ℕ) (h : ℕ) (room : Room corners table) (fresh
         go : (f : Found) → least (against corners h) h ≡ f → least (against corners h) h ≡ found.At e
         go (found.At g) q =
             let s = least-sound (against corners h) h g q in
-            q ∙ ap found.At (one-below g e _ _ (s .0) l (runs-says corners _ _ g (s .1)) r)
-        go found.Nothing q = absurd (true-not-false (sym (runs-from corners _ _ e r) ∙ least-never (against corners h) h q e l))
+            q ∙ ap found.At (one-runs g e _ _ (s .0) l (runs-says corners _ _ g (s .1)) r)
+        go found.Nothing q = absurd (true≢false (sym (runs-from corners _ _ e r) ∙ least-never (against corners h) h q e l))
 
     -- another half-edge below h is not opposed by h
     other-same : (k : ℕ) → k < h → (k ≡ e → ⊥) → least (against corners k) (h + 1) ≡ least (against corners k) h
@@ -97,7 +89,7 @@ module _ (corners table : List ℕ) (h : ℕ) (room : Room corners table) (fresh
         (not-so _
         (λ t.
         let s = runs-says corners _ _ h t in
-        n (one-below k e _ _ m l (record { starts = sym (s .ends); ends = sym (s .starts) }) r)))
+        n (one-runs k e _ _ m l (record { starts = sym (s .ends); ends = sym (s .starts) }) r)))
 
     twin-turns : (f : ℕ) → f ≡ following h → openMark ≤ getD table e 0 → TurnsBelow corners (h + 1) (set (set table h (getD table e 0 - openMark)) e f)
     unfolding TurnsBelow
@@ -147,7 +139,7 @@ module _ (corners table : List ℕ) (h : ℕ) (room : Room corners table) (fresh
         (not-so _
         (λ t.
         let s = runs-says corners _ _ h t in
-        true-not-false (sym (runs-from corners _ _ k (record { starts = sym (s .ends); ends = sym (s .starts) })) ∙ none k n .1))))))
+        true≢false (sym (runs-from corners _ _ k (record { starts = sym (s .ends); ends = sym (s .starts) })) ∙ none k n .1))))))
         (eq-or-not k h)
       where
         long : length corners ≤ length table
@@ -166,5 +158,5 @@ module _ (corners table : List ℕ) (h : ℕ) (room : Room corners table) (fresh
   pub met-turns : (startOf corners h ≡ endOf corners h → ⊥) → (met : Met) → Meets corners (startOf corners h) (endOf corners h) h met → (f : ℕ) → f ≡ following h → refused met table ≡ false → TurnsBelow corners (h + 1) (turned met h f table)
   unfolding Meets
   met-turns apart (Twin e) m f ef d = twin-turns e (m .0) (runs-says corners _ _ e (m .1)) f ef (ltb-false _ _ d)
-  met-turns apart Like m f ef d = absurd (true-not-false d)
+  met-turns apart Like m f ef d = absurd (true≢false d)
   met-turns apart Nothing m f ef d = new-turns apart m f ef

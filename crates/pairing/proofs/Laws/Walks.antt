@@ -7,10 +7,10 @@ use native.Mathlib.Omega.{arith}
 use native.Mathlib.Nat.{eq-or-lt-of-le}
 use lib.ListN.{length, getD}
 use Rattle.surface.specs.Edges.{endOf}
+use Rattle.surface.proofs.Laws.Tests.{lt-or-le}
 use Rattle.surface.proofs.Laws.Edges.{runs-from}
 use Rattle.pairing.specs.declared.Met.the-variants.{Twin, Like, Nothing}
 use Rattle.pairing.specs.Chains.{bucketOf, home, inBucket, top, Linked, Ended, MeetRoom, Meets}
-use Rattle.pairing.proofs.Laws.Cases.{lt-or-le}
 use Rattle.pairing.proofs.Laws.Tops.{top-le}
 use Rattle.pairing.proofs.Laws.Buckets.{Apart, apart-from, head-home, head-rest}
 

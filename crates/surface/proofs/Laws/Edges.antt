@@ -1,16 +1,16 @@
 -- On a surface that is not refused a half-edge and its twin are each the other's, since no two half-edges have the same two ends in the same order.
 use mathlib.Core.Path.{_≡_, refl, sym, ap, _∙_, subst}
-use mathlib.Core.Bool.{Bool, true, false, not, _&&_, _||_}
+use mathlib.Core.Bool.{true, false, true≢false}
 use mathlib.Core.List.{List}
 use Prim.Native.Nat.{ℕ, zero, suc, _+_, _*_, _/_, _%_, _<_}
 use native.Mathlib.Omega.{arith}
 use lib.ListN.{length}
-use borrow.Author.Tests.{eqb-true, eqb-false, eq-eqb}
+use borrow.Author.Tests.{eqb-true, eqb-false, eq-eqb, not-true, not-false}
 use Rattle.surface.specs.declared.Found.{Found}
 use Rattle.surface.specs.declared.Found.the-variants.{At, Nothing}
-use Rattle.surface.specs.Smallest.{least, any}
 use Rattle.surface.specs.Edges.{Sound, following, startOf, endOf, runs, twin, isOpen, repeats, twice}
-use Rattle.surface.proofs.Laws.Smallest.{true-not-false, least-never, least-sound, any-index, index-any}
+use Rattle.surface.proofs.Laws.Tests.{both-true, either-false}
+use Rattle.surface.proofs.Laws.Smallest.{any-none, any-some, least-never, least-sound, any-index, index-any}
 
 -- ---- the half-edges of one triangle
 
@@ -54,10 +54,6 @@ following-thrice h =
 
 -- ---- half-edges between two points
 
-both-true : (p q : Bool) → (p && q) ≡ true → (p ≡ true) × (q ≡ true)
-both-true true q e = (refl, e)
-both-true false q e = absurd (true-not-false (sym e))
-
 -- g runs from u to v
 pub record Runs (corners : List ℕ) (u v g : ℕ) : Type 0 where
   pub starts : startOf corners g ≡ u
@@ -90,15 +86,11 @@ twin-says corners h g e = let s = least-sound _ _ _ e in (s .0, runs-says _ _ _ 
 
 pub twin-none : (corners : List ℕ) (h : ℕ) → twin corners h ≡ Nothing → (g : ℕ) → g < length corners → Runs corners (endOf corners h) (startOf corners h) g → ⊥
 unfolding twin
-twin-none corners h e g l r = true-not-false (sym (runs-from _ _ _ g r) ∙ least-never _ _ e g l)
+twin-none corners h e g l r = true≢false (sym (runs-from _ _ _ g r) ∙ least-never _ _ e g l)
 
 pub open-none : (corners : List ℕ) (h : ℕ) → isOpen corners h ≡ true → twin corners h ≡ Nothing
 unfolding isOpen
-open-none corners h = go (twin corners h)
-  where
-    go : (f : Found) → not (any f) ≡ true → f ≡ Nothing
-    go (At g) e = absurd (true-not-false (sym e))
-    go Nothing e = refl
+open-none corners h e = any-none (twin corners h) (not-true _ e)
 
 pub none-open : (corners : List ℕ) (h : ℕ) → twin corners h ≡ Nothing → isOpen corners h ≡ true
 unfolding isOpen
@@ -106,11 +98,7 @@ none-open corners h e = rw e
 
 pub not-open : (corners : List ℕ) (h : ℕ) → isOpen corners h ≡ false → (g : ℕ) × (twin corners h ≡ At g)
 unfolding isOpen
-not-open corners h = go (twin corners h)
-  where
-    go : (f : Found) → not (any f) ≡ false → (g : ℕ) × (f ≡ At g)
-    go (At g) e = (g, refl)
-    go Nothing e = absurd (true-not-false e)
+not-open corners h e = any-some (twin corners h) (not-false _ e)
 
 pub twin-not-open : (corners : List ℕ) (h g : ℕ) → twin corners h ≡ At g → isOpen corners h ≡ false
 unfolding isOpen
@@ -120,7 +108,7 @@ twin-not-open corners h g e = rw e
 pub opposed : (corners : List ℕ) (h g : ℕ) → g < length corners → Runs corners (endOf corners h) (startOf corners h) g → isOpen corners h ≡ true → ⊥
 opposed corners h g l r o = twin-none corners h (open-none corners h o) g l r
 
--- ---- surfaces that are not refused
+-- ---- triangles that name no point twice, and half-edges that repeat none
 
 -- triangle t's corners are three points
 pub record ThreePoints (corners : List ℕ) (t : ℕ) : Type 0 where
@@ -128,23 +116,43 @@ pub record ThreePoints (corners : List ℕ) (t : ℕ) : Type 0 where
   pub second : startOf corners (3 * t + 1) ≡ startOf corners (3 * t + 2) → ⊥
   pub third : startOf corners (3 * t + 2) ≡ startOf corners (3 * t) → ⊥
 
-either-false : (p q : Bool) → (p || q) ≡ false → (p ≡ false) × (q ≡ false)
-either-false true q e = absurd (true-not-false e)
-either-false false q e = (refl, e)
+-- a triangle that names no point twice is one of three points
+pub plain-three : (corners : List ℕ) (t : ℕ) → twice corners t ≡ false → ThreePoints corners t
+unfolding twice
+plain-three corners t p =
+    let c = either-false _ _ p in
+    let b = either-false _ _ (c .0) in
+    record { first = eqb-false _ _ (b .0); second = eqb-false _ _ (b .1); third = eqb-false _ _ (c .1) }
+
+-- so no half-edge of it starts where it ends
+pub plain-apart : (corners : List ℕ) (h : ℕ) → twice corners (h / 3) ≡ false → startOf corners h ≡ endOf corners h → ⊥
+plain-apart corners h p =
+    let d = plain-three corners (h / 3) p in
+    by-place (λ (k : ℕ). startOf corners k ≡ endOf corners k → ⊥) h
+    (λ e. d .first (e ∙ ap (startOf corners) (following-first (h / 3))))
+    (λ e. d .second (e ∙ ap (startOf corners) (following-second (h / 3))))
+    (λ e. d .third (e ∙ ap (startOf corners) (following-third (h / 3))))
+
+-- where no half-edge below n repeats an earlier one, two below n with the same two ends in the same order are one
+module _ (corners : List ℕ) (n : ℕ) (single : (h : ℕ) → h < n → repeats corners h ≡ false) where
+  earlier-differs : (g h : ℕ) → g < h → h < n → startOf corners g ≡ startOf corners h → endOf corners g ≡ endOf corners h → ⊥
+  earlier-differs g h l m a b = true≢false (sym (repeats-from corners g h l (record { starts = a; ends = b })) ∙ single h m)
+
+  pub one-below : (g h : ℕ) → g < n → h < n → startOf corners g ≡ startOf corners h → endOf corners g ≡ endOf corners h → g ≡ h
+  one-below g h lg lh a b =
+      let before : g < h → ⊥ = λ l. earlier-differs g h l lh a b in
+      let after : h < g → ⊥ = λ l. earlier-differs h g l lg (sym a) (sym b) in
+      omega arith
+
+-- ---- surfaces that are not refused
 
 module _ (corners : List ℕ) (sound : Sound corners) where
   pub below-after : (h : ℕ) → h < length corners → following h < length corners
   below-after h l = following-below (length corners) h (sound .triples) l
 
-  earlier-differs : (g h : ℕ) → g < h → h < length corners → startOf corners g ≡ startOf corners h → endOf corners g ≡ endOf corners h → ⊥
-  earlier-differs g h l m a b = true-not-false (sym (repeats-from corners g h l (record { starts = a; ends = b })) ∙ least-never _ _ (sound .single) h m)
-
   -- no directed edge twice
   pub one-edge : (g h : ℕ) → g < length corners → h < length corners → startOf corners g ≡ startOf corners h → endOf corners g ≡ endOf corners h → g ≡ h
-  one-edge g h lg lh a b =
-      let before : g < h → ⊥ = λ l. earlier-differs g h l lh a b in
-      let after : h < g → ⊥ = λ l. earlier-differs h g l lg (sym a) (sym b) in
-      omega arith
+  one-edge = one-below corners (length corners) (least-never (repeats corners) (length corners) (sound .single))
 
   -- two edges with one twin are one edge
   pub twin-inj : (e f g : ℕ) → e < length corners → f < length corners → twin corners e ≡ At g → twin corners f ≡ At g → e ≡ f
@@ -169,18 +177,6 @@ module _ (corners : List ℕ) (sound : Sound corners) where
       let r = twin-says corners h g t .1 in
       twin-is g h l (record { starts = sym (r .ends); ends = sym (r .starts) })
 
-  pub three-points : (t : ℕ) → t < length corners / 3 → ThreePoints corners t
-  unfolding twice
-  three-points t l =
-      let c = either-false _ _ (least-never (twice corners) _ (sound .plain) t l) in
-      let b = either-false _ _ (c .0) in
-      record { first = eqb-false _ _ (b .0); second = eqb-false _ _ (b .1); third = eqb-false _ _ (c .1) }
-
   -- no half-edge starts where it ends
   pub not-still : (h : ℕ) → h < length corners → startOf corners h ≡ endOf corners h → ⊥
-  not-still h l =
-      let d = three-points (h / 3) (let t = sound .triples in omega arith) in
-      by-place (λ (k : ℕ). startOf corners k ≡ endOf corners k → ⊥) h
-      (λ e. d .first (e ∙ ap (startOf corners) (following-first (h / 3))))
-      (λ e. d .second (e ∙ ap (startOf corners) (following-second (h / 3))))
-      (λ e. d .third (e ∙ ap (startOf corners) (following-third (h / 3))))
+  not-still h l = plain-apart corners h (least-never (twice corners) _ (sound .plain) (h / 3) (let t = sound .triples in omega arith))

@@ -1,8 +1,8 @@
 -- From what the searches found to what the table of refusals says.
-use mathlib.Core.Path.{_≡_, refl, sym, ap, _∙_}
-use mathlib.Core.Bool.{Bool, true, false, not, _||_}
+use mathlib.Core.Path.{_≡_}
+use mathlib.Core.Bool.{true, false, not}
 use mathlib.Core.List.{List}
-use Prim.Native.Nat.{ℕ, _+_, _<_}
+use Prim.Native.Nat.{ℕ, _+_}
 use lib.ListN.{length}
 use borrow.Author.Tests.{not-true}
 use Rattle.limits.specs.Limits as limits
@@ -10,7 +10,8 @@ use Rattle.terms.specs.Counts.{threes}
 use Rattle.terms.specs.declared.Answer.the-variants.{Done, Words, Corners, Buffer, NotFinite, TooFar}
 use Rattle.surface.specs.declared.Found.the-variants.{At, Nothing}
 use Rattle.surface.specs.Smallest.{least, any}
-use Rattle.surface.specs.Refusals.{short, notFinite, tooFar, offGrid, countRefusal, bufferRefusal, wordRefusal, thenCheck, refuseAt, refuseIf}
+use Rattle.surface.specs.Refusals.{short, notFinite, tooFar, offGrid, countRefusal, bufferRefusal, wordRefusal}
+use Rattle.surface.proofs.Laws.Tests.{either-false}
 use Rattle.surface.proofs.Laws.Smallest.{any-never, never-least}
 
 -- ---- 1 and 2
@@ -54,16 +55,12 @@ module _ (words : List ℕ) where
   unfolding wordRefusal
   words-done e f = rw (e, f)
 
-  neither : (a b : Bool) → (a || b) ≡ false → (a ≡ false) × (b ≡ false)
-  neither true b e = absurd (mathlib.Core.Bool.true≢false e)
-  neither false b e = (refl, e)
-
-  either : (k : ℕ) → offGrid words k ≡ false → (notFinite words k ≡ false) × (tooFar words k ≡ false)
+  on-grid : (k : ℕ) → offGrid words k ≡ false → (notFinite words k ≡ false) × (tooFar words k ≡ false)
   unfolding offGrid
-  either k e = neither (notFinite words k) (tooFar words k) e
+  on-grid k e = either-false (notFinite words k) (tooFar words k) e
 
   -- a pass that met nothing off the grid met neither of the two
   pub pass-done : not (any (least (offGrid words) (length words))) ≡ true → Done ≡ wordRefusal words
   pass-done e =
       let never = any-never (offGrid words) (length words) (not-true _ e) in
-      words-done (never-least (notFinite words) (length words) (λ k l. either k (never k l) .0)) (never-least (tooFar words) (length words) (λ k l. either k (never k l) .1))
+      words-done (never-least (notFinite words) (length words) (λ k l. on-grid k (never k l) .0)) (never-least (tooFar words) (length words) (λ k l. on-grid k (never k l) .1))

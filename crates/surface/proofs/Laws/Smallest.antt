@@ -1,6 +1,6 @@
 -- A search that says `At i` has found the first index with the property, and one that says `Nothing` has passed them all: both by one step for each index.
 use mathlib.Core.Path.{_≡_, refl, sym, ap, _∙_}
-use mathlib.Core.Bool.{Bool, true, false}
+use mathlib.Core.Bool.{Bool, true, false, true≢false}
 use mathlib.Core.Logic.{⊎-elim}
 use Prim.Native.Nat.{ℕ, zero, suc, _+_, _<_}
 use native.Mathlib.Numerals.{add-one}
@@ -14,12 +14,9 @@ use Rattle.surface.specs.Smallest.{least, any, hit, orElse}
 pub At-not-Nothing : {i : ℕ} → At i ≡ Nothing → ⊥
 At-not-Nothing h = let z : _≡_ {A = ℕ} 0 1 = cc in omega arith
 
-pub true-not-false : true ≡ false → ⊥
-true-not-false e = let z : _≡_ {A = ℕ} 0 1 = cc in omega arith
-
 -- what `any` says of a search's answer
 pub any-none : (f : Found) → any f ≡ false → f ≡ Nothing
-any-none (At i) e = absurd (true-not-false e)
+any-none (At i) e = absurd (true≢false e)
 any-none Nothing e = refl
 
 pub none-any : (f : Found) → f ≡ Nothing → any f ≡ false
@@ -27,7 +24,7 @@ none-any f e = ap any e
 
 pub any-some : (f : Found) → any f ≡ true → (i : ℕ) × (f ≡ At i)
 any-some (At i) e = (i, refl)
-any-some Nothing e = absurd (true-not-false (sym e))
+any-some Nothing e = absurd (true≢false (sym e))
 
 pub some-any : (f : Found) (i : ℕ) → f ≡ At i → any f ≡ true
 some-any f i e = ap any e
@@ -103,7 +100,7 @@ module _ (p : ℕ → Bool) where
     where
       go : (t : Bool) → any (least p n) ≡ t → any (least p n) ≡ true
       go true d = d
-      go false d = absurd (true-not-false (sym e ∙ any-never n d i l))
+      go false d = absurd (true≢false (sym e ∙ any-never n d i l))
 
 -- two properties that agree below n are found at one place
 pub least-same : (p q : ℕ → Bool) (n : ℕ) → ((k : ℕ) → k < n → p k ≡ q k) → least p n ≡ least q n

@@ -1,6 +1,6 @@
 -- Checks one after the other: a refusal decides, and where none is given the next check does. What is no refusal in the table is `Done`.
-use mathlib.Core.Path.{_≡_, refl, sym, ap, _∙_}
-use mathlib.Core.Bool.{Bool, true, false, not, cond, _&&_, true≢false}
+use mathlib.Core.Path.{_≡_, refl, sym, _∙_}
+use mathlib.Core.Bool.{Bool, true, false, not, true≢false}
 use mathlib.Core.List.{List}
 use Prim.Native.Nat.{ℕ, _+_, _/_, _%_, _≤_, _<_}
 use native.Mathlib.Omega.{arith}
@@ -16,6 +16,7 @@ use Rattle.surface.specs.declared.Found.the-variants.{At, Nothing}
 use Rattle.surface.specs.Smallest.{least}
 use Rattle.surface.specs.Edges.{twice, repeats}
 use Rattle.surface.specs.Refusals.{short, unnamed, notFinite, tooFar, thenCheck, refuseAt, refuseIf, countRefusal, bufferRefusal, cornerRefusal, wordRefusal, contentRefusal}
+use Rattle.surface.proofs.Laws.Tests.{both-true}
 use Rattle.surface.proofs.Laws.Smallest.{least-never}
 
 -- ---- one after the other
@@ -93,12 +94,8 @@ done-of a p e = p e
 
 -- ---- what is known where a part of the table refuses nothing
 
-and-true : (a b : Bool) → (a && b) ≡ true → (a ≡ true) × (b ≡ true)
-and-true true b e = (refl, e)
-and-true false b e = absurd (true≢false (sym e))
-
 pub threes-say : (most n : ℕ) → threes most n ≡ true → (n % 3 ≡ 0) × (n ≤ most)
-threes-say most n e = let b = and-true _ _ e in (eqb-true (n % 3) 0 (b .0), leb-true n most (b .1))
+threes-say most n e = let b = both-true _ _ e in (eqb-true (n % 3) 0 (b .0), leb-true n most (b .1))
 
 -- counts that pass are multiples of three, and not too many
 pub record Fitting (words corners : ℕ) : Type 0 where

@@ -81,7 +81,6 @@ module _ (words corners : List ℕ) (b : Buffers) where
 
       pub done-is : (at : Listed) (firsts rings′ lengths′ firsts′ : List ℕ) (grid′ : List ℤ) → Lists corners (loops corners) (b .rings) (b .lengths) firsts at rings′ lengths′ firsts′ → grid′ ≡ over (gridOf words) (b .grid)
           → outcome (record { answer = Done; loops = at .loops; vertices = at .vertices }) (buffers grid′ rings′ lengths′) ≡ surveyOf words corners b
-      unfolding Rattle.finder.specs.Listing.over over
       done-is at firsts rings′ lengths′ firsts′ grid′ ls e =
           (λ t. record { answer = Done; loops = ls .count t; vertices = ls .vertices t; left = record { grid = e t; rings = ls .all-rings t; lengths = ls .all-lengths t } })
           ∙ sym (passed-on (to-content ∙ sym (k .said) ∙ content-done))
