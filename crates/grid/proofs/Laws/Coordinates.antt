@@ -21,7 +21,7 @@ use Rattle.limits.specs.Limits.{greatest}
 use Rattle.grid.specs.Units.{one, signed, units}
 use Rattle.grid.specs.Places.{whole, rest, Lands, Leaves, Places}
 use Rattle.grid.specs.declared.Coordinate.the-variants.{Exact, Shifted, NotFinite, TooFar}
-use Rattle.grid.proofs.Laws.Nearest.{apart, apart-scale, Near, closest-near, near-nearest, near-le}
+use Rattle.grid.proofs.Laws.Nearest.{apart, apart-scale, Near, closest-near, near-own, near-le}
 use Rattle.grid.proofs.Laws.Signs.{abs-signed, sfits-signed, signed-under, signed-over, difference-zero, zero-difference}
 use Rattle.grid.proofs.Laws.Floats.{Is, is-units, minus, field, Small, small, small-below, Large, large, less-whole, of-int, in-float, sign-of, sign-kept, off, add-high, eq-is, level-same, level-other}
 use Rattle.grid.proofs.Laws.Rests.{whole-one, rest-one}
@@ -95,10 +95,7 @@ module _ (w : ℕ) (h : field w < 149) where
   distance = sym (apart-scale (p .digits) (size * 2 ^ (149 - p .zeros)) (2 ^ p .zeros) ∙ ap (apart count) over)
 
   no-further : apart count (size * one) ≤ count
-  no-further = le-trans (near-nearest (closest-near count one (pow-pos 149)) 0) (least count one)
-    where
-      least : (n u : ℕ) → apart n (0 * u) ≤ n
-      least n u = omega (arith, zero-mul u)
+  no-further = near-own (closest-near count one (pow-pos 149))
 
   few-digits : apart (p .digits) (size * 2 ^ (149 - p .zeros)) < 2 ^ 24
   few-digits = lt-of-le-of-lt (le-of-mul-le-mul-right (le-trans (le-of-eq (sym distance)) no-further) (pow-pos (p .zeros))) (p .few)

@@ -2,7 +2,7 @@
 -- values alone, where a difference is exact, where a sum rounds to a whole number, and when two floats are equal.
 use mathlib.Core.Path.{_≡_, refl, sym, ap, _∙_, subst}
 use Prim.Native.Nat.{ℕ, zero, suc, _+_, _-_, _*_, _/_, _%_, _^_, _≤_, _<_, compare}
-use native.Mathlib.Nat.{le-trans, le-of-eq, le-of-lt, lt-of-lt-of-le, lt-of-le-of-lt, zero-mul, one-mul, mul-one, mul-comm, mul-assoc, mul-right-comm, mul-pos, add-mul, mul-sub, mul-div-cancel, mul-lt-mul-of-pos-right, lt-of-mul-lt-mul-right, lt-of-not-le, not-le-of-lt, div-lt-iff-lt-mul, mul-le-mul-right, eq-of-mul-eq-mul-right, mod-lt, add-comm, le-add-right}
+use native.Mathlib.Nat.{le-trans, le-of-eq, le-of-lt, lt-of-lt-of-le, lt-of-le-of-lt, zero-mul, one-mul, mul-one, mul-comm, mul-assoc, mul-right-comm, mul-pos, add-mul, mul-div-cancel, mul-lt-mul-of-pos-right, lt-of-mul-lt-mul-right, lt-of-not-le, not-le-of-lt, div-lt-iff-lt-mul, mul-le-mul-right, eq-of-mul-eq-mul-right, mod-lt, add-comm, le-add-right}
 use native.Mathlib.Omega.{arith}
 use mathlib.Core.Bool.{Bool, true, false, not, _&&_, _||_, cond, Bool·beq}
 use mathlib.Core.Logic.{_⊎_, inl, inr}
@@ -19,7 +19,7 @@ use lib.Ieee.Exact.{HasValue, round-exact, odd-sign}
 use lib.Ieee.Scale.{finite, round-same, round-val, grid}
 use lib.Ieee.Back.{round-whole, whole-unique}
 use Rattle.grid.specs.Units.{one, signed, units}
-use Rattle.grid.proofs.Laws.Nearest.{apart, closest-up, closest-down}
+use Rattle.grid.proofs.Laws.Nearest.{apart, sub-mul, closest-up, closest-down}
 use Rattle.grid.proofs.Laws.Signs.{abs-signed, signed-under, signed-over}
 
 -- ---- a value in units
@@ -55,9 +55,6 @@ same-test true true p q = refl
 same-test true false p q = absurd (p tt)
 same-test false true p q = absurd (q tt)
 same-test false false p q = refl
-
-sub-mul : (a b t : ℕ) → (a - b) * t ≡ a * t - b * t
-sub-mul a b t = mul-comm (a - b) t ∙ mul-sub t a b ∙ ap (λ (x : ℕ). x - t * b) (mul-comm t a) ∙ ap (λ (x : ℕ). a * t - x) (mul-comm t b)
 
 -- a / c and b / c are A / L and B / L
 module _ (a b c A B L : ℕ) (C : 0 < c) (Z : 0 < L) (p : a * L ≡ A * c) (q : b * L ≡ B * c) where

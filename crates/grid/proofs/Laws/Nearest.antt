@@ -89,7 +89,11 @@ near-nearest {m} {d} {k} p l = go (decLt k l) (decLt l k)
     go (no h) (yes g) = omega (arith, p .half, step d g)
     go (no h) (no g) = let e : k ≡ l = omega arith in omega (arith, ap (λ (x : ℕ). x * d) e)
 
--- so it is not above a multiple that m does not pass
+-- so it lies no further than 0 does
+pub near-own : {m d k : ℕ} → Near m d k → apart m (k * d) ≤ m
+near-own {m} {d} {k} p = omega (arith, near-nearest p 0, zero-mul d)
+
+-- and it is not above a multiple that m does not pass
 pub near-le : {m d k q : ℕ} → 0 < d → Near m d k → m ≤ q * d → k ≤ q
 near-le {m} {d} {k} {q} D p h = go (decLt q k)
   where
@@ -97,7 +101,7 @@ near-le {m} {d} {k} {q} D p h = go (decLt q k)
     go (yes g) = absurd (omega (arith, p .half, step d g))
     go (no g) = omega arith
 
-sub-mul : (a b t : ℕ) → (a - b) * t ≡ a * t - b * t
+pub sub-mul : (a b t : ℕ) → (a - b) * t ≡ a * t - b * t
 sub-mul a b t = mul-comm (a - b) t ∙ mul-sub t a b ∙ ap (λ (x : ℕ). x - t * b) (mul-comm t a) ∙ ap (λ (x : ℕ). a * t - x) (mul-comm t b)
 
 pub apart-scale : (a b t : ℕ) → apart a b * t ≡ apart (a * t) (b * t)

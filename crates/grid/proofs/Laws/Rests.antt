@@ -10,7 +10,7 @@ use lib.IntN.{ℤ, pos, negsuc, negℤ, natAbs, _+ℤ_, _-ℤ_, _*ℤ_, negℤ-+
 use lib.Ieee.Nearest.{closest}
 use Rattle.grid.specs.Units.{one, signed}
 use Rattle.grid.specs.Places.{whole, rest}
-use Rattle.grid.proofs.Laws.Nearest.{apart, Near, closest-near, closest-zero, near-nearest}
+use Rattle.grid.proofs.Laws.Nearest.{apart, Near, closest-near, closest-zero, near-nearest, near-own}
 use Rattle.grid.proofs.Laws.Signs.{split, abs-signed, mul-signed, abs-difference}
 
 module _ (p : ℕ) (P : 0 < p) where
@@ -64,11 +64,8 @@ module _ (p : ℕ) (P : 0 < p) where
       alike : (r : Bool) (n : ℕ) → natAbs (rest p (signed r n)) ≤ natAbs (signed r n -ℤ signed r (m * (p * one)))
       alike r n = le-trans (le-of-eq (rest-size r n)) (le-trans (near-nearest (near n) m) (le-of-eq (sym (abs-difference r n (m * (p * one))))))
 
-      least : (n u : ℕ) → apart n (0 * u) ≤ n
-      least n u = omega (arith, zero-mul u)
-
       unlike : (r : Bool) (n : ℕ) → natAbs (rest p (signed r n)) ≤ natAbs (signed r n -ℤ signed (not r) (m * (p * one)))
-      unlike r n = le-trans (le-of-eq (rest-size r n)) (le-trans (near-nearest (near n) 0) (le-trans (least n (p * one)) (le-trans (le-add-right n (m * (p * one))) (le-of-eq (sym (across r n (m * (p * one))))))))
+      unlike r n = le-trans (le-of-eq (rest-size r n)) (le-trans (near-own (near n)) (le-trans (le-add-right n (m * (p * one))) (le-of-eq (sym (across r n (m * (p * one)))))))
 
       go : (r s : Bool) (n : ℕ) → natAbs (rest p (signed r n)) ≤ natAbs (signed r n -ℤ signed s (m * (p * one)))
       go true true n = alike true n

@@ -1,6 +1,6 @@
 -- The pairing stops at 5 as well as at 6: where it did not stop there is neither, and where no triangle names a point twice it stopped at 6.
 use mathlib.Core.Path.{_≡_, refl, sym, ap, _∙_}
-use mathlib.Core.Bool.{Bool, true, false, _&&_, _||_, true≢false}
+use mathlib.Core.Bool.{Bool, true, false, _&&_, _||_, and-false, or-false}
 use mathlib.Core.List.{List}
 use Prim.Native.Nat.{ℕ, _+_, _*_, _/_, _%_, _<_}
 use native.Mathlib.Omega.{arith}
@@ -11,24 +11,13 @@ use Rattle.surface.specs.declared.Found.the-variants.{Nothing}
 use Rattle.surface.specs.Smallest.{least}
 use Rattle.surface.specs.Edges.{twice, repeats}
 use Rattle.surface.proofs.Laws.Smallest.{least-never, never-least, least-same}
+use Rattle.surface.proofs.Laws.Tests.{either-false}
 use Rattle.pairing.specs.Turns.{stops}
-
-or-false : (a b : Bool) → (a || b) ≡ false → (a ≡ false) × (b ≡ false)
-or-false true b e = absurd (true≢false e)
-or-false false b e = (refl, e)
-
-and-false : (a : Bool) → (a && false) ≡ false
-and-false true = refl
-and-false false = refl
-
-or-none : (a : Bool) → (a || false) ≡ a
-or-none true = refl
-or-none false = refl
 
 module _ (corners : List ℕ) (triples : length corners % 3 ≡ 0) where
   stop-parts : (h : ℕ) → stops corners h ≡ false → (repeats corners h ≡ false) × ((eqb (h % 3) 0 && twice corners (h / 3)) ≡ false)
   unfolding stops
-  stop-parts h e = or-false (repeats corners h) (eqb (h % 3) 0 && twice corners (h / 3)) e
+  stop-parts h e = either-false (repeats corners h) (eqb (h % 3) 0 && twice corners (h / 3)) e
 
   pub no-stop-single : least (stops corners) (length corners) ≡ Nothing → least (repeats corners) (length corners) ≡ Nothing
   no-stop-single n = never-least (repeats corners) (length corners) (λ k l. stop-parts k (least-never (stops corners) (length corners) n k l) .0)
@@ -50,4 +39,4 @@ module _ (corners : List ℕ) (triples : length corners % 3 ≡ 0) where
       (λ k l.
       ap (λ (b : Bool). repeats corners k || (eqb (k % 3) 0 && b)) (least-never (twice corners) (length corners / 3) p (k / 3) (omega arith))
       ∙ ap (λ (b : Bool). repeats corners k || b) (and-false (eqb (k % 3) 0))
-      ∙ or-none (repeats corners k))
+      ∙ or-false (repeats corners k))
