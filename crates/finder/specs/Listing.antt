@@ -29,6 +29,14 @@ pub record Ready (corners turns rings lengths firsts : List ℕ) : Type 0 where
   pub lengths-long : length corners / 3 ≤ length lengths
   pub firsts-long : length corners / 3 ≤ length firsts
 
+-- the loops can be counted: a sound surface and its table
+pub record Countable (corners turns : List ℕ) : Type 0 where
+  pub sound : Sound corners
+  pub few : length corners ≤ limits.corners
+  pub named : (i : ℕ) → i < length corners → getD corners i 0 < limits.points
+  pub table : Turns corners turns
+  pub table-long : length corners ≤ length turns
+
 -- what the finder leaves and answers for the loops ls
 pub record Lists (corners : List ℕ) (ls : List (List ℕ)) (rings lengths firsts : List ℕ) (at : Listed) (rings′ lengths′ firsts′ : List ℕ) : Type 0 where
   pub count : at .loops ≡ length ls

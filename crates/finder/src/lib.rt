@@ -6,7 +6,7 @@ ghost use Prim.Native.Nat.{_+_, _<_, _≤_};
 ghost use lib.ListN.{length, getD, take};
 ghost use Rattle.pairing.specs.Turns.{openMark};
 ghost use Rattle.loops.specs.Loops.{loops, ring, startsAt};
-ghost use Rattle.finder.specs.Listing.{Ready, Lists};
+ghost use Rattle.finder.specs.Listing.{Ready, Lists, Countable};
 ghost use Rattle.finder.specs.Walking.{Quiet, Landing, Landed, Sought, RingRoom, laid, part, CutRoom, WasCut, GrowRoom, Grew, CycleRoom, CycleListed};
 use pairing::OPEN;
 use surface::Found;
@@ -61,6 +61,18 @@ pub fn list_loops(
         h += 1;
     }
     at
+}
+
+// Counts all loops, for a caller that must know their number before it writes. The table of turns is used up.
+pub fn count_loops(corners: &[u16], turns: &mut [u16]) -> usize
+    requires { ⌜ Countable (now corners) (now turns) ⌝ }
+    ensures { λ r. ⌜ r ≡ length (loops (now (corners .entry))) ⌝ }
+{
+    let mut rings = [0u16; Surface::CORNERS];
+    let mut lengths = [0u16; Surface::TRIANGLES];
+    let mut firsts = [0u16; Surface::TRIANGLES];
+    let listed = list_loops(corners, turns, &mut rings, &mut lengths, &mut firsts);
+    listed.loops
 }
 
 // A half-edge after h, and at most n, before which none from h on leads: sixteen are passed over at a time.
