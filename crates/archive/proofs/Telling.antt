@@ -1,5 +1,5 @@
 -- From the library's answer to its plain numbers, and that these are determined.
-use mathlib.Core.Path.{_≡_, refl, sym, ap, _∙_, subst}
+use mathlib.Core.Path.{_≡_, sym, ap, _∙_, subst}
 use mathlib.Core.Bool.{not}
 use Prim.Native.Nat.{ℕ, _^_, _<_}
 use native.Mathlib.Nat.{lt-of-le-of-lt}
@@ -11,7 +11,6 @@ use lib.Ieee.Scale.{finite}
 use mir.Syntax.{w32}
 use mir.Val.{SFits, toZ, ofZ}
 use mir.ValLaws.{toZ-ofZ}
-use Rattle.limits.specs.Limits.{greatest}
 use Rattle.terms.specs.Answers.{numberOf, placeOf}
 use Rattle.terms.specs.declared.Answer.{Answer}
 use Rattle.grid.specs.Places.{Places, Lands, answerOf}

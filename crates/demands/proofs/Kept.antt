@@ -1,8 +1,8 @@
 -- The demands are kept.
 use mathlib.Core.Path.{_≡_, sym, _∙_}
-use mathlib.Core.List.{List, [], map}
-use Prim.Native.Nat.{ℕ, _<_}
-use lib.ListN.{length, getD, length-map}
+use mathlib.Core.List.{List, map}
+use Prim.Native.Nat.{ℕ}
+use lib.ListN.{length, length-map}
 use Rattle.surface.specs.Edges.{Sound, startOf}
 use Rattle.loops.specs.Loops.{loops}
 use Rattle.loops.proofs.Laws.Distinct.{Distinct}

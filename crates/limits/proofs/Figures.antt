@@ -1,5 +1,5 @@
 -- Figures of the scope that follow from the limits. They hold at these limits and at no others, so none can be moved unseen.
-use Prim.Native.Nat.{ℕ, _+_, _-_, _*_, _/_}
+use Prim.Native.Nat.{_+_, _-_, _*_, _/_}
 use mathlib.Core.Path.{_≡_, refl}
 use Rattle.limits.specs.Limits.{points, triangles, words, corners, greatest, longest}
 

@@ -1,5 +1,4 @@
 -- What a survey leaves and answers: the grid, and the rings and lengths of all loops; or a refusal, and everything as it was.
-use mathlib.Core.Path.{_≡_}
 use mathlib.Core.Bool.{cond}
 use mathlib.Core.List.{List, [], _∷_, map}
 use Prim.Native.Nat.{ℕ, _/_}

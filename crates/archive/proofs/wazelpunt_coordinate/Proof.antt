@@ -1,5 +1,5 @@
 -- `wazelpunt_coordinate` tells what `place` found.
-use mathlib.Core.Path.{refl, sym, subst}
+use mathlib.Core.Path.{refl, subst}
 use borrow.Author.Needs.{needs}
 use Rattle.grid.specs.Places.{Places}
 use Rattle.grid.specs.declared.Coordinate.the-variants.{Exact, Shifted, NotFinite, TooFar}

@@ -1,11 +1,11 @@
 -- What the code finds of a word, read as what `Places` asks at pitch 1.
 use mathlib.Core.Path.{_≡_, refl, sym, ap, _∙_, subst}
-use mathlib.Core.Bool.{Bool, true, false, not}
-use Prim.Native.Nat.{ℕ, zero, suc, _+_, _-_, _*_, _%_, _^_, _≤_, _<_}
-use native.Mathlib.Nat.{le-trans, le-of-eq, le-of-lt, suc-mul, mul-le-mul-right, lt-of-le-of-lt, lt-of-lt-of-le, mul-assoc, mul-comm, mul-right-comm, le-of-mul-le-mul-right, zero-mul}
+use mathlib.Core.Bool.{Bool, true, false}
+use Prim.Native.Nat.{ℕ, _+_, _-_, _*_, _%_, _^_, _≤_, _<_}
+use native.Mathlib.Nat.{le-trans, le-of-eq, le-of-lt, suc-mul, mul-le-mul-right, lt-of-le-of-lt, lt-of-lt-of-le, mul-assoc, le-of-mul-le-mul-right}
 use native.Mathlib.Omega.{arith}
 use native.Mathlib.Decide.{decLt}
-use lib.Dec.{T, leb, lit≤, lit<}
+use lib.Dec.{T, lit≤, lit<}
 use lib.Pow.{pow-add, pow-pos}
 use lib.IntN.{ℤ, pos, negℤ, natAbs, _-ℤ_}
 use mir.Syntax.{w32}
@@ -16,14 +16,13 @@ use lib.Ieee.Back.{positive-back}
 use lib.Ieee.Exact.{HasValue}
 use lib.Ieee.Fits.{sub-fits}
 use lib.Ieee.Nearest.{closest}
-use lib.Ieee.Scale.{finite}
 use Rattle.limits.specs.Limits.{greatest}
 use Rattle.grid.specs.Units.{one, signed, units}
-use Rattle.grid.specs.Places.{whole, rest, Lands, Leaves, Places}
-use Rattle.grid.specs.declared.Coordinate.the-variants.{Exact, Shifted, NotFinite, TooFar}
+use Rattle.grid.specs.Places.{whole, rest, Lands, Places}
+use Rattle.grid.specs.declared.Coordinate.the-variants.{Exact, Shifted, TooFar}
 use Rattle.grid.proofs.Laws.Nearest.{apart, apart-scale, Near, closest-near, near-own, near-le}
 use Rattle.grid.proofs.Laws.Signs.{abs-signed, sfits-signed, signed-under, signed-over, difference-zero, zero-difference}
-use Rattle.grid.proofs.Laws.Floats.{Is, is-units, minus, field, Small, small, small-below, Large, large, less-whole, of-int, in-float, sign-of, sign-kept, off, add-high, eq-is, level-same, level-other}
+use Rattle.grid.proofs.Laws.Floats.{Is, is-units, minus, field, Small, small, small-below, large, less-whole, of-int, in-float, sign-of, sign-kept, off, add-high, eq-is, level-same, level-other}
 use Rattle.grid.proofs.Laws.Rests.{whole-one, rest-one}
 
 -- ---- from 2^22 on
@@ -74,9 +73,6 @@ module _ (w : ℕ) (h : field w < 149) where
 
   pub whole-is : whole 1 (units x) ≡ signed (minus w) size
   whole-is = ap (whole 1) (is .counts) ∙ whole-one (minus w) count
-
-  pub size-is : natAbs (whole 1 (units x)) ≡ size
-  size-is = ap natAbs whole-is ∙ abs-signed (minus w) size
 
   pub size-small : size ≤ 2 ^ 22
   size-small = near-le (pow-pos 149) (closest-near count one (pow-pos 149)) (le-of-lt (small-below w p))

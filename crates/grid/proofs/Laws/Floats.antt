@@ -2,15 +2,14 @@
 -- values alone, where a difference is exact, where a sum rounds to a whole number, and when two floats are equal.
 use mathlib.Core.Path.{_≡_, refl, sym, ap, _∙_, subst}
 use Prim.Native.Nat.{ℕ, zero, suc, _+_, _-_, _*_, _/_, _%_, _^_, _≤_, _<_, compare}
-use native.Mathlib.Nat.{le-trans, le-of-eq, le-of-lt, lt-of-lt-of-le, lt-of-le-of-lt, zero-mul, one-mul, mul-one, mul-comm, mul-assoc, mul-right-comm, mul-pos, add-mul, mul-div-cancel, mul-lt-mul-of-pos-right, lt-of-mul-lt-mul-right, lt-of-not-le, not-le-of-lt, div-lt-iff-lt-mul, mul-le-mul-right, eq-of-mul-eq-mul-right, mod-lt, add-comm, le-add-right}
+use native.Mathlib.Nat.{le-trans, le-of-eq, le-of-lt, lt-of-lt-of-le, lt-of-le-of-lt, zero-mul, mul-one, mul-comm, mul-assoc, mul-right-comm, mul-pos, add-mul, mul-div-cancel, mul-lt-mul-of-pos-right, lt-of-mul-lt-mul-right, lt-of-not-le, not-le-of-lt, div-lt-iff-lt-mul, mul-le-mul-right, eq-of-mul-eq-mul-right, mod-lt, add-comm, le-add-right}
 use native.Mathlib.Omega.{arith}
 use mathlib.Core.Bool.{Bool, true, false, not, _&&_, _||_, cond, Bool·beq}
-use mathlib.Core.Logic.{_⊎_, inl, inr}
 use lib.Arith.{lt-of-le-ne}
-use lib.Dec.{T, ltb, leb, eqb, ltb→lt, lt→ltb, le→leb, nltb→le, eqb→eq, not-T, lit≤, lit<}
+use lib.Dec.{T, ltb, leb, eqb, ltb→lt, lt→ltb, le→leb, nltb→le, eqb→eq, not-T, lit<}
 use lib.Pow.{pow-add, pow-pos, pow-mono, pow-lt, shl-lt}
-use lib.IntN.{ℤ, pos, negsuc, negℤ, natAbs, _-ℤ_, pos-ne-negsuc}
-use lib.Ieee.{Float, nan, inf, fin, Format, binary32, prec, emax, low, up, down, size, round, sum, add, neg, sub, ofInt, eq, level, inFloat, ofBits, ofFields, odd, nanBits, fits}
+use lib.IntN.{ℤ, pos, negℤ, natAbs, _-ℤ_, pos-ne-negsuc}
+use lib.Ieee.{Float, nan, inf, fin, Format, binary32, low, up, down, size, round, sum, add, neg, sub, ofInt, eq, level, inFloat, ofBits, ofFields, odd, nanBits}
 use lib.Ieee.Digits.{size-le, size-lt}
 use borrow.Author.Tests.{lt-ltb}
 use lib.Ieee.Nearest.{closest, closest-same}

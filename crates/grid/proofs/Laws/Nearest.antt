@@ -1,6 +1,6 @@
 -- `closest m d` is the multiple of d nearest to m, of two the even one, and nothing else is: no multiple lies nearer, it lies
 -- no further than half of d, and at just half it is even. Nothing here is about floats, and d is any number above 0.
-use mathlib.Core.Path.{_≡_, refl, sym, ap, _∙_, subst}
+use mathlib.Core.Path.{_≡_, refl, ap, _∙_, subst}
 use mathlib.Core.Logic.{_⊎_, inl, inr, ⊎-elim}
 use mathlib.Core.Bool.{not}
 use Prim.Native.Nat.{ℕ, zero, suc, _+_, _-_, _*_, _/_, _%_, _≤_, _<_, compare, Ordering, Ordering·lt, Ordering·eq, Ordering·gt}

@@ -1,16 +1,16 @@
 -- One coordinate has one right answer: any two answers that `Places` allows are equal.
-use mathlib.Core.Path.{_≡_, refl, sym, ap, _∙_, subst}
-use Prim.Native.Nat.{ℕ, zero, suc, _+_, _-_, _*_, _/_, _^_, _≤_, _<_}
+use mathlib.Core.Path.{_≡_, refl, sym, ap, _∙_}
+use Prim.Native.Nat.{ℕ, zero, suc, _+_, _-_, _*_, _/_, _^_, _<_}
 use native.Mathlib.Omega.{arith}
-use mathlib.Core.Bool.{Bool, true, false, not, cond}
+use mathlib.Core.Bool.{Bool, true, false, cond}
 use lib.Dec.{T, T-not}
-use lib.IntN.{ℤ, pos, negsuc, negℤ, natAbs}
-use lib.Ieee.{Float, nan, inf, fin, binary32, fits, up, down, toBits, ofBits, size, top, hid, prec}
+use lib.IntN.{ℤ, pos, negsuc, natAbs}
+use lib.Ieee.{Float, nan, inf, fin, binary32, up, down, toBits, ofBits, size, top, hid, prec}
 use lib.Ieee.Bits.{ofBits-toBits}
 use lib.Ieee.Scale.{finite}
 use Rattle.limits.specs.Limits.{greatest}
 use Rattle.grid.specs.Units.{one, signed, units}
-use Rattle.grid.specs.Places.{whole, rest, Lands, Leaves, Places}
+use Rattle.grid.specs.Places.{whole, Lands, Leaves, Places}
 use Rattle.grid.specs.declared.Coordinate.{Coordinate}
 use Rattle.grid.specs.declared.Coordinate.the-variants.{Exact, Shifted, NotFinite, TooFar}
 use Rattle.grid.proofs.Laws.Signs.{abs-signed}

@@ -1,5 +1,5 @@
 -- Sizes with a sign: `signed s n` is n, or -n where s is true. Every whole number is one, and differences of two with one sign go by their sizes.
-use mathlib.Core.Path.{_≡_, refl, sym, ap, _∙_, subst}
+use mathlib.Core.Path.{_≡_, refl, sym, ap, _∙_}
 use Prim.Native.Nat.{ℕ, zero, suc, _+_, _-_, _*_, _^_, _≤_, _<_}
 use native.Mathlib.Nat.{zero-mul, le-of-eq}
 use native.Mathlib.Omega.{arith}

@@ -1,12 +1,9 @@
 -- `place` gives each of the four answers where it is due.
-use mathlib.Core.Path.{_≡_, refl, sym, ap, _∙_, subst}
-use mathlib.Core.Bool.{Bool, true, false, not}
+use mathlib.Core.Path.{sym, _∙_}
 use native.Mathlib.Omega.{arith}
 use borrow.Author.Needs.{needs}
 use borrow.Author.Tests.{leb-true, leb-false, not-true, not-false}
-use lib.Dec.{T, lit<}
-use lib.IntN.{ℤ, natAbs}
-use lib.Ieee.{binary32, inFloat}
+use lib.Dec.{lit<}
 use Rattle.grid.proofs.Laws.Floats.{number, no-number}
 use Rattle.grid.proofs.Laws.Coordinates.{beyond, held, as-float, too-far, exactly, shifted}
 use Rattle.grid.proofs.place.Statement.{statement}

@@ -1,6 +1,6 @@
 -- What a walk lists is put behind what was listed before and does not depend on it, since a cut looks only at the path; so a walk can be
 -- taken in parts.
-use mathlib.Core.Path.{_≡_, refl, sym, ap, _∙_}
+use mathlib.Core.Path.{_≡_, refl, ap, _∙_}
 use mathlib.Core.List.{List, [], _∷_, _++_, append-nil, append-assoc}
 use Prim.Native.Nat.{ℕ}
 use Rattle.surface.specs.declared.Found.{Found}
@@ -32,10 +32,6 @@ module _ (corners : List ℕ) where
 
   behind-none : (t : Split) → behind (t .listed) (pathOnly (t .path)) ≡ t
   behind-none t = ap (λ (z : List (List ℕ)). record { path = t .path; listed = z }) (append-nil (t .listed))
-
-  -- from any state a walk goes as from its path alone
-  pub grow-alone : (t : Split) (e : ℕ) → grow corners t e ≡ behind (t .listed) (grow corners (pathOnly (t .path)) e)
-  grow-alone t e = ap (λ (z : Split). grow corners z e) (sym (behind-none t)) ∙ grow-behind (t .listed) (pathOnly (t .path)) e
 
   -- one part of a walk after the other
   pub growAll-append : (t : Split) (a b : List ℕ) → growAll corners t (a ++ b) ≡ growAll corners (growAll corners t a) b

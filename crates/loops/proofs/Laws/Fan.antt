@@ -2,10 +2,9 @@
 use mathlib.Core.Path.{_≡_, refl, sym, ap, _∙_}
 use mathlib.Core.Bool.{true, false}
 use mathlib.Core.List.{List}
-use Prim.Native.Nat.{ℕ, zero, suc, _+_, _<_, _≤_}
+use Prim.Native.Nat.{ℕ, zero, suc, _<_, _≤_}
 use native.Mathlib.Nat.{le-refl, le-of-suc-le-suc}
 use native.Mathlib.Decide.{le-ind}
-use native.Mathlib.Numerals.{add-one}
 use native.Mathlib.Omega.{arith}
 use lib.ListN.{length}
 use Rattle.surface.specs.declared.Found.{Found}
@@ -17,22 +16,11 @@ use Rattle.surface.proofs.Laws.Edges.{following-inj, below-after, twin-says, op
 use Rattle.loops.specs.Next.{across, step, turn, next}
 use Rattle.loops.proofs.Laws.Pigeon.{crowded}
 
--- ---- the turn as a loop runs it: one more step, and the end
-
-pub turn-none : (corners : List ℕ) (a : ℕ) → turn corners 0 a ≡ a
-unfolding turn
-turn-none corners a = refl
-
-pub turn-more : (corners : List ℕ) (k e a g : ℕ) → e ≡ turn corners k a → twin corners e ≡ At g → following g ≡ turn corners (k + 1) a
-unfolding turn step
-turn-more corners k e a g h t = rw (add-one, ← h, t)
+-- ---- a turn that came to an open edge stays there
 
 pub turn-stays : (corners : List ℕ) (k n e a : ℕ) → e ≡ turn corners k a → twin corners e ≡ Nothing → k ≤ n → e ≡ turn corners n a
 unfolding turn step
 turn-stays corners k n e a h t l = le-ind (λ (m : ℕ). e ≡ turn corners m a) h (λ m q p. rw (← p, t)) n l
-
-pub turn-end : (corners : List ℕ) (k n e a : ℕ) → e ≡ turn corners k a → k ≡ n → e ≡ turn corners n a
-turn-end corners k n e a h q = rw (← q) h
 
 -- ---- one step
 

@@ -66,10 +66,6 @@ unfolding total
 total-append [] b = omega arith
 total-append (l ∷ a) b = let r : total (a ++ b) ≡ total a + total b = total-append a b in omega arith
 
-pub total-snoc : (ls : List (List ℕ)) (l : List ℕ) → total (ls ++ (l ∷ [])) ≡ total ls + length l
-unfolding total
-total-snoc ls l = let r : total (ls ++ (l ∷ [])) ≡ total ls + (length l + 0) = total-append ls (l ∷ []) in omega arith
-
 module _ (corners : List ℕ) where
   pub grow-total : (t : Split) (e : ℕ) → total (grow corners t e .listed) + length (grow corners t e .path) ≡ total (t .listed) + length (t .path) + 1
   grow-total t e = omega (arith, grow-adds length length-append corners t e, total-flatten (grow corners t e .listed), total-flatten (t .listed))

@@ -45,11 +45,6 @@ module _ (corners : List ℕ) (sound : Sound corners) where
       linked-threes corners front (linked-front corners front back (rw (take-append-drop k (cycle corners h)) (cycle-linked corners sound h lh oh)))
       (plain-among corners front (cycle corners h) (λ e m. rw (take-append-drop k (cycle corners h)) at (among-front e front back m)) (cycle-plain corners sound h lh oh))
 
-  -- so they are no more than a third of their edges
-  pub middle-few : (h : ℕ) → h < length corners → isOpen corners h ≡ true → (k : ℕ)
-      → 3 * length (growAll corners fresh (take k (cycle corners h)) .listed) ≤ total (growAll corners fresh (take k (cycle corners h)) .listed)
-  middle-few h lh oh k = threes-total (growAll corners fresh (take k (cycle corners h)) .listed) (middle-threes h lh oh k)
-
   -- ---- between two cycles
 
   -- the loops below k have as many edges as were walked

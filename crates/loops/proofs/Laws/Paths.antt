@@ -51,21 +51,6 @@ module _ (corners : List ℕ) where
   unfolding startsAt
   path-free s p x h = never-least _ (length p) (λ i l. ne-eqb _ _ (h .free i l))
 
-  -- an edge of a path of different starts is found by its start
-  pub starts-found : (p : List ℕ) (x i : ℕ) → Distinct (ring corners p) → i < length p → startOf corners (getD p i 0) ≡ x → startsAt corners p x ≡ At i
-  unfolding startsAt Distinct
-  starts-found p x i d l q = go (startsAt corners p x) refl
-    where
-      n : length (ring corners p) ≡ length p
-      n = length-map p (startOf corners)
-
-      go : (f : Found) → startsAt corners p x ≡ f → f ≡ At i
-      go Nothing h = absurd (eqb-false _ _ (least-never _ _ h i l) q)
-      go (At j) h =
-          let w = least-sound _ _ _ h in
-          let s : startOf corners (getD p j 0) ≡ startOf corners (getD p i 0) = eqb-true _ _ (w .1) ∙ sym q in
-          ap At (d j i (omega (arith, n)) (omega (arith, n)) (map-at (startOf corners) p j (w .0) ∙ s ∙ sym (map-at (startOf corners) p i l)))
-
   -- a path that comes back to where it began is empty
   pub path-back : (s : ℕ) (p : List ℕ) → PathFrom corners s p s → p ≡ []
   path-back s [] h = refl

@@ -2,7 +2,7 @@
 use mathlib.Core.Path.{_≡_, refl, sym, ap, _∙_, subst}
 use mathlib.Core.Bool.{Bool, true, false, or-true}
 use mathlib.Core.List.{List}
-use Prim.Native.Nat.{ℕ, _+_, _*_, _/_, _%_, _<_}
+use Prim.Native.Nat.{ℕ, _+_, _/_, _%_, _<_}
 use native.Mathlib.Omega.{arith}
 use lib.ListN.{length, getD}
 use borrow.Author.Tests.{eq-eqb, not-false}
@@ -31,9 +31,6 @@ module _ (corners : List ℕ) (i : ℕ) (heads links ends table : List ℕ) (roo
       let b : i % 3 ≡ 0 = room .first in
       let c : length corners % 3 ≡ 0 = room .going .room .triples in
       omega arith
-
-  pub triangle-whole : 3 * (i / 3) + 2 < length corners
-  triangle-whole = let a : i + 2 < length corners = triangle-inside in omega arith
 
   pub triangle-twice : twice corners (i / 3) ≡ true → (heads′ links′ ends′ table′ : List ℕ) → TriangleDone corners i (At i) heads′ links′ ends′ table′
   triangle-twice t heads′ links′ ends′ table′ = stops-at corners i i heads links ends table heads′ links′ ends′ table′ (room .going) (omega arith) (twice-stops corners i (room .first) t)

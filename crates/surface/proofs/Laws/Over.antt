@@ -1,9 +1,9 @@
 -- What is laid over a buffer's start: one more item goes behind the last, the length stays, and laying the same again changes nothing.
 use mathlib.Core.Path.{_≡_, refl, sym, ap, _∙_}
 use mathlib.Core.List.{List, [], _∷_, _++_, append-assoc, append-nil}
-use Prim.Native.Nat.{ℕ, suc, _+_, _<_, _≤_}
+use Prim.Native.Nat.{ℕ, suc, _+_, _<_}
 use native.Mathlib.Omega.{arith}
-use lib.ListN.{length, getD, drop, set, length-append, length-drop}
+use lib.ListN.{length, getD, drop, set, length-append}
 use lib.Seq.{drop-cons, set-at, drop-append-add, drop-drop}
 use Rattle.surface.specs.Buffers.{over}
 
@@ -11,10 +11,6 @@ module _ {A : Type 0} where
   pub over-none : (w : List A) → over [] w ≡ w
   unfolding over
   over-none w = refl
-
-  pub over-length : (a w : List A) → length a ≤ length w → length (over a w) ≡ length w
-  unfolding over
-  over-length a w l = length-append a (drop (length a) w) ∙ ap (λ (n : ℕ). length a + n) (length-drop (length a) w) ∙ (omega arith)
 
   -- one more item; d is any default
   pub over-snoc : (a w : List A) (v d : A) (n : ℕ) → n ≡ length a → n < length w → set (over a w) n v ≡ over (a ++ (v ∷ [])) w

@@ -26,9 +26,6 @@ pub any-some : (f : Found) → any f ≡ true → (i : ℕ) × (f ≡ At i)
 any-some (At i) e = (i, refl)
 any-some Nothing e = absurd (true≢false (sym e))
 
-pub some-any : (f : Found) (i : ℕ) → f ≡ At i → any f ≡ true
-some-any f i e = ap any e
-
 module _ (p : ℕ → Bool) where
   -- the search as a loop runs it: it begins with nothing found, goes on while the test fails, and ends where it passes
   pub least-none : least p 0 ≡ Nothing

@@ -1,6 +1,6 @@
 -- `all_on_grid` keeps in `all` whether nothing was met so far.
 use Prim.Native.Nat.{_≤_, _-_}
-use mathlib.Core.Path.{_≡_, ap, _∙_}
+use mathlib.Core.Path.{_≡_}
 use mathlib.Core.Bool.{not}
 use lib.ListN.{length}
 use Rattle.surface.specs.Smallest.{least, any}

@@ -1,6 +1,6 @@
 -- `is_twice` compares the three pairs in order.
-use mathlib.Core.Path.{_≡_, refl}
-use mathlib.Core.Bool.{Bool, true, false, _||_}
+use mathlib.Core.Path.{_≡_}
+use mathlib.Core.Bool.{Bool, false, _||_}
 use borrow.Author.Tests.{eq-eqb, ne-eqb}
 use Rattle.surface.specs.Edges.{twice}
 use borrow.Author.Needs.{needs}

@@ -1,11 +1,11 @@
 -- From the answers of the single checks to the answer of all, and to what is known of a surface that passed.
-use mathlib.Core.Path.{_≡_, refl, sym, ap, _∙_, subst}
+use mathlib.Core.Path.{_≡_, sym, ap, _∙_}
 use mathlib.Core.Bool.{true, false, true≢false}
 use mathlib.Core.List.{List}
-use Prim.Native.Nat.{ℕ, _*_, _/_, _^_, _≤_, _<_}
+use Prim.Native.Nat.{ℕ, _*_, _/_, _^_, _<_}
 use native.Mathlib.Nat.{le-trans}
 use native.Mathlib.Omega.{arith}
-use lib.ListN.{length, getD}
+use lib.ListN.{length}
 use mir.Syntax.{w16}
 use mir.Val.{Fits}
 use Rattle.limits.specs.Limits as limits
@@ -15,8 +15,7 @@ use Rattle.terms.specs.declared.Answer.the-variants.{Done}
 use Rattle.surface.specs.Refusals.{thenCheck, bufferRefusal, cornerRefusal, wordRefusal, contentRefusal}
 use Rattle.surface.proofs.Laws.Thens.{then-refused, then-next, buffer-plain, corner-plain, done-of, Fitting, counts-fit, buffers-long, words-pass}
 use Rattle.pairing.specs.Turns.{Room}
-use Rattle.survey.specs.Grid.{OnGrid}
-use Rattle.survey.specs.Checks.{Counted, CornersChecked, Passed, Checked}
+use Rattle.survey.specs.Checks.{Counted, CornersChecked, Checked}
 
 module _ (words corners : List ℕ) where
   -- a refusal is not `Done`

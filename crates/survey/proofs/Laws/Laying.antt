@@ -1,8 +1,8 @@
 -- Words that the refusals 7 and 8 let pass have a whole number each, and these are laid over the grid one by one.
-use mathlib.Core.Path.{_≡_, refl, sym, ap, _∙_, subst}
-use mathlib.Core.Bool.{Bool, true, false, true≢false}
-use mathlib.Core.List.{List, [], _∷_, _++_, map, map-append}
-use Prim.Native.Nat.{ℕ, suc, _+_, _^_, _≤_, _<_}
+use mathlib.Core.Path.{_≡_, sym, ap, _∙_}
+use mathlib.Core.Bool.{true, false, true≢false}
+use mathlib.Core.List.{List, [], _∷_, _++_, map-append}
+use Prim.Native.Nat.{ℕ, _+_, _^_, _≤_, _<_}
 use native.Mathlib.Nat.{lt-of-le-of-lt}
 use native.Mathlib.Numerals.{add-one}
 use native.Mathlib.Omega.{arith}
@@ -15,7 +15,6 @@ use mir.Syntax.{w32}
 use mir.Val.{SFits, toZ, ofZ}
 use mir.ValLaws.{toZ-ofZ}
 use Rattle.grid.specs.Places.{Lands, Places}
-use Rattle.grid.specs.declared.Coordinate.{Coordinate}
 use Rattle.grid.specs.declared.Coordinate.the-variants.{NotFinite, TooFar}
 use Rattle.surface.specs.Buffers.{over}
 use Rattle.surface.specs.Refusals.{notFinite, tooFar}

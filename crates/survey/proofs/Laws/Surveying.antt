@@ -1,12 +1,12 @@
 -- From the checks and the finder to what a survey answers and leaves.
-use mathlib.Core.Path.{_≡_, refl, sym, ap, _∙_}
+use mathlib.Core.Path.{_≡_, sym, ap, _∙_}
 use mathlib.Core.Bool.{true, false}
-use mathlib.Core.List.{List, map}
-use Prim.Native.Nat.{ℕ, zero, suc, _*_, _/_, _≤_, _<_}
+use mathlib.Core.List.{List}
+use Prim.Native.Nat.{ℕ, _≤_}
 use native.Mathlib.Nat.{le-trans}
 use native.Mathlib.Omega.{arith}
 use lib.IntN.{ℤ}
-use lib.ListN.{length, getD}
+use lib.ListN.{length}
 use Rattle.limits.specs.Limits as limits
 use Rattle.terms.specs.Answers.{refusing}
 use Rattle.terms.specs.declared.Answer.{Answer}
@@ -15,11 +15,11 @@ use Rattle.surface.specs.Buffers.{over}
 use Rattle.surface.specs.Refusals.{countRefusal, contentRefusal, refusal}
 use Rattle.surface.proofs.Laws.Thens.{then-refused, then-next, count-plain, content-plain, done-of, Fitting, counts-fit}
 use Rattle.loops.specs.Loops.{loops}
-use Rattle.finder.specs.Listing.{Ready, Lists, ringsOf}
+use Rattle.finder.specs.Listing.{Ready, Lists}
 use Rattle.finder.specs.declared.Listed.{Listed}
 use Rattle.survey.specs.Grid.{gridOf, OnGrid}
 use Rattle.survey.specs.Checks.{Counted, Passed, Checked}
-use Rattle.survey.specs.Outcome.{Buffers, Outcome, outcome, buffers, refused, done, needs, lent, surveyOf}
+use Rattle.survey.specs.Outcome.{Buffers, outcome, buffers, refused, done, needs, lent, surveyOf}
 use Rattle.survey.specs.declared.Surveyed.{Surveyed}
 
 module _ (words corners : List ℕ) (b : Buffers) where

@@ -1,11 +1,10 @@
 -- From what the searches and the pairing found to what checking the corners answers.
-use mathlib.Core.Path.{_≡_, refl, sym, ap, _∙_}
+use mathlib.Core.Path.{_≡_, sym, _∙_}
 use mathlib.Core.List.{List}
 use Prim.Native.Nat.{ℕ, _/_, _<_}
 use native.Mathlib.Omega.{arith}
 use lib.ListN.{length, getD}
 use borrow.Author.Tests.{leb-false}
-use Rattle.terms.specs.declared.Answer.{Answer}
 use Rattle.terms.specs.declared.Answer.the-variants.{Done, Unnamed, Twice, Repeated}
 use Rattle.surface.specs.declared.Found.{Found}
 use Rattle.surface.specs.declared.Found.the-variants.{At, Nothing}
@@ -14,7 +13,7 @@ use Rattle.surface.specs.Edges.{twice, repeats}
 use Rattle.surface.specs.Refusals.{unnamed, cornerRefusal}
 use Rattle.surface.proofs.Laws.Smallest.{least-never}
 use Rattle.pairing.specs.Turns.{Room, Paired, stops}
-use Rattle.survey.specs.Checks.{Woven, CornersChecked}
+use Rattle.survey.specs.Checks.{CornersChecked}
 use Rattle.survey.proofs.Laws.Stops.{no-stop-single, no-stop-plain, stop-single}
 
 module _ (corners : List ℕ) (points : ℕ) where

@@ -1,7 +1,6 @@
 -- `lay_grid` lays word after word.
 use Prim.Native.Nat.{_≤_, _-_}
 use mathlib.Core.Path.{_≡_, _∙_}
-use native.Mathlib.Omega.{arith}
 use lib.ListN.{length}
 use Rattle.survey.proofs.Laws.Laying.{Laid, laid-none, laid-more, laid-all}
 use borrow.Author.Needs.{needs}

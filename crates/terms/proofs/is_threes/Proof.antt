@@ -1,8 +1,4 @@
 -- `is_threes` tests what `threes` says, in its order.
-use mathlib.Core.Path.{_∙_, ap, sym}
-use mathlib.Core.Bool.{Bool, _&&_}
-use Prim.Native.Nat.{_%_}
-use lib.Dec.{eqb, leb}
 use borrow.Author.Tests.{eq-eqb, ne-eqb}
 use Rattle.terms.proofs.is_threes.Statement.{statement}
 use Rattle.terms.proofs.is_threes.Tie as tie

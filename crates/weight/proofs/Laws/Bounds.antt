@@ -6,6 +6,7 @@ use native.Mathlib.Omega.{arith}
 use lib.Dec.{lit<}
 use lib.IntN.{ℤ, pos, natAbs, _-ℤ_, _*ℤ_, +ℤ-invr, *ℤ-comm, *ℤ-zero, zero-*ℤ}
 use Rattle.limits.specs.Limits.{greatest}
+use Rattle.limits.proofs.Figures.{greatest-weight}
 use Rattle.weight.specs.declared.Point.{Point}
 use Rattle.weight.specs.declared.Vector.{Vector}
 use Rattle.weight.specs.Weight.{less, weightOf, OnGrid}
@@ -16,6 +17,10 @@ use Rattle.weight.proofs.Laws.Ring.{negative-difference, restarted, tur
 -- what a triangle on the grid weighs at most
 abbrev pub heaviest : ℕ
 heaviest = 3 * (2 * (2 * greatest * (2 * greatest)))
+
+-- the scope's figure
+pub heaviest-is : heaviest ≡ 25768230936
+heaviest-is = greatest-weight
 
 pub weight-most : (a b c : Point) → OnGrid a × OnGrid b × OnGrid c → weightOf a b c ≤ heaviest
 unfolding weightOf
