@@ -9,8 +9,8 @@ pub mod Minimum
 pub mod Chords
 pub mod Pairs
 pub mod Counted
+pub mod Corners
 pub mod Wound
 pub mod Listed
 pub mod Sets
-pub mod Walks
-pub mod Thirds
+pub mod Closed

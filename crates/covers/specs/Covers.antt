@@ -1,9 +1,10 @@
 -- Cover. Covers of a stretch i..k of a loop by positions, which of them are allowed, and which one the patcher takes.
-use Prim.Native.Nat.{ℕ, suc, _<_}
+use Prim.Native.Nat.{ℕ, suc, _-_, _<_}
 use mathlib.Core.Path.{_≡_}
 use mathlib.Core.Logic.{_⊎_}
 use mathlib.Core.Bool.{Bool, false}
 use mathlib.Core.List.{List, [], _∷_, _++_}
+use lib.ListN.{length, getD}
 use Rattle.covers.specs.Weights.{Weights}
 
 -- the empty cover, or an apex m with a cover before it and one after it
@@ -31,6 +32,19 @@ on i k m = record { first = i; second = k; third = m }
 abbrev pub triangles : ℕ → ℕ → Cover → List Triangle
 triangles i k empty = []
 triangles i k (apex m c d) = on i k m ∷ (triangles i m c ++ triangles m k d)
+
+-- the corners of the triangles one after the other, a position's vertex for each
+abbrev pub cornersOf : (ℕ → ℕ) → List Triangle → List ℕ
+cornersOf vertex [] = []
+cornersOf vertex (t ∷ ts) = vertex (t .first) ∷ vertex (t .second) ∷ vertex (t .third) ∷ cornersOf vertex ts
+
+-- the vertex at a position of the ring
+abbrev pub vertexOf : List ℕ → ℕ → ℕ
+vertexOf ring j = getD ring j 0
+
+-- the corners of the cover c of the loop with this ring, in the order of its listing
+abbrev pub patchOf : List ℕ → Cover → List ℕ
+patchOf ring c = cornersOf (vertexOf ring) (triangles 0 (length ring - 1) c)
 
 -- the cover lays a triangle on the stretch a..b
 abbrev pub Uses : ℕ → ℕ → Cover → ℕ → ℕ → Type 0

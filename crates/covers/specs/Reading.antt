@@ -1,11 +1,10 @@
--- Predicates that serve the code which reads a cover out of a patch set, triangle by triangle: no promise needs them.
-use Prim.Native.Nat.{ℕ, _<_}
+-- Predicates that serve the code which reads a cover out of a patch set: no promise needs them.
+use Prim.Native.Nat.{ℕ, suc, _<_}
 use mathlib.Core.Path.{_≡_}
 use mathlib.Core.Logic.{_⊎_}
-use mathlib.Core.Bool.{Bool, true, false}
 use mathlib.Core.List.{List, [], _∷_}
-use Rattle.covers.specs.Covers.{Cover, Covers, Triangle, on, triangles}
-use Rattle.covers.specs.Sets.{Alike, IsCover}
+use Rattle.covers.specs.Covers.{Triangle, on}
+use Rattle.covers.specs.Sets.{Alike, named}
 
 -- t stands in the list
 abbrev pub In : Triangle → List Triangle → Type 0
@@ -16,24 +15,21 @@ In t (x ∷ l) = (t ≡ x) ⊎ In t l
 abbrev pub Stands : List Triangle → Triangle → Type 0
 Stands s t = (u : Triangle) × In u s × Alike u t
 
--- r is the apex of t if t is a triangle on i..k, and else no position between i and k
-pub record Third (t : Triangle) (i k r : ℕ) : Type 0 where
-  pub fits : i < r → r < k → Alike t (on i k r)
-  pub only : (m : ℕ) → i < m → m < k → Alike t (on i k m) → r ≡ m
+-- t lies on a stretch of a loop of n, with its third corner between the stretch's ends
+pub record Keyed (n : ℕ) (t : Triangle) : Type 0 where
+  pub low : t .first < t .third
+  pub high : t .third < t .second
+  pub to : t .second < n
 
--- the set s has no triangle on the stretch i..k
-abbrev pub Clear : List Triangle → ℕ → ℕ → Type 0
-Clear s i k = (m : ℕ) → i < m → m < k → Stands s (on i k m) → ⊥
+-- the stretch a..b of a loop of n is a side, or has a triangle in the set s of triangles by their vertices
+pub data Laid (n : ℕ) (vertex : ℕ → ℕ) (s : List Triangle) (a b : ℕ) : Type 0 where
+  side : b ≡ suc a → b < n → Laid n vertex s a b
+  laid : (m : ℕ) → Keyed n (on a b m) → Stands s (named vertex (on a b m)) → Laid n vertex s a b
 
--- r is an apex that the set s has on the stretch i..k, or `none` where it has none
-pub data Apexed (none : ℕ) (s : List Triangle) (i k r : ℕ) : Type 0 where
-  absent : r ≡ none → Clear s i k → Apexed none s i k r
-  found : i < r → r < k → Stands s (on i k r) → Apexed none s i k r
-
--- what walking the set s along i..k tells: true, the set has every triangle of some cover of i..k;
--- false, no cover that the set is holds all triangles of a cover of i..k
-abbrev pub Walked : List Triangle → ℕ → ℕ → Bool → Type 0
-Walked s i k true = (c : Cover) × Covers i k c × ((t : Triangle) → In t (triangles i k c) → Stands s t)
-Walked s i k false =
-    (a b : ℕ) (whole part : Cover) → IsCover s a b whole → Covers i k part
-    → ((t : Triangle) → In t (triangles i k part) → In t (triangles a b whole)) → ⊥
+-- the triangle t of the set has a key u, and both parts of u's stretch are sides or have triangles
+pub record Parted (n : ℕ) (vertex : ℕ → ℕ) (s : List Triangle) (t : Triangle) : Type 0 where
+  pub key : Triangle
+  pub keyed : Keyed n key
+  pub alike : Alike t (named vertex key)
+  pub before : Laid n vertex s (key .first) (key .third)
+  pub after : Laid n vertex s (key .third) (key .second)

@@ -1,9 +1,9 @@
 -- Triangles of a patch set: "in any order, each begun at any corner, but not turned round".
 use mathlib.Core.Path.{_≡_}
 use mathlib.Core.Logic.{_⊎_}
-use mathlib.Core.List.{List, [], _∷_, _++_}
-use Prim.Native.Nat.{ℕ}
-use Rattle.covers.specs.Covers.{Cover, Triangle, Covers, triangles}
+use mathlib.Core.List.{List, [], _∷_, _++_, map}
+use Prim.Native.Nat.{ℕ, _-_}
+use Rattle.covers.specs.Covers.{Cover, Triangle, Covers, on, triangles}
 
 -- begun at the next corner
 abbrev pub turned : Triangle → Triangle
@@ -21,3 +21,18 @@ Lists s (t ∷ ts) = (a b : List Triangle) × (u : Triangle) × (s ≡ a ++ (u �
 -- the set s is the cover c of i..k
 abbrev pub IsCover : List Triangle → ℕ → ℕ → Cover → Type 0
 IsCover s i k c = Covers i k c × Lists s (triangles i k c)
+
+-- the triangle whose corners are the vertices at these positions
+abbrev pub named : (ℕ → ℕ) → Triangle → Triangle
+named vertex t = on (vertex (t .first)) (vertex (t .second)) (vertex (t .third))
+
+-- the set s of triangles, by their vertices, is the cover c of the loop of n vertices
+abbrev pub Covered : ℕ → (ℕ → ℕ) → List Triangle → Cover → Type 0
+Covered n vertex s c = Covers 0 (n - 1) c × Lists s (map (named vertex) (triangles 0 (n - 1) c))
+
+-- the triangles of a list of corners, three each
+abbrev pub triples : List ℕ → List Triangle
+triples [] = []
+triples (a ∷ []) = []
+triples (a ∷ b ∷ []) = []
+triples (a ∷ b ∷ c ∷ l) = on a b c ∷ triples l

@@ -76,10 +76,6 @@ pub record Sought (corners path : List ℕ) (depth : ℕ) (places : List ℕ) (x
 
 -- ---- the listing
 
--- xs laid over a buffer from a place on
-unfoldable pub laid : ℕ → List ℕ → List ℕ → List ℕ
-laid at xs buffer = take at buffer ++ (xs ++ drop (at + length xs) buffer)
-
 -- the path's edges from j up to `end`
 abbrev pub part : List ℕ → ℕ → ℕ → List ℕ
 part path j end = drop j (take end path)

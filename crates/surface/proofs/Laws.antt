@@ -5,5 +5,6 @@ pub mod Edges
 pub mod Passes
 pub mod Words
 pub mod Over
+pub mod Laid
 pub mod Refusing
 pub mod Thens

@@ -10,3 +10,4 @@ pub mod Ring
 pub mod Bounds
 pub mod Totals
 pub mod Figures
+pub mod Named

@@ -2,12 +2,15 @@
 use Prim.Native.Nat.{ℕ, _+_, _<_}
 use mathlib.Core.Path.{_≡_}
 use mathlib.Core.Logic.{_⊎_, inl, inr}
+use mathlib.Core.List.{List}
+use lib.IntN.{ℤ}
+use lib.ListN.{getD}
 use native.Mathlib.Nat.{zero-add, add-comm, add-assoc}
 use native.Mathlib.Omega.{arith}
 use native.Mathlib.Decide.{decLt}
 use Rattle.covers.specs.Weights.{Weights}
 use Rattle.weight.specs.declared.Point.{Point}
-use Rattle.weight.specs.Weight.{weightOf}
+use Rattle.weight.specs.Weight.{weightOf, pointOf}
 
 pub one-of-three : (a b : ℕ) → (a < b) ⊎ ((a ≡ b) ⊎ (b < a))
 one-of-three a b = go (decLt a b) (decLt b a)
@@ -36,3 +39,7 @@ naturals = record {
 -- "the triangle with corners (vi, vk, vm)", of the loop whose position j lies at the point `at j`
 abbrev pub triOf : (ℕ → Point) → ℕ → ℕ → ℕ → ℕ
 triOf at i k m = weightOf (at i) (at k) (at m)
+
+-- where the positions of a ring lie
+abbrev pub along : List ℤ → List ℕ → ℕ → Point
+along grid ring j = pointOf grid (getD ring j 0)

@@ -1,6 +1,8 @@
 -- Weight. What a triangle with its corners on the grid weighs.
 use Prim.Native.Nat.{ℕ, _+_, _*_, _≤_}
-use lib.IntN.{ℤ, natAbs, _-ℤ_, _*ℤ_}
+use mathlib.Core.List.{List}
+use lib.ListN.{length, getD}
+use lib.IntN.{ℤ, pos, natAbs, _-ℤ_, _*ℤ_}
 use Rattle.limits.specs.Limits as limits
 use Rattle.weight.specs.declared.Point.{Point}
 use Rattle.weight.specs.declared.Vector.{Vector}
@@ -44,3 +46,15 @@ pub record Short (v : Vector) : Type 0 where
   pub short-x : Difference (v .x)
   pub short-y : Difference (v .y)
   pub short-z : Difference (v .z)
+
+-- the point that number v names, three numbers of the grid each
+unfoldable pub pointOf : List ℤ → ℕ → Point
+pointOf grid v = record { x = getD grid (3 * v) (pos 0); y = getD grid (3 * v + 1) (pos 0); z = getD grid (3 * v + 2) (pos 0) }
+
+-- all numbers of the grid are coordinates
+abbrev pub Coordinates : List ℤ → Type 0
+Coordinates grid = (j : ℕ) → Coordinate (getD grid j (pos 0))
+
+-- v names a point
+abbrev pub Names : List ℤ → ℕ → Type 0
+Names grid v = 3 * v + 3 ≤ length grid

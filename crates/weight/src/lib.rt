@@ -2,7 +2,7 @@
 ghost use mathlib.Core.Path.{_≡_};
 ghost use Prim.Native.Nat.{_^_, _<_};
 ghost use lib.IntN.{natAbs, _-ℤ_, _*ℤ_};
-ghost use Rattle.weight.specs.Weight.{less, cross, size, weightOf, Coordinate, OnGrid, Difference, Short};
+ghost use Rattle.weight.specs.Weight.{less, cross, size, weightOf, pointOf, Coordinate, OnGrid, Difference, Short, Coordinates, Names};
 
 // A point of the grid.
 pub struct Point {
@@ -16,6 +16,27 @@ struct Vector {
     x: i64,
     y: i64,
     z: i64,
+}
+
+// The weight of the triangle whose corners are these points of the grid's list.
+pub fn weigh_named(grid: &[i32], a: usize, b: usize, c: usize) -> u64
+    requires { ⌜ Coordinates (now grid) × Names (now grid) a × Names (now grid) b × Names (now grid) c ⌝ }
+    ensures { λ r. ⌜ r ≡ weightOf (pointOf (now (grid .entry)) a) (pointOf (now (grid .entry)) b) (pointOf (now (grid .entry)) c) ⌝ }
+{
+    weigh(point_at(grid, a), point_at(grid, b), point_at(grid, c))
+}
+
+// The point that the number names.
+fn point_at(grid: &[i32], number: usize) -> Point
+    requires { ⌜ Coordinates (now grid) × Names (now grid) number ⌝ }
+    ensures { λ r. ⌜ r ≡ pointOf (now (grid .entry)) number ⌝ }
+{
+    let at = 3 * number;
+    Point {
+        x: grid[at],
+        y: grid[at + 1],
+        z: grid[at + 2],
+    }
 }
 
 // The weight of the triangle with these corners.

@@ -1,16 +1,13 @@
--- A set of triangles is one cover at most, because a cover has one triangle on each of its stretches, which gives the apex there; and a set
--- that has as many triangles as a cover, and each of the cover's, is that cover.
-use Prim.Native.Nat.{ℕ, suc, _<_, _≤_, _-_}
+-- A set of triangles is one cover at most, because a cover has one triangle on each of its stretches, which gives the apex there.
+use Prim.Native.Nat.{ℕ, suc, _<_, _≤_}
 use mathlib.Core.Path.{_≡_, refl, sym, _∙_, ap, subst}
 use mathlib.Core.Logic.{inl, inr, ⊎-elim}
 use mathlib.Core.List.{List}
 use native.Mathlib.Omega.{arith}
-use lib.ListN.{length}
 use Rattle.covers.specs.Covers.{Cover, empty, apex, Covers, Triangle, on, triangles}
 use Rattle.covers.specs.Sets.{turned, Alike, IsCover}
 use Rattle.covers.specs.Reading.{In, Stands}
-use Rattle.covers.proofs.Laws.Counted.{triangles-length}
-use Rattle.covers.proofs.Laws.Listed.{in-left, in-right, in-cases, listed-of, listed-in, listed-length, Apart, apart-append, lists}
+use Rattle.covers.proofs.Laws.Listed.{in-left, in-right, in-cases, listed-of, listed-in, Apart, apart-append}
 
 -- where the triangles of a cover of i..k lie: the third corner between the other two
 pub record Inside (i k : ℕ) (t : Triangle) : Type 0 where
@@ -92,14 +89,6 @@ cover-apart i k (apex m c d) h = (
 
     r : m < k
     r = h .1
-
--- a set with as many triangles as the cover, and each of the cover's among them, is the cover
-pub is-cover : (s : List Triangle) (i k : ℕ) (c : Cover) → Covers i k c → length s ≡ k - i - 1
-    → ((t : Triangle) → In t (triangles i k c) → Stands s t) → IsCover s i k c
-is-cover s i k c h e f = (h, lists (triangles i k c) s (cover-apart i k c h) (e ∙ sym (triangles-length i k c h)) f)
-
-pub is-cover-length : (s : List Triangle) (i k : ℕ) (c : Cover) → IsCover s i k c → length s ≡ k - i - 1
-is-cover-length s i k c h = listed-length (triangles i k c) s (h .1) ∙ triangles-length i k c (h .0)
 
 -- a cover has one triangle on a stretch
 pub stretch-one : (i k : ℕ) (c : Cover) → Covers i k c → (t u : Triangle) → In t (triangles i k c) → In u (triangles i k c)

@@ -6,15 +6,16 @@ use native.Mathlib.Nat.{add-zero}
 use native.Mathlib.Omega.{arith}
 use lib.ListN.{length, getD, take, drop, set, length-append, length-drop, length-map}
 use lib.Seq.{getD-drop, getD-take}
-use Rattle.surface.specs.Buffers.{over}
+use Rattle.surface.specs.Buffers.{over, laid}
 use Rattle.surface.specs.Edges.{startOf}
 use Rattle.surface.proofs.Laws.Over.{over-none, over-snoc, over-twice, over-self}
+use Rattle.surface.proofs.Laws.Laid.{laid-over}
 use Rattle.finder.specs.declared.Listed.{Listed}
 use Rattle.loops.specs.Loops.{ring}
 use Rattle.finder.specs.Listing.{ringsOf, firstOf, Lists}
-use Rattle.finder.specs.Walking.{laid, part, CutRoom, WasCut}
+use Rattle.finder.specs.Walking.{part, CutRoom, WasCut}
 use Rattle.loops.proofs.Laws.Kept.{flatten-append, flatten-snoc}
-use Rattle.finder.proofs.Laws.Laid.{laid-over, part-length}
+use Rattle.finder.proofs.Laws.Laid.{part-length}
 
 pub rings-append : (corners : List ℕ) (a b : List (List ℕ)) → ringsOf corners (a ++ b) ≡ ringsOf corners a ++ ringsOf corners b
 unfolding ringsOf

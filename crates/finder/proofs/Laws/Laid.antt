@@ -1,4 +1,4 @@
--- What is laid into a buffer behind what stands at its start stands there too: the buffer is then written as far as both reach, and the rest stays.
+-- The starts of a path's edges, laid into the rings one by one.
 use mathlib.Core.Path.{_≡_, sym, ap, _∙_}
 use mathlib.Core.List.{List, [], _∷_, _++_, append-assoc, map-append}
 use Prim.Native.Nat.{ℕ, suc, _+_, _-_, _<_, _≤_}
@@ -7,37 +7,11 @@ use native.Mathlib.Numerals.{add-one}
 use native.Mathlib.Omega.{arith}
 use lib.ListN.{length, getD, take, drop, set, length-append, length-take, length-drop, length-map, take-append-drop, drop-of-length-le}
 use lib.Seq.{take-suc, drop-cons, length-take-le, set-at, drop-append-le, drop-append-add, drop-drop, take-append-seam}
-use Rattle.surface.specs.Buffers.{over}
+use Rattle.surface.specs.Buffers.{laid}
+use Rattle.surface.proofs.Laws.Laid.{laid-none, laid-more}
 use Rattle.surface.specs.Edges.{startOf}
 use Rattle.loops.specs.Loops.{ring}
-use Rattle.finder.specs.Walking.{laid, part}
-
--- ---- behind what stands at the start
-
-pub laid-over : (a b w : List ℕ) (n : ℕ) → n ≡ length a → laid n b (over a w) ≡ over (a ++ b) w
-unfolding over laid
-laid-over a b w n e =
-    let m : length (a ++ b) ≡ length a + length b = length-append a b in
-    rw (e, take-append-seam a (drop (length a) w), drop-append-add a (drop (length a) w) (length b), drop-drop (length b) (length a) w, m, append-assoc)
-
--- ---- laid one by one
-
-module _ (at : ℕ) (w : List ℕ) where
-  pub laid-none : laid at [] w ≡ w
-  unfolding laid
-  laid-none = rw add-zero (take-append-drop at w)
-
-  pub laid-more : (new : List ℕ) (a o : ℕ) → o ≡ at + length new → o < length w → set (laid at new w) o a ≡ laid at (new ++ (a ∷ [])) w
-  unfolding laid
-  laid-more new a o e l =
-      let n : length (take at w ++ new) ≡ o = length-append (take at w) new ∙ ap (λ (k : ℕ). k + length new) (length-take-le at w (omega arith)) ∙ sym e in
-      let m : length (new ++ (a ∷ [])) ≡ length new + 1 = length-append new (a ∷ []) in
-      let z : suc o ≡ at + length (new ++ (a ∷ [])) = omega arith in
-      ap (λ (r : List ℕ). set r o a) (sym (append-assoc (take at w) new (drop (at + length new) w)) ∙ ap (λ (k : ℕ). (take at w ++ new) ++ drop k w) (sym e) ∙ ap (λ (r : List ℕ). (take at w ++ new) ++ r) (drop-cons w o 0 l))
-      ∙ set-at (take at w ++ new) (getD w o 0) (drop (suc o) w) a o n
-      ∙ ap (λ (k : ℕ). (take at w ++ new) ++ (a ∷ drop k w)) z
-      ∙ append-assoc (take at w) new (a ∷ drop (at + length (new ++ (a ∷ []))) w)
-      ∙ ap (λ (r : List ℕ). take at w ++ r) (sym (append-assoc new (a ∷ []) (drop (at + length (new ++ (a ∷ []))) w)))
+use Rattle.finder.specs.Walking.{part}
 
 pub part-length : (path : List ℕ) (j end : ℕ) → end ≤ length path → length (part path j end) ≡ end - j
 part-length path j end l = length-drop j (take end path) ∙ ap (λ (z : ℕ). z - j) (length-take-le end path l)
@@ -59,7 +33,7 @@ module _ (corners path : List ℕ) (j from : ℕ) (rings : List ℕ) where
   wrote-more i o rings′ h l m e n =
       let k : length (ring corners (part path j i)) ≡ i - j = length-map (part path j i) (startOf corners) ∙ part-length path j i (omega arith) in
       ap (λ (r : List ℕ). set r o (startOf corners (getD path i 0))) h
-      ∙ laid-more from rings (ring corners (part path j i)) (startOf corners (getD path i 0)) o (omega arith) n
+      ∙ laid-more from rings 0 (ring corners (part path j i)) (startOf corners (getD path i 0)) o (omega arith) n
       ∙ ap (λ (r : List ℕ). laid from r rings) (sym (more-starts i l m))
 
   pub wrote-end : (i end : ℕ) (rings′ : List ℕ) → Wrote corners path j from rings i rings′ → i ≡ end → rings′ ≡ laid from (ring corners (part path j end)) rings

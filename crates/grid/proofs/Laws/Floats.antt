@@ -49,7 +49,7 @@ value-whole (fin t m e) s k u U v = (v .0, mul-one (m * up e) ∙ eq-of-mul-eq-m
 
 -- ---- a sum depends on the values alone
 
-same-test : (a b : Bool) → (T a → T b) → (T b → T a) → a ≡ b
+pub same-test : (a b : Bool) → (T a → T b) → (T b → T a) → a ≡ b
 same-test true true p q = refl
 same-test true false p q = absurd (p tt)
 same-test false true p q = absurd (q tt)
@@ -57,7 +57,7 @@ same-test false false p q = refl
 
 -- a / c and b / c are A / L and B / L
 module _ (a b c A B L : ℕ) (C : 0 < c) (Z : 0 < L) (p : a * L ≡ A * c) (q : b * L ≡ B * c) where
-  same-less : ltb a b ≡ ltb A B
+  pub same-less : ltb a b ≡ ltb A B
   same-less =
       same-test (ltb a b) (ltb A B)
       (λ t. lt→ltb A B (lt-of-mul-lt-mul-right c (subst (λ (x : ℕ). x < B * c) p (subst (λ (x : ℕ). a * L < x) q (mul-lt-mul-of-pos-right (ltb→lt a b t) Z)))))
@@ -86,10 +86,10 @@ sum-same f s a t b c A B L C Z p q =
 
 -- two values over one denominator
 module _ (b d : Bool) (m n : ℕ) (e g : ℤ) (s t : Bool) (A B L : ℕ) (v : HasValue (fin b m e) s A L) (w : HasValue (fin d n g) t B L) where
-  cross-left : m * up e * down g * L ≡ A * (down e * down g)
+  pub cross-left : m * up e * down g * L ≡ A * (down e * down g)
   cross-left = mul-right-comm (m * up e) (down g) L ∙ ap (λ (x : ℕ). x * down g) (v .1) ∙ mul-assoc A (down e) (down g)
 
-  cross-right : n * up g * down e * L ≡ B * (down e * down g)
+  pub cross-right : n * up g * down e * L ≡ B * (down e * down g)
   cross-right = mul-right-comm (n * up g) (down e) L ∙ ap (λ (x : ℕ). x * down e) (w .1) ∙ mul-assoc B (down g) (down e) ∙ ap (λ (x : ℕ). B * x) (mul-comm (down g) (down e))
 
 pub add-is : (f : Format) (x y : Float) (s t : Bool) (A B L : ℕ) → 0 < L → HasValue x s A L → HasValue y t B L → add f x y ≡ sum f s A t B L

@@ -18,7 +18,7 @@ between a b = go (ltb a b) (ltb→lt a b)
     go true h = omega (arith, h tt)
     go false h = omega arith
 
-abs-sum : (a b : ℤ) → natAbs (a +ℤ b) ≤ natAbs a + natAbs b
+pub abs-sum : (a b : ℤ) → natAbs (a +ℤ b) ≤ natAbs a + natAbs b
 abs-sum (pos a) (pos b) = omega arith
 abs-sum (pos a) (negsuc b) = between a (suc b)
 abs-sum (negsuc a) (pos b) = omega (arith, between b (suc a))

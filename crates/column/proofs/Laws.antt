@@ -1,0 +1,4 @@
+-- The laws of columns, each file for one idea.
+pub mod Rows
+pub mod Columns
+pub mod Copies

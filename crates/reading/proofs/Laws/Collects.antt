@@ -1,0 +1,65 @@
+-- Collecting the stretches of a set, triangle by triangle; a triangle without a key stands in no cover.
+use Prim.Native.Nat.{ℕ, _+_, _<_, _≤_}
+use mathlib.Core.Path.{_≡_, sym, _∙_, subst}
+use mathlib.Core.Bool.{true, false, _||_}
+use mathlib.Core.List.{List, [], _∷_, _++_}
+use lib.Dec.{eqb}
+use lib.ListN.{length, getD, set, length-set}
+use Rattle.limits.specs.Limits as limits
+use Rattle.covers.specs.Covers.{Cover, Triangle, vertexOf}
+use Rattle.covers.specs.Sets.{triples}
+use Rattle.covers.proofs.Laws.Closed.{covered-key, cover-keyed}
+use Rattle.masks.specs.Masks.{bit}
+use Rattle.reading.specs.declared.Key.the-variants.{Of, Not}
+use Rattle.reading.specs.Reading.{Covering}
+use Rattle.reading.specs.Keys.{Ringed, Threes, Found, Held, Collects, tripleAt}
+use Rattle.reading.proofs.Laws.Places.{different}
+use Rattle.reading.proofs.Laws.Rows.{held-more}
+use Rattle.reading.proofs.Laws.Passed.{Passed, passed-none, passed-room, passed-all, passed-in, passed-more}
+
+-- a triangle of the set that has no key
+pub keyless : (corners marks : List ℕ) (base q : ℕ) (front : List Triangle) → Passed corners q front → q < length corners
+    → Found corners q marks base Not → (ring : List ℕ) → Ringed ring base marks → (c : Cover) → Covering ring (triples corners) c → ⊥
+keyless corners marks base q front p l f ring h c v =
+    let t = tripleAt corners q in
+    let d = different ring base marks h in
+    let x = covered-key (length ring) (vertexOf ring) d (triples corners) c v t (passed-in corners q front p l) in
+    f .key ring h (x .0) (cover-keyed (length ring) c (v .0) (x .0) (x .1)) (x .2)
+
+-- the stretches of the triangles before q were added to the rows
+pub record Collecting (corners marks : List ℕ) (base : ℕ) (rows₀ : List ℕ) (q : ℕ) (rows : List ℕ) : Type 0 where
+  pub front : List Triangle
+  pub passed : Passed corners q front
+  pub long : length rows ≡ limits.longest
+  pub held : (ring : List ℕ) → Ringed ring base marks → Held (length ring) (vertexOf ring) [] rows₀ → Held (length ring) (vertexOf ring) front rows
+
+pub collecting-begins : (corners marks : List ℕ) (base : ℕ) (rows : List ℕ) → Threes corners → length rows ≡ limits.longest
+    → Collecting corners marks base rows 0 rows
+collecting-begins corners marks base rows t l =
+    record { front = []; passed = passed-none corners t; long = l; held = λ ring h g. g }
+
+module _ (corners marks : List ℕ) (base : ℕ) (rows₀ : List ℕ) (q : ℕ) (rows : List ℕ) (g : Collecting corners marks base rows₀ q rows) where
+  pub collecting-room : q < length corners → q + 3 ≤ length corners
+  collecting-room l = passed-room corners q (g .front) (g .passed) l
+
+  pub collecting-stops : q < length corners → Found corners q marks base Not → Collects corners marks base rows₀ rows false
+  collecting-stops l f = record { long = g .long; collects = λ ring h z. keyless corners marks base q (g .front) (g .passed) l f ring h }
+
+  pub collecting-more : (i k m w : ℕ) → q < length corners → Found corners q marks base (Of i k m)
+      → ((j : ℕ) → j < limits.longest → bit w j ≡ (bit (getD rows i 0) j || eqb j k)) → Collecting corners marks base rows₀ (q + 3) (set rows i w)
+  collecting-more i k m w l f b = record {
+    front = g .front ++ (tripleAt corners q ∷ []);
+    passed = passed-more corners q (g .front) (g .passed) l;
+    long = length-set rows i w ∙ g .long;
+    held = λ ring h z.
+        let y = f .key ring h in
+        held-more (length ring) (vertexOf ring) (different ring base marks h) (h .few) (g .front) rows (g .held ring h z)
+        (tripleAt corners q) i k m (y .0) (y .1) w b;
+  }
+
+  pub collecting-ends : length corners ≤ q → Collects corners marks base rows₀ rows true
+  collecting-ends l = record {
+    long = g .long;
+    collects = λ ring h z.
+        subst (λ (s : List Triangle). Held (length ring) (vertexOf ring) s rows) (sym (passed-all corners q (g .front) (g .passed) l)) (g .held ring h z);
+  }

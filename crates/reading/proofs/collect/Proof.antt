@@ -1,0 +1,85 @@
+-- Each triangle's key is added to the rows.
+use mathlib.Core.Path.{subst}
+use Rattle.reading.specs.declared.Key.the-variants.{Of}
+use Rattle.reading.specs.Keys.{Found}
+use Prim.Native.Nat.{_-_}
+use lib.ListN.{length}
+use Rattle.reading.proofs.Laws.Collects.{Collecting, collecting-begins, collecting-room, collecting-stops, collecting-more, collecting-ends}
+use borrow.Author.Needs.{needs}
+use native.Mathlib.Omega.{arith}
+use Rattle.reading.proofs.collect.Statement.{statement}
+use Rattle.reading.proofs.collect.Tie as tie
+
+abbrev Inv-loop : tie.InvT-loop
+Inv-loop set marks base has₀ q₀ has q = Collecting set marks base has₀ q has
+
+abbrev μ-loop : tie.MeasureT-loop
+μ-loop set marks base has₀ q₀ has q = length set - q
+
+-- the key that was found
+key-found : (c : tie.After-known-told Inv-loop μ-loop)
+    → Found (c .before .before .before .before .before .before .before .args .set .now) (c .before .before .before .before .before .loop .q) (c .before .before .before .before .before .before .before .args .marks .now) (c .before .before .before .before .before .before .before .args .base) (Of (c .before .key .given .0 .0) (c .before .key .given .0 .1 .0) (c .before .key .given .0 .1 .1 .0))
+key-found c = subst (Found _ _ _ _) (c .before .key .given .1) (c .before .before .before .key-at .ensures)
+
+loop-holds : tie.Need-loop-holds Inv-loop μ-loop
+loop-holds c = collecting-begins _ _ _ _ (c .before .pre .0) (c .before .pre .2)
+
+key-at-requires : tie.Need-key-at-requires Inv-loop μ-loop
+key-at-requires c κs = (collecting-room _ _ _ _ _ _ (c .before .loop .inv) (c .loop-test .taken), c .before .before .before .pre .1)
+
+enum-known-key : tie.Need-enum-known-key Inv-loop μ-loop
+enum-known-key c = search needs
+
+enum-told : tie.Need-enum-told Inv-loop μ-loop
+enum-told c = search needs
+
+returns : tie.Need-returns Inv-loop μ-loop
+returns c = collecting-stops _ _ _ _ _ _ (c .before .before .before .before .loop .inv) (c .before .before .before .loop-test .taken) (subst (Found _ _ _ _) (c .enum-told .given .1) (c .before .before .key-at .ensures))
+
+mul-with : tie.Need-mul-with Inv-loop μ-loop
+mul-with c = omega (arith, key-found c .fits)
+
+element-copy-out-with : tie.Need-element-copy-out-with Inv-loop μ-loop
+element-copy-out-with c = omega (arith, key-found c .fits)
+
+with-requires : tie.Need-with-requires Inv-loop μ-loop
+with-requires c κs = omega (arith, key-found (c .before) .fits)
+
+mul-has : tie.Need-mul-has Inv-loop μ-loop
+mul-has c = omega (arith, key-found (c .before .before) .fits)
+
+element-write-has : tie.Need-element-write-has Inv-loop μ-loop
+element-write-has c = omega (arith, key-found (c .before .before) .fits)
+
+add-q : tie.Need-add-q Inv-loop μ-loop
+add-q c = omega (arith, collecting-room _ _ _ _ _ _ (c .before .before .before .before .before .before .before .loop .inv) (c .before .before .before .before .before .before .loop-test .taken))
+
+loop-less : tie.Need-loop-less Inv-loop μ-loop
+loop-less c = search needs
+
+loop-again : tie.Need-loop-again Inv-loop μ-loop
+loop-again c = collecting-more _ _ _ _ _ _ (c .before .before .before .before .before .before .before .loop .inv) _ _ _ _ (c .before .before .before .before .before .before .loop-test .taken) (key-found (c .before .before)) (c .with .ensures)
+
+returns-2 : tie.Need-returns-2 Inv-loop μ-loop
+returns-2 c = collecting-ends _ _ _ _ _ _ (c .before .loop .inv) (c .loop-test .left)
+
+pub collect-spec : {M : Type 1} → statement M
+collect-spec =
+    tie.close
+    (tie.spec
+    Inv-loop
+    μ-loop
+    loop-holds
+    key-at-requires
+    enum-known-key
+    enum-told
+    returns
+    mul-with
+    element-copy-out-with
+    with-requires
+    mul-has
+    element-write-has
+    add-q
+    loop-less
+    loop-again
+    returns-2)

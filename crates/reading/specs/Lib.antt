@@ -1,0 +1,3 @@
+pub mod Reading
+pub mod Weighing
+pub mod Keys

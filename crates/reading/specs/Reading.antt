@@ -1,0 +1,22 @@
+-- What is read out of a patch set for a loop: that it is no cover of the loop, a cover with a barred diagonal, or an allowed cover.
+use Prim.Native.Nat.{ℕ, _-_}
+use mathlib.Core.Path.{_≡_}
+use mathlib.Core.Bool.{Bool, true}
+use mathlib.Core.List.{List}
+use lib.ListN.{length}
+use Rattle.covers.specs.Covers as covers
+use Rattle.covers.specs.Covers.{Cover, Triangle, Uses, vertexOf}
+use Rattle.covers.specs.Sets.{Covered}
+use Rattle.reading.specs.declared.Reading.{Reading}
+use Rattle.reading.specs.declared.Reading.the-variants.{NoCover, Barred, Allowed}
+
+-- the set s of triangles, by their vertices, is the cover c of the ring
+abbrev pub Covering : List ℕ → List Triangle → Cover → Type 0
+Covering ring s c = Covered (length ring) (vertexOf ring) s c
+
+-- what the set s is of the ring, where these pairs of positions are barred
+abbrev pub Reads : List ℕ → (ℕ → ℕ → Bool) → List Triangle → Reading → Type 0
+Reads ring barred s NoCover = (c : Cover) → Covering ring s c → ⊥
+Reads ring barred s Barred =
+    (c : Cover) × Covering ring s c × (a : ℕ) × (b : ℕ) × Uses 0 (length ring - 1) c a b × (barred a b ≡ true)
+Reads ring barred s Allowed = (c : Cover) × Covering ring s c × covers.Allowed barred 0 (length ring - 1) c

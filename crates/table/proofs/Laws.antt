@@ -1,0 +1,10 @@
+-- The laws of the table, each file for one idea.
+pub mod Told
+pub mod Products
+pub mod Sweeps
+pub mod Fills
+pub mod Turns
+pub mod Gathers
+pub mod Filling
+pub mod Found
+pub mod Once

@@ -1,0 +1,4 @@
+pub mod Told
+pub mod Products
+pub mod Table
+pub mod Loops
