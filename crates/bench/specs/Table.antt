@@ -1,14 +1,19 @@
--- The starred examples of the bench, a row each, in the scope's order.
+-- The starred examples of the bench, and the one of two equal weights, a row each, in the scope's order.
 use mathlib.Core.Path.{_≡_}
+use mathlib.Core.Bool.{true}
 use mathlib.Core.List.{List, [], _∷_, map}
-use Prim.Native.Nat.{ℕ}
-use lib.IntN.{pos, negsuc}
+use Prim.Native.Nat.{ℕ, _-_}
+use lib.IntN.{ℤ, pos, negsuc}
 use lib.Ieee.{binary32, ofBits}
+use lib.ListN.{length}
 use Rattle.terms.specs.declared.Answer.the-variants.{Repeated}
 use Rattle.grid.specs.Places.{Places}
 use Rattle.grid.specs.declared.Coordinate.the-variants.{Shifted, TooFar}
 use Rattle.surface.specs.Refusals.{cornerRefusal}
 use Rattle.loops.specs.Loops.{cycle, loops, ring}
+use Rattle.covers.specs.Covers.{Cover, empty, apex, patchOf, weight, Allowed, NoCover, Patch}
+use Rattle.weight.specs.Edition.{naturals, triOf, along}
+use Rattle.bars.specs.Bars.{barred}
 
 -- the rings of a surface
 unfoldable pub rings : List ℕ → List (List ℕ)
@@ -25,6 +30,62 @@ bowTie = 0 ∷ 1 ∷ 2 ∷ 0 ∷ 3 ∷ 4 ∷ []
 -- (0,1,2),(2,1,3),(2,3,4),(4,3,0)
 abbrev pub pinchedStrip : List ℕ
 pinchedStrip = 0 ∷ 1 ∷ 2 ∷ 2 ∷ 1 ∷ 3 ∷ 2 ∷ 3 ∷ 4 ∷ 4 ∷ 3 ∷ 0 ∷ []
+
+-- (0,1,2),(0,2,3)
+abbrev pub folded : List ℕ
+folded = 0 ∷ 1 ∷ 2 ∷ 0 ∷ 2 ∷ 3 ∷ []
+
+-- (0,1,4),(1,2,4),(2,3,4),(3,0,4)
+abbrev pub cone : List ℕ
+cone = 0 ∷ 1 ∷ 4 ∷ 1 ∷ 2 ∷ 4 ∷ 2 ∷ 3 ∷ 4 ∷ 3 ∷ 0 ∷ 4 ∷ []
+
+-- (0,1,2),(0,2,3),(1,3,4)
+abbrev pub crossed : List ℕ
+crossed = 0 ∷ 1 ∷ 2 ∷ 0 ∷ 2 ∷ 3 ∷ 1 ∷ 3 ∷ 4 ∷ []
+
+-- (0,0,0),(10,0,0),(10,10,0),(0,10,4)
+abbrev pub lifted : List ℤ
+lifted = map pos (0 ∷ 0 ∷ 0 ∷ 10 ∷ 0 ∷ 0 ∷ 10 ∷ 10 ∷ 0 ∷ 0 ∷ 10 ∷ 4 ∷ [])
+
+-- the same, and (4,4,9)
+abbrev pub liftedTop : List ℤ
+liftedTop = map pos (0 ∷ 0 ∷ 0 ∷ 10 ∷ 0 ∷ 0 ∷ 10 ∷ 10 ∷ 0 ∷ 0 ∷ 10 ∷ 4 ∷ 4 ∷ 4 ∷ 9 ∷ [])
+
+-- (0,0,0),(10,0,0),(3,3,0),(0,10,0),(4,4,9)
+abbrev pub dentedTop : List ℤ
+dentedTop = map pos (0 ∷ 0 ∷ 0 ∷ 10 ∷ 0 ∷ 0 ∷ 3 ∷ 3 ∷ 0 ∷ 0 ∷ 10 ∷ 0 ∷ 4 ∷ 4 ∷ 9 ∷ [])
+
+-- a loop of four and one of three, by their rings
+abbrev pub rim : List ℕ
+rim = 0 ∷ 1 ∷ 2 ∷ 3 ∷ []
+
+abbrev pub side : List ℕ
+side = 1 ∷ 3 ∷ 4 ∷ []
+
+-- the two covers of a loop of four, and the one of a loop of three
+abbrev pub overOne : Cover
+overOne = apex 1 empty (apex 2 empty empty)
+
+abbrev pub overTwo : Cover
+overTwo = apex 2 (apex 1 empty empty) empty
+
+abbrev pub alone : Cover
+alone = apex 1 empty empty
+
+-- the cover has no barred diagonal where no patch is laid yet
+abbrev pub Free : List ℕ → List ℕ → Cover → Type 0
+Free corners ring = Allowed (barred corners [] ring) 0 (length ring - 1)
+
+-- the loop has no such cover
+abbrev pub Open : List ℕ → List ℕ → Type 0
+Open corners ring = NoCover (barred corners [] ring) 0 (length ring - 1)
+
+-- it is the one to take
+abbrev pub Taken : List ℕ → List ℤ → List ℕ → Cover → Type 0
+Taken corners grid ring = Patch naturals (triOf (along grid ring)) (barred corners [] ring) 0 (length ring - 1)
+
+abbrev pub weighs : List ℤ → List ℕ → Cover → ℕ
+weighs grid ring = weight naturals (triOf (along grid ring)) 0 (length ring - 1)
 
 pub record Table : Type 0 where
   -- 0.5 gives 0 rest 0.5
@@ -46,3 +107,26 @@ pub record Table : Type 0 where
   -- the pinched strip: one cycle 0,1,3,0,4,2; rings 0,1,3 and 0,4,2
   pub strip-cycle : ring pinchedStrip (cycle pinchedStrip 0) ≡ 0 ∷ 1 ∷ 3 ∷ 0 ∷ 4 ∷ 2 ∷ []
   pub strip-rings : rings pinchedStrip ≡ (0 ∷ 1 ∷ 3 ∷ []) ∷ (0 ∷ 4 ∷ 2 ∷ []) ∷ []
+  -- (0,1,2),(0,2,3): diagonal 0-2 barred; patch (0,3,1),(1,3,2), weight 280, and (0,3,2),(0,2,1) has the barred diagonal
+  pub folded-rings : rings folded ≡ rim ∷ []
+  pub folded-bar : barred folded [] rim 0 2 ≡ true
+  pub folded-taken : Taken folded lifted rim overOne
+  pub folded-patch : patchOf rim overOne ≡ 0 ∷ 3 ∷ 1 ∷ 1 ∷ 3 ∷ 2 ∷ []
+  pub folded-weight : weighs lifted rim overOne ≡ 280
+  pub folded-barred : Free folded rim overTwo → ⊥
+  -- the cone with a dent: patch (0,3,2),(0,2,1), weight 60; (0,3,1),(1,3,2) weighs 140
+  pub cone-rings : rings cone ≡ rim ∷ []
+  pub cone-taken : Taken cone dentedTop rim overTwo
+  pub cone-patch : patchOf rim overTwo ≡ 0 ∷ 3 ∷ 2 ∷ 0 ∷ 2 ∷ 1 ∷ []
+  pub cone-weight : weighs dentedTop rim overTwo ≡ 60
+  pub cone-other : Free cone rim overOne
+  pub cone-heavier : weighs dentedTop rim overOne ≡ 140
+  -- the cone with the points of (0,1,2),(0,2,3): both covers weigh 280, so m = 1: (0,3,1),(1,3,2)
+  pub equal-one : weighs liftedTop rim overOne ≡ 280
+  pub equal-two : weighs liftedTop rim overTwo ≡ 280
+  pub equal-taken : Taken cone liftedTop rim overOne
+  -- (0,1,2),(0,2,3),(1,3,4): ring 0,1,2,3 has no cover, ring 1,3,4 is patched by (1,4,3) wherever the points lie
+  pub crossed-rings : rings crossed ≡ rim ∷ side ∷ []
+  pub crossed-open : Open crossed rim
+  pub crossed-taken : (grid : List ℤ) → Taken crossed grid side alone
+  pub crossed-patch : patchOf side alone ≡ 1 ∷ 4 ∷ 3 ∷ []

@@ -1,6 +1,6 @@
 // The steps by which the table of the least weights is made, column by column: products of points, and the ways by one apex.
 //
-// The weights are floats of 64 bits: each is a whole number below 2^53, so every sum is exact, and the machine adds two at a time.
+// The weights are binary64 floats: each is a whole number below 2^53, so every sum is exact, and the machine adds two at a time.
 ghost use mathlib.Core.Path.{_≡_};
 ghost use Prim.Native.Nat.{ℕ, _+_, _*_, _<_, _≤_};
 ghost use Rattle.limits.specs.Limits.{longest};

@@ -1,4 +1,4 @@
--- Whole numbers held as floats of 64 bits.
+-- Whole numbers held as binary64 floats.
 use mathlib.Core.Path.{_≡_}
 use mathlib.Core.Bool.{Bool, false}
 use Prim.Native.Nat.{ℕ, _%_, _^_}

@@ -1,4 +1,4 @@
-// Floats of 64 bits that hold whole numbers: up to 2^53 their sums and products are exact. The laws are in proofs/Laws.
+// Binary64 floats that hold whole numbers: up to 2^53 their sums and products are exact. The laws are in proofs/Laws.
 ghost use mathlib.Core.Path.{_≡_};
 ghost use lib.IntN.{ℤ};
 ghost use Rattle.exact.specs.Whole.{Whole, sizeOf};

@@ -4,3 +4,4 @@ pub mod Middles
 pub mod Tries
 pub mod Lists
 pub mod Once
+pub mod Patches

@@ -7,9 +7,11 @@ ghost use Rattle.surface.specs.Buffers.{laid};
 ghost use Rattle.covers.specs.Covers.{vertexOf};
 ghost use Rattle.laying.specs.Ways.{triangleOf, TriangleRoom, Weighable, IsWay, Middle};
 ghost use Rattle.laying.specs.Lists.{ListRoom, Lists};
+ghost use Rattle.laying.specs.Patches.{PatchRoom, LaysPatch, ThreeRoom, LaysThree};
 use column::WS;
 use column::YS;
 use column::ZS;
+use table::Least;
 
 // What the triangle i, k, m weighs, by the products of its corners, which stand at these places of each part.
 fn triangle(table: &[f64], im: usize, ik: usize, mk: usize) -> f64
@@ -73,4 +75,32 @@ pub fn list(table: &[f64], ring: &[u16], out: &mut [u16], p: usize, i: usize, k:
     lay(ring, out, p, i, k, m);
     let q = list(table, ring, out, p + 3, i, m);
     list(table, ring, out, q, m, k)
+}
+
+// Finds the patch of the loop with this ring and these bars and lays it from p on; or leaves all as it is.
+pub fn lay_patch(
+    grid: &[i32],
+    ring: &[u16],
+    bars: &[u64],
+    table: &mut [f64],
+    out: &mut [u16],
+    p: usize,
+) -> Least
+    requires { ⌜ PatchRoom (now grid) (now ring) (now bars) (now table) (now out) p ⌝ }
+    ensures { λ r. ⌜ LaysPatch (now (grid .entry)) (now (ring .entry)) (now (bars .entry)) (now (out .entry)) p r (now (out .exit)) ⌝ }
+{
+    let least = table::least_weight(grid, ring, bars, table);
+    if let Least::Weight(_) = least {
+        list(table, ring, out, p, 0, ring.len() - 1);
+    }
+    least
+}
+
+// The loop of three has one cover, a triangle against it. Gives its weight.
+pub fn lay_three(grid: &[i32], ring: &[u16], out: &mut [u16], p: usize) -> u64
+    requires { ⌜ ThreeRoom (now grid) (now ring) (now out) p ⌝ }
+    ensures { λ r. ⌜ LaysThree (now (grid .entry)) (now (ring .entry)) (now (out .entry)) p r (now (out .exit)) ⌝ }
+{
+    lay(ring, out, p, 0, 2, 1);
+    weight::weigh_named(grid, ring[0] as usize, ring[2] as usize, ring[1] as usize)
 }

@@ -1,6 +1,6 @@
 // The least weights of all stretches of a loop, and the patch that they tell.
 //
-// The weights are floats of 64 bits: each is a whole number below 2^53, so every sum is exact, and the machine adds two at a time.
+// The weights are binary64 floats: each is a whole number below 2^53, so every sum is exact, and the machine adds two at a time.
 ghost use mathlib.Core.Path.{_≡_};
 ghost use mathlib.Core.Bool.{Bool};
 ghost use Prim.Native.Nat.{ℕ, suc, _+_, _*_, _<_, _≤_};

@@ -34,7 +34,7 @@ each-three P a b c l x y z f (suc zero) s = y
 each-three P a b c l x y z f (suc (suc zero)) s = z
 each-three P a b c l x y z f (suc (suc (suc i))) s = f i (omega arith)
 
-corners-each : (P : ℕ → Type 0) (vertex : ℕ → ℕ) (n : ℕ) → ((j : ℕ) → j ≤ n → P (vertex j)) → (i k : ℕ) (c : Cover) → Covers i k c → k ≤ n → Each P (cornersOf vertex (triangles i k c))
+pub corners-each : (P : ℕ → Type 0) (vertex : ℕ → ℕ) (n : ℕ) → ((j : ℕ) → j ≤ n → P (vertex j)) → (i k : ℕ) (c : Cover) → Covers i k c → k ≤ n → Each P (cornersOf vertex (triangles i k c))
 corners-each P vertex n w i k empty h l = λ j s. absurd (not-suc-le-zero s)
 corners-each P vertex n w i k (apex m c d) h l =
     let lo : i < m = h .0 in

@@ -1,0 +1,45 @@
+-- The patch of a whole loop, found and laid into a buffer.
+use mathlib.Core.Path.{_≡_}
+use mathlib.Core.Bool.{Bool}
+use mathlib.Core.List.{List}
+use Prim.Native.Nat.{ℕ, _+_, _-_, _*_, _≤_}
+use lib.IntN.{ℤ}
+use lib.ListN.{length}
+use lib.Ieee.{Float}
+use Rattle.surface.specs.Buffers.{laid}
+use Rattle.covers.specs.Covers.{Cover, empty, apex, Patch, NoCover, weight, patchOf}
+use Rattle.weight.specs.Edition.{naturals, triOf, along}
+use Rattle.table.specs.declared.Least.{Least}
+use Rattle.table.specs.declared.Least.the-variants.{Weight, Nothing}
+use Rattle.table.specs.Loops.{OnGrid, Barring, LoopRoom}
+
+-- a loop, a table for its weights, and room for its triangles from p on
+pub record PatchRoom (grid : List ℤ) (ring bars : List ℕ) (table : List Float) (buffer : List ℕ) (p : ℕ) : Type 0 where
+  pub loop : LoopRoom grid ring bars table
+  pub room : p + 3 * (length ring - 2) ≤ length buffer
+
+-- the answer is what the loop's patch weighs, and the buffer has its corners from p on; or no cover is allowed, and the buffer is as it was
+abbrev pub LaysIf : List ℤ → List ℕ → (ℕ → ℕ → Bool) → List ℕ → ℕ → Least → List ℕ → Type 0
+LaysIf grid ring barred buffer p (Weight w) buffer′ =
+    (c : Cover)
+    × Patch naturals (triOf (along grid ring)) barred 0 (length ring - 1) c
+    × (w ≡ weight naturals (triOf (along grid ring)) 0 (length ring - 1) c)
+    × (buffer′ ≡ laid p (patchOf ring c) buffer)
+LaysIf grid ring barred buffer p Nothing buffer′ = NoCover barred 0 (length ring - 1) × (buffer′ ≡ buffer)
+
+-- so it is by whatever bars these rows are
+abbrev pub LaysPatch : List ℤ → List ℕ → List ℕ → List ℕ → ℕ → Least → List ℕ → Type 0
+LaysPatch grid ring bars buffer p r buffer′ = (barred : ℕ → ℕ → Bool) → Barring barred ring bars → LaysIf grid ring barred buffer p r buffer′
+
+-- ---- a loop of three, which has one cover
+
+pub record ThreeRoom (grid : List ℤ) (ring buffer : List ℕ) (p : ℕ) : Type 0 where
+  pub on : OnGrid grid ring
+  pub three : length ring ≡ 3
+  pub room : p + 3 ≤ length buffer
+
+-- the answer is what that cover weighs, and the buffer has its triangle from p on
+abbrev pub LaysThree : List ℤ → List ℕ → List ℕ → ℕ → ℕ → List ℕ → Type 0
+LaysThree grid ring buffer p r buffer′ =
+    (r ≡ weight naturals (triOf (along grid ring)) 0 2 (apex 1 empty empty))
+    × (buffer′ ≡ laid p (patchOf ring (apex 1 empty empty)) buffer)

@@ -1,0 +1,43 @@
+-- One loop more at the end of a run.
+use mathlib.Core.Path.{_≡_, refl, sym, ap, _∙_, subst}
+use mathlib.Core.List.{List, [], _∷_, _++_, append-nil, append-assoc}
+use Prim.Native.Nat.{ℕ, suc}
+use native.Mathlib.Omega.{arith}
+use lib.IntN.{ℤ}
+use lib.ListN.{length}
+use Rattle.run.specs.Fates.{Fate, stateOf, weighs, lays, Meets}
+use Rattle.run.specs.Run.{Run, weightsOf, laidBy, statesOf}
+
+pub run-length : (grid : List ℤ) (input laid : List ℕ) (rings : List (List ℕ)) (fs : List Fate) → Run grid input laid rings fs → length fs ≡ length rings
+run-length grid input laid [] [] p = refl
+run-length grid input laid [] (f ∷ fs) p = absurd p
+run-length grid input laid (r ∷ rings) [] p = absurd p
+run-length grid input laid (r ∷ rings) (f ∷ fs) p = ap suc (run-length grid input (laid ++ lays r f) rings fs (p .1))
+
+-- the loop behind the others meets its fate with all that they laid
+pub run-more : (grid : List ℤ) (input laid : List ℕ) (rings : List (List ℕ)) (fs : List Fate) (ring : List ℕ) (f : Fate) → Run grid input laid rings fs → Meets grid input (laid ++ laidBy rings fs) ring f → Run grid input laid (rings ++ (ring ∷ [])) (fs ++ (f ∷ []))
+run-more grid input laid [] [] ring f p m = (subst (λ (z : List ℕ). Meets grid input z ring f) (append-nil laid) m, tt)
+run-more grid input laid [] (g ∷ fs) ring f p m = absurd p
+run-more grid input laid (r ∷ rings) [] ring f p m = absurd p
+run-more grid input laid (r ∷ rings) (g ∷ fs) ring f p m = (
+  p .0,
+  run-more grid input (laid ++ lays r g) rings fs ring f (p .1)
+      (subst (λ (z : List ℕ). Meets grid input z ring f) (sym (append-assoc laid (lays r g) (laidBy rings fs))) m),
+)
+
+pub laid-more : (rings : List (List ℕ)) (fs : List Fate) (ring : List ℕ) (f : Fate) → length fs ≡ length rings → laidBy (rings ++ (ring ∷ [])) (fs ++ (f ∷ [])) ≡ laidBy rings fs ++ lays ring f
+laid-more [] [] ring f e = append-nil (lays ring f)
+laid-more [] (g ∷ fs) ring f e = absurd (omega arith)
+laid-more (r ∷ rings) [] ring f e = absurd (omega arith)
+laid-more (r ∷ rings) (g ∷ fs) ring f e =
+    ap (λ (z : List ℕ). lays r g ++ z) (laid-more rings fs ring f (omega arith)) ∙ sym (append-assoc (lays r g) (laidBy rings fs) (lays ring f))
+
+pub weights-more : (grid : List ℤ) (rings : List (List ℕ)) (fs : List Fate) (ring : List ℕ) (f : Fate) → length fs ≡ length rings → weightsOf grid (rings ++ (ring ∷ [])) (fs ++ (f ∷ [])) ≡ weightsOf grid rings fs ++ (weighs grid ring f ∷ [])
+weights-more grid [] [] ring f e = refl
+weights-more grid [] (g ∷ fs) ring f e = absurd (omega arith)
+weights-more grid (r ∷ rings) [] ring f e = absurd (omega arith)
+weights-more grid (r ∷ rings) (g ∷ fs) ring f e = ap (λ (z : List ℕ). weighs grid r g ∷ z) (weights-more grid rings fs ring f (omega arith))
+
+pub states-more : (fs : List Fate) (f : Fate) → statesOf (fs ++ (f ∷ [])) ≡ statesOf fs ++ (stateOf f ∷ [])
+states-more [] f = refl
+states-more (g ∷ fs) f = ap (λ (z : List ℕ). stateOf g ∷ z) (states-more fs f)

@@ -1,0 +1,70 @@
+-- How much a run lays: whole triangles, fewer than its loops have edges, on the loops' own vertices.
+use mathlib.Core.Path.{_≡_, refl, ap}
+use mathlib.Core.List.{List, [], _∷_, _++_, flatten}
+use Prim.Native.Nat.{ℕ, suc, _+_, _-_, _*_, _%_, _<_, _≤_, zero-le}
+use native.Mathlib.Nat.{not-suc-le-zero, le-refl}
+use native.Mathlib.Omega.{arith}
+use lib.IntN.{ℤ}
+use lib.ListN.{length, getD, length-append}
+use Rattle.covers.specs.Covers.{Covers, patchOf}
+use Rattle.covers.proofs.Laws.Counted.{covers-forward}
+use Rattle.covers.proofs.Laws.Corners.{patch-length}
+use Rattle.bars.proofs.Laws.Patches.{corners-each}
+use Rattle.run.specs.Fates.{Fate, patched, long, uncovered, lays, Meets}
+use Rattle.run.specs.Run.{Run, weightsOf, laidBy, statesOf}
+
+-- ---- one loop
+
+module _ (grid : List ℤ) (input laid ring : List ℕ) where
+  pub lays-length : (f : Fate) → Meets grid input laid ring f → length (lays ring f) ≤ 3 * (length ring - 2)
+  lays-length (patched c) m = let e : length (patchOf ring c) ≡ 3 * (length ring - 2) = patch-length ring c (m .1 .among .covers) in omega arith
+  lays-length long m = zero-le
+  lays-length uncovered m = zero-le
+
+  pub lays-whole : (f : Fate) → Meets grid input laid ring f → length (lays ring f) % 3 ≡ 0
+  lays-whole (patched c) m = let e : length (patchOf ring c) ≡ 3 * (length ring - 2) = patch-length ring c (m .1 .among .covers) in omega arith
+  lays-whole long m = refl
+  lays-whole uncovered m = refl
+
+  -- what all vertices of the ring have, all corners that it lays have
+  pub corners-of-ring : (P : ℕ → Type 0) → ((j : ℕ) → j < length ring → P (getD ring j 0)) → (f : Fate) → Meets grid input laid ring f → (i : ℕ) → i < length (lays ring f) → P (getD (lays ring f) i 0)
+  corners-of-ring P w (patched c) m =
+      let h : Covers 0 (length ring - 1) c = m .1 .among .covers in
+      let l : 0 < length ring - 1 = covers-forward 0 (length ring - 1) c h in
+      corners-each P (λ (j : ℕ). getD ring j 0) (length ring - 1) (λ j s. w j (omega arith)) 0 (length ring - 1) c h (le-refl (length ring - 1))
+  corners-of-ring P w long m = λ i s. absurd (not-suc-le-zero s)
+  corners-of-ring P w uncovered m = λ i s. absurd (not-suc-le-zero s)
+
+-- ---- all loops
+
+pub laid-length : (grid : List ℤ) (input laid : List ℕ) (rings : List (List ℕ)) (fs : List Fate) → Run grid input laid rings fs → length (laidBy rings fs) ≤ 3 * length (flatten rings)
+unfolding flatten
+laid-length grid input laid [] [] p = zero-le
+laid-length grid input laid [] (f ∷ fs) p = absurd p
+laid-length grid input laid (r ∷ rings) [] p = absurd p
+laid-length grid input laid (r ∷ rings) (f ∷ fs) p =
+    let a : length (lays r f ++ laidBy rings fs) ≡ length (lays r f) + length (laidBy rings fs) = length-append (lays r f) (laidBy rings fs) in
+    let b : length (r ++ flatten rings) ≡ length r + length (flatten rings) = length-append r (flatten rings) in
+    let c : length (lays r f) ≤ 3 * (length r - 2) = lays-length grid input laid r f (p .0) in
+    let d : length (laidBy rings fs) ≤ 3 * length (flatten rings) = laid-length grid input (laid ++ lays r f) rings fs (p .1) in
+    omega arith
+
+pub laid-whole : (grid : List ℤ) (input laid : List ℕ) (rings : List (List ℕ)) (fs : List Fate) → Run grid input laid rings fs → length (laidBy rings fs) % 3 ≡ 0
+laid-whole grid input laid [] [] p = refl
+laid-whole grid input laid [] (f ∷ fs) p = absurd p
+laid-whole grid input laid (r ∷ rings) [] p = absurd p
+laid-whole grid input laid (r ∷ rings) (f ∷ fs) p =
+    let a : length (lays r f ++ laidBy rings fs) ≡ length (lays r f) + length (laidBy rings fs) = length-append (lays r f) (laidBy rings fs) in
+    let c : length (lays r f) % 3 ≡ 0 = lays-whole grid input laid r f (p .0) in
+    let d : length (laidBy rings fs) % 3 ≡ 0 = laid-whole grid input (laid ++ lays r f) rings fs (p .1) in
+    omega arith
+
+pub weights-length : (grid : List ℤ) (rings : List (List ℕ)) (fs : List Fate) → length fs ≡ length rings → length (weightsOf grid rings fs) ≡ length fs
+weights-length grid [] [] e = refl
+weights-length grid [] (f ∷ fs) e = absurd (omega arith)
+weights-length grid (r ∷ rings) [] e = absurd (omega arith)
+weights-length grid (r ∷ rings) (f ∷ fs) e = ap suc (weights-length grid rings fs (omega arith))
+
+pub states-length : (fs : List Fate) → length (statesOf fs) ≡ length fs
+states-length [] = refl
+states-length (f ∷ fs) = ap suc (states-length fs)

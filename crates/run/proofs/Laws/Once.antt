@@ -1,0 +1,40 @@
+-- A run has one outcome at most: a loop that has a patch is neither long nor without a cover, and its patch is unique.
+use mathlib.Core.Path.{_≡_, refl, sym, ap, ap₂, subst}
+use mathlib.Core.List.{List, [], _∷_, _++_}
+use Prim.Native.Nat.{ℕ, _-_, _<_, _≤_}
+use native.Mathlib.Omega.{arith}
+use lib.IntN.{ℤ}
+use lib.ListN.{length}
+use Rattle.limits.specs.Limits as limits
+use Rattle.covers.proofs.Laws.Best.{patch-unique}
+use Rattle.weight.specs.Edition.{naturals, triOf, along}
+use Rattle.bars.specs.Bars.{barred}
+use Rattle.run.specs.Fates.{Fate, patched, long, uncovered, lays, Meets}
+use Rattle.run.specs.Run.{Run}
+
+no-longer : (ring : List ℕ) → length ring ≤ limits.longest → limits.longest < length ring → ⊥
+no-longer ring a b = omega arith
+
+pub meets-once : (grid : List ℤ) (input laid ring : List ℕ) (f g : Fate) → Meets grid input laid ring f → Meets grid input laid ring g → f ≡ g
+meets-once grid input laid ring (patched c) (patched d) p q =
+    ap patched (patch-unique naturals (triOf (along grid ring)) (barred input laid ring) 0 (length ring - 1) c d (p .1) (q .1))
+meets-once grid input laid ring (patched c) long p q = absurd (no-longer ring (p .0) q)
+meets-once grid input laid ring (patched c) uncovered p q = absurd (q .1 c (p .1 .among))
+meets-once grid input laid ring long (patched d) p q = absurd (no-longer ring (q .0) p)
+meets-once grid input laid ring long long p q = refl
+meets-once grid input laid ring long uncovered p q = absurd (no-longer ring (q .0) p)
+meets-once grid input laid ring uncovered (patched d) p q = absurd (p .1 d (q .1 .among))
+meets-once grid input laid ring uncovered long p q = absurd (no-longer ring (p .0) q)
+meets-once grid input laid ring uncovered uncovered p q = refl
+
+pub run-once : (grid : List ℤ) (input laid : List ℕ) (rings : List (List ℕ)) (fs gs : List Fate) → Run grid input laid rings fs → Run grid input laid rings gs → fs ≡ gs
+run-once grid input laid [] [] [] p q = refl
+run-once grid input laid [] [] (g ∷ gs) p q = absurd q
+run-once grid input laid [] (f ∷ fs) gs p q = absurd p
+run-once grid input laid (r ∷ rings) [] gs p q = absurd p
+run-once grid input laid (r ∷ rings) (f ∷ fs) [] p q = absurd q
+run-once grid input laid (r ∷ rings) (f ∷ fs) (g ∷ gs) p q =
+    let e : f ≡ g = meets-once grid input laid r f g (p .0) (q .0) in
+    ap₂ (λ (x : Fate) (xs : List Fate). x ∷ xs) e
+    (run-once grid input (laid ++ lays r f) rings fs gs (p .1)
+    (subst (λ (x : Fate). Run grid input (laid ++ lays r x) rings gs) (sym e) (q .1)))
