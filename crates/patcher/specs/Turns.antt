@@ -1,0 +1,86 @@
+-- One loop's turn in the run, as the code takes it: these definitions are the code's own, and no part of a promise.
+use mathlib.Core.Path.{_≡_}
+use mathlib.Core.Bool.{true}
+use mathlib.Core.List.{List, _++_}
+use Prim.Native.Nat.{ℕ, _+_, _-_, _*_, _%_, _^_, _<_, _≤_}
+use lib.IntN.{ℤ}
+use lib.ListN.{length, getD}
+use lib.Ieee.{Float}
+use Rattle.limits.specs.Limits as limits
+use Rattle.surface.specs.Buffers.{laid}
+use Rattle.covers.specs.Covers.{empty, apex}
+use Rattle.weight.specs.Weight.{Coordinates, Names}
+use Rattle.bars.specs.Bars.{between}
+use Rattle.bars.specs.Chains.{Tells}
+use Rattle.column.specs.Columns.{Table}
+use Rattle.run.specs.Fates.{Fate, patched, stateOf, weighs, lays, Meets}
+use Rattle.patcher.specs.declared.turn.Became.{Became}
+
+-- the ring of a loop of the input: three or more different points on the grid, each joined to the next by the input
+pub record RingOf (grid : List ℤ) (input ring : List ℕ) : Type 0 where
+  pub coordinates : Coordinates grid
+  pub named : (j : ℕ) → j < length ring → Names grid (getD ring j 0)
+  pub inside : (j : ℕ) → j < length ring → getD ring j 0 < limits.points
+  pub three : 3 ≤ length ring
+  pub apart : (i j : ℕ) → i < length ring → j < length ring → getD ring i 0 ≡ getD ring j 0 → i ≡ j
+  pub sides : (j : ℕ) → j + 1 < length ring → between input (getD ring j 0) (getD ring (j + 1) 0) ≡ true
+  pub closing : between input (getD ring (length ring - 1) 0) (getD ring 0 0) ≡ true
+
+-- what lies on the bench between two turns: chains that tell of the input and of the patches so far, marks below the base, and room
+pub record Bench (input laid : List ℕ) (e : ℕ) (heads links ends marks : List ℕ) (base : ℕ) (rows : List ℕ) (table : List Float) : Type 0 where
+  pub tells : Tells input laid e heads links ends
+  pub whole : length laid % 3 ≡ 0
+  pub marks-long : length marks ≡ limits.points
+  pub below : (v : ℕ) → getD marks v 0 < base
+  pub rows-long : length rows ≡ limits.longest
+  pub table-long : Table table
+
+-- room for the patch of the ring and for its diagonals
+pub record Room (ring links ends patches : List ℕ) (base p e : ℕ) : Type 0 where
+  pub patches-room : p + 3 * (length ring - 2) ≤ length patches
+  pub links-room : e + (length ring - 2) ≤ length links
+  pub ends-room : e + (length ring - 2) ≤ length ends
+  pub few-edges : e + (length ring - 2) < 2 ^ 16
+  pub few-marks : base + length ring < 2 ^ 16
+
+pub record TurnRoom (grid : List ℤ) (ring heads links ends marks : List ℕ) (base : ℕ) (rows : List ℕ) (table : List Float) (patches : List ℕ) (p e : ℕ) : Type 0 where
+  pub input : List ℕ
+  pub before : List ℕ
+  pub ring-of : RingOf grid input ring
+  pub bench : Bench input before e heads links ends marks base rows table
+  pub room : Room ring links ends patches base p e
+
+-- the loop met its fate, its patch is laid from p on, and the bench is ready for the next loop
+pub record Took (grid : List ℤ) (input before ring : List ℕ) (base : ℕ) (patches : List ℕ) (p e : ℕ) (r : Became) (heads′ links′ ends′ marks′ rows′ : List ℕ) (table′ : List Float) (patches′ : List ℕ) : Type 0 where
+  pub fate : Fate
+  pub meets : Meets grid input before ring fate
+  pub state : r .state ≡ stateOf fate
+  pub weight : r .weight ≡ weighs grid ring fate
+  pub lay : patches′ ≡ laid p (lays ring fate) patches
+  pub corners : r .corners ≡ p + length (lays ring fate)
+  pub bench : Bench input (before ++ lays ring fate) (r .edges) heads′ links′ ends′ marks′ (base + length ring) rows′ table′
+  pub few : r .edges ≤ e + (length ring - 2)
+
+-- the loop of three, which has one cover, without a bench
+pub record ThreeRoom (grid : List ℤ) (ring patches : List ℕ) (p : ℕ) : Type 0 where
+  pub input : List ℕ
+  pub ring-of : RingOf grid input ring
+  pub exactly : length ring ≡ 3
+  pub room : p + 3 ≤ length patches
+
+pub record ThreeTook (grid : List ℤ) (ring patches : List ℕ) (p e : ℕ) (r : Became) (patches′ : List ℕ) : Type 0 where
+  pub fate : Fate
+  pub sole : fate ≡ patched (apex 1 empty empty)
+  pub meets : (input before : List ℕ) → Meets grid input before ring fate
+  pub three : length (lays ring fate) ≡ 3
+  pub state : r .state ≡ stateOf fate
+  pub weight : r .weight ≡ weighs grid ring fate
+  pub lay : patches′ ≡ laid p (lays ring fate) patches
+  pub corners : r .corners ≡ p + 3
+  pub edges : r .edges ≡ e
+
+-- whatever the input and the patches before it are
+abbrev pub Takes : List ℤ → List ℕ → List ℕ → List ℕ → List ℕ → List ℕ → ℕ → List ℕ → List Float → List ℕ → ℕ → ℕ → Became → List ℕ → List ℕ → List ℕ → List ℕ → List ℕ → List Float → List ℕ → Type 0
+Takes grid ring heads links ends marks base rows table patches p e r heads′ links′ ends′ marks′ rows′ table′ patches′ =
+    (input before : List ℕ) → RingOf grid input ring → Bench input before e heads links ends marks base rows table
+    → Took grid input before ring base patches p e r heads′ links′ ends′ marks′ rows′ table′ patches′
