@@ -375,8 +375,7 @@ static void swap_corners(uint16_t *corners, size_t a, size_t b)
     corners[b] = kept;
 }
 
-/* Puts triangles into any order and begins each at any corner. */
-static void shuffle_triangles(struct generator *generator, uint16_t *corners, size_t count)
+void generate_shuffle_triangles(struct generator *generator, uint16_t *corners, size_t count)
 {
     for (size_t t = 0; t < count / 3; t++) {
         size_t other = between(generator, t, count / 3 - 1);
@@ -430,7 +429,7 @@ static void build_surface(struct generator *generator, struct build *build, int 
         renumber_points(generator, build);
     }
     if (chance(generator, 2)) {
-        shuffle_triangles(generator, build->corners, build->count);
+        generate_shuffle_triangles(generator, build->corners, build->count);
     }
     if (loose && build->count > 0 && chance(generator, 8)) {
         size_t t = generate_below(generator, build->count / 3);
@@ -624,8 +623,7 @@ static void damage_surface(struct generator *generator, struct generated_surface
     }
 }
 
-/* Lends each buffer exactly what is needed. */
-static void lend_exactly(struct generated_surface *surface)
+void generate_lend_exactly(struct generated_surface *surface)
 {
     size_t triangles = surface->corner_count / 3;
     surface->lent[0] = surface->word_count;
@@ -640,7 +638,7 @@ static void lend_exactly(struct generated_surface *surface)
 static void lend(struct generator *generator, struct generated_surface *surface)
 {
     int shortage = chance(generator, 6);
-    lend_exactly(surface);
+    generate_lend_exactly(surface);
     for (size_t b = 0; b < GENERATE_BUFFERS; b++) {
         if (chance(generator, 3)) {
             surface->lent[b] += between(generator, 1, 5);
@@ -664,7 +662,7 @@ static void take_build(struct generator *generator, const struct build *build,
         surface->corners[c] = c < build->count ? build->corners[c] : 0;
     }
     place_points(generator, surface->words, build->points);
-    lend_exactly(surface);
+    generate_lend_exactly(surface);
 }
 
 void generate_sound_surface(struct generator *generator, struct generated_surface *surface)
@@ -768,7 +766,7 @@ static void choose_loop(struct generator *generator, const struct generated_surf
     *state = 1;
     choose_stretch(generator, &memo, 0, length - 1, kind, set);
     if (shuffled) {
-        shuffle_triangles(generator, set->corners + before, set->corner_count - before);
+        generate_shuffle_triangles(generator, set->corners + before, set->corner_count - before);
     }
 }
 
@@ -857,7 +855,7 @@ static void change_states(struct generator *generator, struct generated_set *set
 /* Puts all triangles of the set into any order, over the bounds of loops. */
 static void mix_loops(struct generator *generator, struct generated_set *set)
 {
-    shuffle_triangles(generator, set->corners, set->corner_count - set->corner_count % 3);
+    generate_shuffle_triangles(generator, set->corners, set->corner_count - set->corner_count % 3);
 }
 
 static void change_set(struct generator *generator, struct generated_set *set)

@@ -48,6 +48,12 @@ uint64_t generate_bits(struct generator *generator);
 /* A word of any kind of coordinate, also those that are refused. */
 uint32_t generate_word(struct generator *generator);
 
+/* Puts triangles into any order and begins each at any corner. */
+void generate_shuffle_triangles(struct generator *generator, uint16_t *corners, size_t count);
+
+/* Lends each buffer exactly what is needed. */
+void generate_lend_exactly(struct generated_surface *surface);
+
 /* A surface without damage, its coordinates all on the plate, buffers exact. */
 void generate_sound_surface(struct generator *generator, struct generated_surface *surface);
 

@@ -1,6 +1,7 @@
 -- From the library's answer to its plain numbers, and that these are determined.
 use mathlib.Core.Path.{_≡_, sym, ap, _∙_, subst}
 use mathlib.Core.Bool.{not}
+use mathlib.Core.List.{List}
 use Prim.Native.Nat.{ℕ, _^_, _<_}
 use native.Mathlib.Nat.{lt-of-le-of-lt}
 use native.Mathlib.Omega.{arith}
@@ -19,7 +20,13 @@ use Rattle.grid.specs.declared.Coordinate.the-variants.{Shifted, TooFar}
 use Rattle.grid.proofs.Laws.Only.{only}
 use Rattle.survey.specs.Outcome.{Buffers, Outcome, outcome}
 use Rattle.survey.specs.declared.Surveyed.{Surveyed}
-use Rattle.archive.specs.Plain.{Tells, wholeOf, floatOf, told, surveyed}
+use Rattle.patcher.specs.Outcome as patcher
+use Rattle.patcher.specs.declared.Patched.{Patched}
+use Rattle.patcher.proofs.Laws.Once.{patches-once}
+use Rattle.checker.specs.Outcome as checker
+use Rattle.checker.specs.declared.Judged.{Judged}
+use Rattle.checker.proofs.Laws.Once.{judges-once}
+use Rattle.archive.specs.Plain.{Tells, wholeOf, floatOf, Told, told, surveyed, JudgesTold, PatchTold, patchTold, patched, PatchesTold}
 
 number-no-nan : (x : Float) → T (finite x) → T (not (isNan x))
 unfolding isNan
@@ -46,7 +53,7 @@ fits (negsuc n) h = record { sfits = omega arith }
 pub kept : {x : Float} {k : ℤ} → Lands 1 x k → toZ w32 (ofZ w32 k) ≡ k
 kept {x} {k} l = toZ-ofZ w32 k (fits k (lt-of-le-of-lt (l .within) (lit< tt)))
 
--- any two outcomes are equal
+-- any two answers for a coordinate are equal
 pub told-once : (x : Float) (n m : ℕ) (k l : ℤ) (b c : ℕ) → Tells x n k b → Tells x m l c → (n ≡ m) × (k ≡ l) × (b ≡ c)
 told-once x n m k l b c p q =
     let e = only 1 x (p .coordinate) (q .coordinate) (p .right) (q .right) in (
@@ -58,3 +65,31 @@ told-once x n m k l b c p q =
 -- a survey's answer, field by field
 pub told-survey : (r : Surveyed) (b : Buffers) (o : Outcome) (n p : ℕ) → n ≡ numberOf (r .answer) → p ≡ placeOf (r .answer) → outcome r b ≡ o → told n p (r .loops) (r .vertices) b ≡ surveyed o
 told-survey r b o n p en ep e = (λ t. told (en t) (ep t) (r .loops) (r .vertices) b) ∙ ap surveyed e
+
+-- a patching's answer, field by field
+pub told-patch : (words corners : List ℕ) (b : patcher.Buffers) (r : Patched) (b′ : patcher.Buffers) (n p : ℕ) → n ≡ numberOf (r .answer) → p ≡ placeOf (r .answer) → patcher.Patches words corners b (patcher.outcome r b′)
+    → PatchesTold words corners b (patchTold n p (r .loops) (r .vertices) (r .corners) b′)
+told-patch words corners b r b′ n p en ep h = record {
+  outcome = patcher.outcome r b′;
+  right = h;
+  its-numbers = λ t. patchTold (en t) (ep t) (r .loops) (r .vertices) (r .corners) b′;
+}
+
+-- any two patchings told of one input and the same buffers are equal
+pub patches-told-once : (words corners : List ℕ) (b : patcher.Buffers) (s t : PatchTold) → PatchesTold words corners b s → PatchesTold words corners b t → s ≡ t
+patches-told-once words corners b s t p q =
+    p .its-numbers ∙ ap patched (patches-once words corners b (p .outcome) (q .outcome) (p .right) (q .right)) ∙ sym (q .its-numbers)
+
+-- a judgement, field by field
+pub told-judge : (words corners states set : List ℕ) (b : Buffers) (r : Judged) (b′ : Buffers) (n p : ℕ) → n ≡ numberOf (r .answer) → p ≡ placeOf (r .answer) → checker.Judges words corners states set b (checker.outcome r b′)
+    → JudgesTold words corners states set b (told n p (r .loops) (r .vertices) b′)
+told-judge words corners states set b r b′ n p en ep h = record {
+  outcome = checker.outcome r b′;
+  right = h;
+  its-numbers = λ t. told (en t) (ep t) (r .loops) (r .vertices) b′;
+}
+
+-- any two judgements told of one set and the same buffers are equal
+pub judges-told-once : (words corners states set : List ℕ) (b : Buffers) (s t : Told) → JudgesTold words corners states set b s → JudgesTold words corners states set b t → s ≡ t
+judges-told-once words corners states set b s t p q =
+    p .its-numbers ∙ ap surveyed (judges-once words corners states set b (p .outcome) (q .outcome) (p .right) (q .right)) ∙ sym (q .its-numbers)

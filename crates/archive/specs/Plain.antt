@@ -1,11 +1,14 @@
 -- The library's answers in plain numbers, as they cross to another language.
 use Prim.Native.Nat.{ℕ}
 use mathlib.Core.Path.{_≡_}
+use mathlib.Core.List.{List}
 use lib.IntN.{ℤ, pos}
 use lib.Ieee.{Float, binary32, toBits}
 use Rattle.terms.specs.Answers.{numberOf, placeOf}
 use Rattle.grid.specs.Places.{Places, answerOf}
 use Rattle.survey.specs.Outcome.{Buffers, Outcome}
+use Rattle.patcher.specs.Outcome as patcher
+use Rattle.checker.specs.Outcome.{Judges}
 use Rattle.grid.specs.declared.Coordinate.{Coordinate}
 use Rattle.grid.specs.declared.Coordinate.the-variants.{Exact, Shifted, NotFinite, TooFar}
 
@@ -31,7 +34,7 @@ pub record Tells (x : Float) (number : ℕ) (whole : ℤ) (float : ℕ) : Type 0
   pub its-whole : whole ≡ wholeOf coordinate
   pub its-float : float ≡ floatOf coordinate
 
--- a survey's answer in numbers, with what it leaves
+-- a survey's or the checker's answer in numbers, with what it leaves
 pub record Told : Type 0 where
   pub number : ℕ
   pub place : ℕ
@@ -44,3 +47,30 @@ told number place loops vertices b = record { number = number; place = place; lo
 
 abbrev pub surveyed : Outcome → Told
 surveyed o = told (numberOf (o .answer)) (placeOf (o .answer)) (o .loops) (o .vertices) (o .left)
+
+-- a patching's answer in numbers, with what it leaves
+pub record PatchTold : Type 0 where
+  pub number : ℕ
+  pub place : ℕ
+  pub loops : ℕ
+  pub vertices : ℕ
+  pub corners : ℕ
+  pub left : patcher.Buffers
+
+abbrev pub patchTold : ℕ → ℕ → ℕ → ℕ → ℕ → patcher.Buffers → PatchTold
+patchTold number place loops vertices corners b = record { number = number; place = place; loops = loops; vertices = vertices; corners = corners; left = b }
+
+abbrev pub patched : patcher.Outcome → PatchTold
+patched o = patchTold (numberOf (o .answer)) (placeOf (o .answer)) (o .loops) (o .vertices) (o .corners) (o .left)
+
+-- what is told is an outcome of the patcher
+pub record PatchesTold (words corners : List ℕ) (b : patcher.Buffers) (t : PatchTold) : Type 0 where
+  pub outcome : patcher.Outcome
+  pub right : patcher.Patches words corners b outcome
+  pub its-numbers : t ≡ patched outcome
+
+-- what is told is an outcome of the checker
+pub record JudgesTold (words corners states set : List ℕ) (b : Buffers) (t : Told) : Type 0 where
+  pub outcome : Outcome
+  pub right : Judges words corners states set b outcome
+  pub its-numbers : t ≡ surveyed outcome

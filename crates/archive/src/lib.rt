@@ -2,7 +2,8 @@
 ghost use mathlib.Core.Path.{_≡_};
 ghost use lib.Ieee.{binary32, ofBits};
 ghost use Rattle.survey.specs.Outcome.{buffers, surveyOf};
-ghost use Rattle.archive.specs.Plain.{Tells, told, surveyed};
+ghost use Rattle.patcher.specs.Outcome as patcher;
+ghost use Rattle.archive.specs.Plain.{Tells, told, surveyed, JudgesTold, patchTold, PatchesTold};
 use grid::Coordinate;
 
 // The answer for the coordinate with these bits: its number is returned, 0 or refusal 7 or 8; the whole number, or 0, is
@@ -59,4 +60,69 @@ pub extern "C" fn wazelpunt_survey(
     *loops = found.loops;
     *vertices = found.vertices;
     said.number()
+}
+
+// Patches a surface, as `patch` does: the grid, the ring vertices and lengths, the states and weights, and the patch corners are left
+// in the lent buffers; the number of the answer is returned, and its place and the three counts are left too.
+#[no_mangle]
+pub extern "C" fn wazelpunt_patch(
+    words: &[u32],
+    corners: &[u16],
+    grid: &mut [i32],
+    rings: &mut [u16],
+    lengths: &mut [u16],
+    states: &mut [u16],
+    weights: &mut [u64],
+    patches: &mut [u16],
+    place: &mut usize,
+    loops: &mut usize,
+    vertices: &mut usize,
+    laid: &mut usize,
+) -> u32
+    ensures { λ r. ⌜ PatchesTold (now (words .entry)) (now (corners .entry)) (patcher.buffers (now (grid .entry)) (now (rings .entry)) (now (lengths .entry)) (now (states .entry)) (now (weights .entry)) (now (patches .entry)))
+        (patchTold r (now (place .exit)) (now (loops .exit)) (now (vertices .exit)) (now (laid .exit))
+        (patcher.buffers (now (grid .exit)) (now (rings .exit)) (now (lengths .exit)) (now (states .exit)) (now (weights .exit)) (now (patches .exit)))) ⌝ }
+{
+    let done = patcher::patch(
+        words,
+        corners,
+        grid,
+        rings,
+        lengths,
+        states,
+        weights,
+        patches,
+    );
+    let answer = done.answer;
+    *place = answer.place();
+    *loops = done.loops;
+    *vertices = done.vertices;
+    *laid = done.corners;
+    answer.number()
+}
+
+// Judges a patch set for a surface, as `judge` does: the grid, the ring vertices and the ring lengths are left in the lent buffers; the
+// number of the answer is returned, and its place, how many loops there are and how many vertices their rings have are left too.
+#[no_mangle]
+pub extern "C" fn wazelpunt_judge(
+    words: &[u32],
+    corners: &[u16],
+    states: &[u16],
+    set: &[u16],
+    grid: &mut [i32],
+    rings: &mut [u16],
+    lengths: &mut [u16],
+    place: &mut usize,
+    loops: &mut usize,
+    vertices: &mut usize,
+) -> u32
+    ensures { λ r. ⌜ JudgesTold (now (words .entry)) (now (corners .entry)) (now (states .entry)) (now (set .entry)) (buffers (now (grid .entry)) (now (rings .entry)) (now (lengths .entry)))
+        (told r (now (place .exit)) (now (loops .exit)) (now (vertices .exit)) (buffers (now (grid .exit)) (now (rings .exit)) (now (lengths .exit)))) ⌝ }
+{
+    let judged = checker::judge(words, corners, states, set, grid, rings, lengths);
+    let verdict = judged.answer;
+    *place = verdict.place();
+    *loops = judged.loops;
+    *vertices = judged.vertices;
+    verdict.number()
 }

@@ -10,7 +10,7 @@ use terms::Loop;
 use terms::Surface;
 
 // Edge e, from u to v, comes first in the chain of u. Edges are numbered from 1 in the chains, and 0 ends a chain.
-fn chain(
+pub fn chain(
     heads: &mut [u16; Surface::POINTS],
     links: &mut [u16],
     ends: &mut [u16],

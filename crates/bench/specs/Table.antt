@@ -6,14 +6,18 @@ use Prim.Native.Nat.{ℕ, _-_}
 use lib.IntN.{ℤ, pos, negsuc}
 use lib.Ieee.{binary32, ofBits}
 use lib.ListN.{length}
-use Rattle.terms.specs.declared.Answer.the-variants.{Repeated}
+use Rattle.terms.specs.declared.Answer.{Answer}
+use Rattle.terms.specs.declared.Answer.the-variants.{Done, Repeated, Barred, Heavy}
 use Rattle.grid.specs.Places.{Places}
 use Rattle.grid.specs.declared.Coordinate.the-variants.{Shifted, TooFar}
 use Rattle.surface.specs.Refusals.{cornerRefusal}
 use Rattle.loops.specs.Loops.{cycle, loops, ring}
-use Rattle.covers.specs.Covers.{Cover, empty, apex, patchOf, weight, Allowed, NoCover, Patch}
+use Rattle.covers.specs.Covers.{Cover, empty, apex, weight, Allowed, NoCover, Patch}
 use Rattle.weight.specs.Edition.{naturals, triOf, along}
 use Rattle.bars.specs.Bars.{barred}
+use Rattle.run.specs.Fates.{Fate}
+use Rattle.run.specs.Run.{Run, statesOf, weightsOf, laidBy}
+use Rattle.verdicts.specs.Verdicts.{Verdict}
 
 -- the rings of a surface
 unfoldable pub rings : List ℕ → List (List ℕ)
@@ -87,6 +91,18 @@ Taken corners grid ring = Patch naturals (triOf (along grid ring)) (barred corne
 abbrev pub weighs : List ℤ → List ℕ → Cover → ℕ
 weighs grid ring = weight naturals (triOf (along grid ring)) 0 (length ring - 1)
 
+-- the run over the surface gives its loops these states and weights and lays these corners
+pub record Leaves (grid : List ℤ) (corners states weights laid : List ℕ) : Type 0 where
+  pub fates : List Fate
+  pub run : Run grid corners [] (rings corners) fates
+  pub its-states : statesOf fates ≡ states
+  pub its-weights : weightsOf grid (rings corners) fates ≡ weights
+  pub its-laid : laidBy (rings corners) fates ≡ laid
+
+-- the set of these states and corners gets this verdict
+abbrev pub Gets : List ℤ → List ℕ → List ℕ → List ℕ → Answer → Type 0
+Gets grid corners states set = Verdict grid corners [] 0 0 (rings corners) states set
+
 pub record Table : Type 0 where
   -- 0.5 gives 0 rest 0.5
   pub half : Places 1 (ofBits binary32 0x3f000000) (Shifted (pos 0) (ofBits binary32 0x3f000000))
@@ -107,20 +123,22 @@ pub record Table : Type 0 where
   -- the pinched strip: one cycle 0,1,3,0,4,2; rings 0,1,3 and 0,4,2
   pub strip-cycle : ring pinchedStrip (cycle pinchedStrip 0) ≡ 0 ∷ 1 ∷ 3 ∷ 0 ∷ 4 ∷ 2 ∷ []
   pub strip-rings : rings pinchedStrip ≡ (0 ∷ 1 ∷ 3 ∷ []) ∷ (0 ∷ 4 ∷ 2 ∷ []) ∷ []
-  -- (0,1,2),(0,2,3): diagonal 0-2 barred; patch (0,3,1),(1,3,2), weight 280, and (0,3,2),(0,2,1) has the barred diagonal
+  -- (0,1,2),(0,2,3): diagonal 0-2 barred; patch (0,3,1),(1,3,2), weight 280, and (0,3,2),(0,2,1) has the barred diagonal: it gets 13
   pub folded-rings : rings folded ≡ rim ∷ []
   pub folded-bar : barred folded [] rim 0 2 ≡ true
   pub folded-taken : Taken folded lifted rim overOne
-  pub folded-patch : patchOf rim overOne ≡ 0 ∷ 3 ∷ 1 ∷ 1 ∷ 3 ∷ 2 ∷ []
-  pub folded-weight : weighs lifted rim overOne ≡ 280
+  pub folded-run : Leaves lifted folded (1 ∷ []) (280 ∷ []) (0 ∷ 3 ∷ 1 ∷ 1 ∷ 3 ∷ 2 ∷ [])
   pub folded-barred : Free folded rim overTwo → ⊥
-  -- the cone with a dent: patch (0,3,2),(0,2,1), weight 60; (0,3,1),(1,3,2) weighs 140
+  pub folded-judged : Gets lifted folded (1 ∷ []) (0 ∷ 3 ∷ 2 ∷ 0 ∷ 2 ∷ 1 ∷ []) (Barred 0)
+  -- the cone with a dent: patch (0,3,2),(0,2,1), weight 60; (0,3,1),(1,3,2) weighs 140 and gets 14;
+  -- (3,2,0),(2,1,0) passes
   pub cone-rings : rings cone ≡ rim ∷ []
   pub cone-taken : Taken cone dentedTop rim overTwo
-  pub cone-patch : patchOf rim overTwo ≡ 0 ∷ 3 ∷ 2 ∷ 0 ∷ 2 ∷ 1 ∷ []
-  pub cone-weight : weighs dentedTop rim overTwo ≡ 60
+  pub cone-run : Leaves dentedTop cone (1 ∷ []) (60 ∷ []) (0 ∷ 3 ∷ 2 ∷ 0 ∷ 2 ∷ 1 ∷ [])
   pub cone-other : Free cone rim overOne
   pub cone-heavier : weighs dentedTop rim overOne ≡ 140
+  pub cone-judged : Gets dentedTop cone (1 ∷ []) (0 ∷ 3 ∷ 1 ∷ 1 ∷ 3 ∷ 2 ∷ []) (Heavy 0)
+  pub cone-passed : Gets dentedTop cone (1 ∷ []) (3 ∷ 2 ∷ 0 ∷ 2 ∷ 1 ∷ 0 ∷ []) Done
   -- the cone with the points of (0,1,2),(0,2,3): both covers weigh 280, so m = 1: (0,3,1),(1,3,2)
   pub equal-one : weighs liftedTop rim overOne ≡ 280
   pub equal-two : weighs liftedTop rim overTwo ≡ 280
@@ -129,4 +147,4 @@ pub record Table : Type 0 where
   pub crossed-rings : rings crossed ≡ rim ∷ side ∷ []
   pub crossed-open : Open crossed rim
   pub crossed-taken : (grid : List ℤ) → Taken crossed grid side alone
-  pub crossed-patch : patchOf side alone ≡ 1 ∷ 4 ∷ 3 ∷ []
+  pub crossed-run : (grid : List ℤ) → Leaves grid crossed (3 ∷ 1 ∷ []) (0 ∷ weighs grid side alone ∷ []) (1 ∷ 4 ∷ 3 ∷ [])

@@ -5,7 +5,6 @@ pub mod Best
 pub mod Parts
 pub mod Steps
 pub mod Least
-pub mod Minimum
 pub mod Chords
 pub mod Pairs
 pub mod Counted

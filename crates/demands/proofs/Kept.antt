@@ -11,11 +11,11 @@ use Rattle.loops.proofs.Laws.Places.{Place}
 use Rattle.loops.proofs.Theorems as theorems
 use Rattle.demands.specs.Loops.{loopAt, StandsAt, LoopsDemand}
 
-place-of : (corners : List ℕ) (e l i : ℕ) → StandsAt corners e l i → Place (loops corners) e
+abbrev pub place-of : (corners : List ℕ) (e l i : ℕ) → StandsAt corners e l i → Place (loops corners) e
 place-of corners e l i s = record { loop = l; loop-below = s .loop-there; at = i; at-below = s .place-there; is = s .edge-there }
 
 pub loops-demand : (corners : List ℕ) → Sound corners → LoopsDemand corners
-unfolding Distinct place-of
+unfolding Distinct
 loops-demand corners sound = record {
   in-a-loop = λ e l o. let p = theorems.one-loop corners sound .placed e l o in (p .loop, p .at, record { loop-there = p .loop-below; place-there = p .at-below; edge-there = p .is });
   in-one-only = λ e l m i j a b. theorems.one-loop corners sound .once e (place-of corners e l i a) (place-of corners e m j b);

@@ -1,1 +1,4 @@
 pub mod Kept
+pub mod Closing
+pub mod Passable
+pub mod Sets

@@ -1,1 +1,3 @@
 pub mod Loops
+pub mod Closing
+pub mod Sets

@@ -29,6 +29,11 @@ pub record Ready (corners turns rings lengths firsts : List ℕ) : Type 0 where
   pub lengths-long : length corners / 3 ≤ length lengths
   pub firsts-long : length corners / 3 ≤ length firsts
 
+-- the path and the places that are lent to the finder are long enough
+pub record Lent (corners path places : List ℕ) : Type 0 where
+  pub path-long : length corners ≤ length path
+  pub named : (i : ℕ) → i < length corners → getD corners i 0 < length places
+
 -- the loops can be counted: a sound surface and its table
 pub record Countable (corners turns : List ℕ) : Type 0 where
   pub sound : Sound corners

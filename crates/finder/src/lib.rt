@@ -7,7 +7,7 @@ ghost use lib.ListN.{length, getD, take};
 ghost use Rattle.pairing.specs.Turns.{openMark};
 ghost use Rattle.loops.specs.Loops.{loops, ring, startsAt};
 ghost use Rattle.surface.specs.Buffers.{laid};
-ghost use Rattle.finder.specs.Listing.{Ready, Lists, Countable};
+ghost use Rattle.finder.specs.Listing.{Ready, Lent, Lists, Countable};
 ghost use Rattle.finder.specs.Walking.{Quiet, Landing, Landed, Sought, RingRoom, part, CutRoom, WasCut, GrowRoom, Grew, CycleRoom, CycleListed};
 use pairing::OPEN;
 use surface::Found;
@@ -37,6 +37,30 @@ pub fn list_loops(
 {
     let mut path = [0u16; Surface::CORNERS];
     let mut places = [0u16; Surface::POINTS];
+    list_with(
+        corners,
+        turns,
+        &mut path,
+        &mut places,
+        rings,
+        lengths,
+        firsts,
+    )
+}
+
+// The same with a path and places that are lent, for a caller that knows how long they need be.
+pub fn list_with(
+    corners: &[u16],
+    turns: &mut [u16],
+    path: &mut [u16],
+    places: &mut [u16],
+    rings: &mut [u16],
+    lengths: &mut [u16],
+    firsts: &mut [u16],
+) -> Listed
+    requires { ⌜ Ready (now corners) (now turns) (now rings) (now lengths) (now firsts) × Lent (now corners) (now path) (now places) ⌝ }
+    ensures { λ r. ⌜ Lists (now (corners .entry)) (loops (now (corners .entry))) (now (rings .entry)) (now (lengths .entry)) (now (firsts .entry)) r (now (rings .exit)) (now (lengths .exit)) (now (firsts .exit)) ⌝ }
+{
     let mut at = Listed {
         loops: 0,
         vertices: 0,
@@ -48,17 +72,7 @@ pub fn list_loops(
             h = next_leader(turns, h, corners.len());
             continue;
         }
-        at = list_cycle(
-            corners,
-            h,
-            turns,
-            &mut path,
-            &mut places,
-            rings,
-            lengths,
-            firsts,
-            at,
-        );
+        at = list_cycle(corners, h, turns, path, places, rings, lengths, firsts, at);
         h += 1;
     }
     at
@@ -76,29 +90,44 @@ pub fn count_loops(corners: &[u16], turns: &mut [u16]) -> usize
     listed.loops
 }
 
-// A half-edge after h, and at most n, before which none from h on leads: sixteen are passed over at a time.
+// The next half-edge after h that leads, or n.
 fn next_leader(turns: &[u16], h: usize, n: usize) -> usize
     requires { ⌜ (h < n) × (n ≤ length (now turns)) × (getD (now turns) h 0 < openMark) ⌝ }
     ensures { λ r. ⌜ (h < r) × (r ≤ n) × Quiet (now (turns .entry)) h r ⌝ }
 {
-    if h % 16 == 0 {
-        if h + 16 <= n {
-            if is_quiet(turns, h) {
-                return h + 16;
-            }
+    let mut i = skip_quiet(turns, h, n);
+    while i < n {
+        if OPEN <= turns[i] {
+            return i;
         }
+        i += 1;
     }
-    h + 1
+    i
 }
 
-// Whether none of the sixteen half-edges from h on leads.
+// A half-edge from h on, and at most n, before which none from h on leads: eight are passed over at a time.
+fn skip_quiet(turns: &[u16], h: usize, n: usize) -> usize
+    requires { ⌜ (h ≤ n) × (n ≤ length (now turns)) ⌝ }
+    ensures { λ r. ⌜ (h ≤ r) × (r ≤ n) × Quiet (now (turns .entry)) h r ⌝ }
+{
+    let mut i = h;
+    while i + 8 <= n {
+        if !is_quiet(turns, i) {
+            return i;
+        }
+        i += 8;
+    }
+    i
+}
+
+// Whether none of the eight half-edges from h on leads.
 fn is_quiet(turns: &[u16], h: usize) -> bool
-    requires { ⌜ h + 16 ≤ length (now turns) ⌝ }
-    ensures { λ r. ⌜ (r ≡ true → Quiet (now (turns .entry)) h (h + 16)) ⌝ }
+    requires { ⌜ h + 8 ≤ length (now turns) ⌝ }
+    ensures { λ r. ⌜ (r ≡ true → Quiet (now (turns .entry)) h (h + 8)) ⌝ }
 {
     let mut all = true;
     let mut i = h;
-    while i < h + 16 {
+    while i < h + 8 {
         all = all & (turns[i] < OPEN);
         i += 1;
     }

@@ -5,3 +5,4 @@ pub mod Floats
 pub mod Rests
 pub mod Only
 pub mod Coordinates
+pub mod Ends

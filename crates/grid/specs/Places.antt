@@ -1,8 +1,8 @@
 -- Grid. Where a coordinate goes and how far it moved. The rules are stated over the pitch, 1 being the rule of whole numbers.
 use Prim.Native.Nat.{ℕ, suc, _*_, _≤_, _<_}
 use mathlib.Core.Path.{_≡_}
-use mathlib.Core.Bool.{not}
-use lib.Dec.{T}
+use mathlib.Core.Bool.{Bool, not, _||_}
+use lib.Dec.{T, ltb}
 use lib.IntN.{ℤ, pos, negsuc, negℤ, natAbs, _-ℤ_, _*ℤ_}
 use lib.Ieee.{Float, binary32, fits}
 use lib.Ieee.Scale.{finite}
@@ -43,6 +43,10 @@ Places pitch x (Exact k) = Lands pitch x k × (rest pitch (units x) ≡ pos 0)
 Places pitch x (Shifted k d) = Lands pitch x k × Leaves pitch x d
 Places pitch x NotFinite = T (not (finite x))
 Places pitch x (TooFar y) = T (finite x) × (greatest < natAbs (whole pitch (units x))) × (y ≡ x)
+
+-- x is none that the grid takes: not finite, or too far
+unfoldable pub isOff : Float → Bool
+isOff x = not (finite x) || ltb greatest (natAbs (whole 1 (units x)))
 
 -- what the answer for the word of index i means for its sheet: refusal 7 or 8 there, or none
 abbrev pub answerOf : ℕ → Coordinate → Answer

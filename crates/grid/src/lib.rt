@@ -3,7 +3,7 @@ ghost use mathlib.Core.Path.{_≡_};
 ghost use Prim.Native.Nat.{_/_, _%_, _^_, _<_};
 ghost use lib.Ieee.{binary32, ofBits};
 ghost use Rattle.grid.specs.Units.{units};
-ghost use Rattle.grid.specs.Places.{whole, Places, answerOf};
+ghost use Rattle.grid.specs.Places.{whole, Places, isOff, answerOf};
 use terms::Answer;
 use terms::Grid;
 
@@ -27,6 +27,17 @@ impl Coordinate {
             Coordinate::TooFar(_) => Answer::TooFar(word),
         }
     }
+}
+
+// The bits of the number halfway from the grid's end to the next whole number, to which it goes, since that is even. Without their
+// sign the bits of floats are in the order of the sizes, and what is no number comes after all numbers.
+const BEYOND: u32 = 0x46ff_ff00;
+
+// Whether the coordinate with these bits is not finite or too far.
+pub fn is_off(word: u32) -> bool
+    ensures { λ r. ⌜ r ≡ isOff (ofBits binary32 word) ⌝ }
+{
+    BEYOND <= word % 0x8000_0000
 }
 
 // Three quarters of 2^24: a float of this size has no binary places, and an even last one.
@@ -58,7 +69,7 @@ pub fn place(word: u32) -> Coordinate
 
 // The whole number nearest to a number below 2^22, a tie to the even one. The sum has no room for binary places, so the
 // addition itself rounds to a whole number, and by the rule of floats a tie goes to the even one.
-fn nearest(word: u32) -> i32
+pub fn nearest(word: u32) -> i32
     requires { ⌜ word % 2 ^ 31 / 2 ^ 23 < 149 ⌝ }
     ensures { λ r. ⌜ r ≡ whole 1 (units (ofBits binary32 word)) ⌝ }
 {

@@ -5,3 +5,4 @@ pub mod Tries
 pub mod Lists
 pub mod Once
 pub mod Patches
+pub mod Fours

@@ -1,13 +1,17 @@
 // Lists the patch of a loop from the table of least weights. The table keeps weights only, so the apexes are found again along the way.
 ghost use mathlib.Core.Path.{_≡_};
+ghost use mathlib.Core.Bool.{true, false};
 ghost use mathlib.Core.List.{[], _∷_};
-ghost use Prim.Native.Nat.{ℕ, suc, _+_, _*_, _<_, _≤_};
-ghost use lib.ListN.{length};
+ghost use Prim.Native.Nat.{ℕ, suc, _+_, _*_, _^_, _<_, _≤_};
+ghost use lib.ListN.{length, getD};
 ghost use Rattle.surface.specs.Buffers.{laid};
 ghost use Rattle.covers.specs.Covers.{vertexOf};
+ghost use Rattle.table.specs.Loops.{OnGrid};
 ghost use Rattle.laying.specs.Ways.{triangleOf, TriangleRoom, Weighable, IsWay, Middle};
 ghost use Rattle.laying.specs.Lists.{ListRoom, Lists};
-ghost use Rattle.laying.specs.Patches.{PatchRoom, LaysPatch, ThreeRoom, LaysThree};
+ghost use Rattle.laying.specs.Patches.{PatchRoom, LaysPatch, ThreeRoom, LaysThree, FourRoom, FourOn, byOne, byTwo, GoesByTwo};
+ghost use Rattle.weight.specs.Edition.{triOf, along};
+ghost use Rattle.masks.specs.Masks.{bit};
 use column::WS;
 use column::YS;
 use column::ZS;
@@ -89,11 +93,73 @@ pub fn lay_patch(
     requires { ⌜ PatchRoom (now grid) (now ring) (now bars) (now table) (now out) p ⌝ }
     ensures { λ r. ⌜ LaysPatch (now (grid .entry)) (now (ring .entry)) (now (bars .entry)) (now (out .entry)) p r (now (out .exit)) ⌝ }
 {
+    if ring.len() == 4 {
+        return lay_four(grid, ring, bars, out, p);
+    }
     let least = table::least_weight(grid, ring, bars, table);
     if let Least::Weight(_) = least {
         list(table, ring, out, p, 0, ring.len() - 1);
     }
     least
+}
+
+// The loop of four has two covers, by the apexes 1 and 2, and needs no table.
+fn lay_four(grid: &[i32], ring: &[u16], bars: &[u64], out: &mut [u16], p: usize) -> Least
+    requires { ⌜ FourRoom (now grid) (now ring) (now bars) (now out) p ⌝ }
+    ensures { λ r. ⌜ LaysPatch (now (grid .entry)) (now (ring .entry)) (now (bars .entry)) (now (out .entry)) p r (now (out .exit)) ⌝ }
+{
+    if masks::is_set(bars[0], 3) {
+        return Least::Nothing;
+    }
+    if goes_by_two(grid, ring, bars) {
+        lay(ring, out, p, 0, 3, 2);
+        lay(ring, out, p + 3, 0, 2, 1);
+        return Least::Weight(by_two(grid, ring));
+    }
+    if masks::is_set(bars[1], 3) {
+        return Least::Nothing;
+    }
+    lay(ring, out, p, 0, 3, 1);
+    lay(ring, out, p + 3, 1, 3, 2);
+    Least::Weight(by_one(grid, ring))
+}
+
+// Whether the loop of four takes the cover by the apex 2: its diagonal is free, and the other's is not, or that cover is heavier.
+fn goes_by_two(grid: &[i32], ring: &[u16], bars: &[u64]) -> bool
+    requires { ⌜ FourOn (now grid) (now ring) (now bars) ⌝ }
+    ensures { λ r. ⌜ GoesByTwo (now (grid .entry)) (now (ring .entry)) (now (bars .entry)) r ⌝ }
+{
+    if masks::is_set(bars[0], 2) {
+        return false;
+    }
+    if masks::is_set(bars[1], 3) {
+        return true;
+    }
+    by_two(grid, ring) < by_one(grid, ring)
+}
+
+// What the cover by the apex 1 weighs.
+fn by_one(grid: &[i32], ring: &[u16]) -> u64
+    requires { ⌜ OnGrid (now grid) (now ring) × (length (now ring) ≡ 4) ⌝ }
+    ensures { λ r. ⌜ r ≡ byOne (now (grid .entry)) (now (ring .entry)) ⌝ }
+{
+    weigh_at(grid, ring, 0, 3, 1) + weigh_at(grid, ring, 1, 3, 2)
+}
+
+// What the cover by the apex 2 weighs.
+fn by_two(grid: &[i32], ring: &[u16]) -> u64
+    requires { ⌜ OnGrid (now grid) (now ring) × (length (now ring) ≡ 4) ⌝ }
+    ensures { λ r. ⌜ r ≡ byTwo (now (grid .entry)) (now (ring .entry)) ⌝ }
+{
+    weigh_at(grid, ring, 0, 3, 2) + weigh_at(grid, ring, 0, 2, 1)
+}
+
+// What the triangle at these positions of the ring weighs.
+fn weigh_at(grid: &[i32], ring: &[u16], i: usize, k: usize, m: usize) -> u64
+    requires { ⌜ OnGrid (now grid) (now ring) × (i < length (now ring)) × (k < length (now ring)) × (m < length (now ring)) ⌝ }
+    ensures { λ r. ⌜ (r ≡ triOf (along (now (grid .entry)) (now (ring .entry))) i k m) × (r < 2 ^ 35) ⌝ }
+{
+    weight::weigh_named(grid, ring[i] as usize, ring[k] as usize, ring[m] as usize)
 }
 
 // The loop of three has one cover, a triangle against it. Gives its weight.
@@ -102,5 +168,5 @@ pub fn lay_three(grid: &[i32], ring: &[u16], out: &mut [u16], p: usize) -> u64
     ensures { λ r. ⌜ LaysThree (now (grid .entry)) (now (ring .entry)) (now (out .entry)) p r (now (out .exit)) ⌝ }
 {
     lay(ring, out, p, 0, 2, 1);
-    weight::weigh_named(grid, ring[0] as usize, ring[2] as usize, ring[1] as usize)
+    weigh_at(grid, ring, 0, 2, 1)
 }

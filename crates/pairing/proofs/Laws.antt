@@ -9,3 +9,4 @@ pub mod Turning
 pub mod Pairing
 pub mod Triangles
 pub mod Rounds
+pub mod Few

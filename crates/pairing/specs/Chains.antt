@@ -1,6 +1,6 @@
 -- What the private functions rest on: these definitions are the code's own and no part of the promise, which Turns.antt has. Half-edges are chained in buckets, numbered from 1, and 0 ends a chain.
 use mathlib.Core.Path.{_≡_}
-use mathlib.Core.Bool.{Bool, true, false, not}
+use mathlib.Core.Bool.{Bool, true, false, not, _||_}
 use mathlib.Core.List.{List}
 use Prim.Native.Nat.{ℕ, zero, suc, _+_, _-_, _*_, _/_, _%_, _≤_, _<_}
 use lib.Dec.{eqb, ltb}
@@ -19,21 +19,28 @@ use Rattle.pairing.specs.Turns.{openMark, turnBy, stops, Room}
 abbrev pub buckets : ℕ
 buckets = 4096
 
+-- what is enough for few corners
+abbrev pub fewCorners : ℕ
+fewCorners = 48
+
+abbrev pub fewBuckets : ℕ
+fewBuckets = 32
+
 -- what is added to a point's number
 abbrev pub spread : ℕ
 spread = 1025
 
--- the bucket of the half-edges between u and v, either way: any function would do that takes them alike
-unfoldable pub bucketOf : ℕ → ℕ → ℕ
-bucketOf u v = (u + spread) * (v + spread) / 8 % buckets
+-- of so many buckets, that of the half-edges between u and v, either way: any function would do that takes them alike
+unfoldable pub bucketOf : ℕ → ℕ → ℕ → ℕ
+bucketOf size u v = (u + spread) * (v + spread) / 8 % size
 
 -- the bucket of half-edge k
-unfoldable pub home : List ℕ → ℕ → ℕ
-home corners k = bucketOf (startOf corners k) (endOf corners k)
+unfoldable pub home : ℕ → List ℕ → ℕ → ℕ
+home size corners k = bucketOf size (startOf corners k) (endOf corners k)
 
 -- k is of bucket b
-unfoldable pub inBucket : List ℕ → ℕ → ℕ → Bool
-inBucket corners b k = eqb (home corners k) b
+unfoldable pub inBucket : ℕ → List ℕ → ℕ → ℕ → Bool
+inBucket size corners b k = eqb (home size corners k) b
 
 -- ---- chains
 
@@ -47,35 +54,37 @@ top p zero = 0
 top p (suc n) = let rest = top p n in pick (p n) (suc n) rest
 
 -- each bucket has the last of its own below n
-unfoldable pub Headed : List ℕ → ℕ → List ℕ → Type 0
-Headed corners n heads = (b : ℕ) → b < buckets → getD heads b 0 ≡ top (inBucket corners b) n
+unfoldable pub Headed : ℕ → List ℕ → ℕ → List ℕ → Type 0
+Headed size corners n heads = (b : ℕ) → b < size → getD heads b 0 ≡ top (inBucket size corners b) n
 
 -- each half-edge below n has the one before it in its bucket
-unfoldable pub Linked : List ℕ → ℕ → List ℕ → Type 0
-Linked corners n links = (k : ℕ) → k < n → getD links k 0 ≡ top (inBucket corners (home corners k)) k
+unfoldable pub Linked : ℕ → List ℕ → ℕ → List ℕ → Type 0
+Linked size corners n links = (k : ℕ) → k < n → getD links k 0 ≡ top (inBucket size corners (home size corners k)) k
 
 -- and its end
 unfoldable pub Ended : List ℕ → ℕ → List ℕ → Type 0
 Ended corners n ends = (k : ℕ) → k < n → getD ends k 0 ≡ endOf corners k
 
-pub record Chained (corners : List ℕ) (n : ℕ) (heads links ends : List ℕ) : Type 0 where
-  pub headed : Headed corners n heads
-  pub linked : Linked corners n links
+pub record Chained (size : ℕ) (corners : List ℕ) (n : ℕ) (heads links ends : List ℕ) : Type 0 where
+  pub some : 0 < size
+  pub headed : Headed size corners n heads
+  pub linked : Linked size corners n links
   pub ended : Ended corners n ends
-  pub heads-long : length heads ≡ buckets
-  pub links-long : length links ≡ limits.corners
-  pub ends-long : length ends ≡ limits.corners
+  pub heads-long : length heads ≡ size
+  pub links-long : length corners ≤ length links
+  pub ends-long : length corners ≤ length ends
 
 -- ---- the walk along a chain
 
 -- the chain from `last` on is the bucket of u and v
 pub record MeetRoom (corners links ends : List ℕ) (last u v : ℕ) : Type 0 where
+  pub size : ℕ
   pub inside : last ≤ length corners
   pub links-long : length corners ≤ length links
   pub ends-long : length corners ≤ length ends
-  pub linked : Linked corners last links
+  pub linked : Linked size corners last links
   pub ended : Ended corners last ends
-  pub here : 0 < last → home corners (last - 1) ≡ bucketOf u v
+  pub here : 0 < last → home size corners (last - 1) ≡ bucketOf size u v
 
 -- what a half-edge from u to v meets below n: its twin; one that it repeats; or none that joins u and v
 unfoldable pub Meets : List ℕ → ℕ → ℕ → ℕ → Met → Type 0
@@ -112,32 +121,50 @@ TurnsBelow corners n table = (k : ℕ) → k < n → getD table k 0 ≡ turnBy (
 
 -- ---- the pairing
 
+-- r is where the first triangle begins that names a point twice, or the end
+pub record PlainTo (corners : List ℕ) (r : ℕ) : Type 0 where
+  pub within : r ≤ length corners
+  pub first : r % 3 ≡ 0
+  pub plain : (t : ℕ) → 3 * t < r → twice corners t ≡ false
+  pub there : r < length corners → twice corners (r / 3) ≡ true
+
+-- h is of the triangle whose first half-edge is i
+pub record AfterRoom (h i : ℕ) : Type 0 where
+  pub first : i % 3 ≡ 0
+  pub from : i ≤ h
+  pub to : h < i + 3
+  pub small : h < limits.corners
+
 -- the half-edges below n are paired and chained, and the pairing did not stop there
-pub record Going (corners : List ℕ) (n : ℕ) (heads links ends table : List ℕ) : Type 0 where
+pub record Going (size : ℕ) (corners : List ℕ) (n : ℕ) (heads links ends table : List ℕ) : Type 0 where
   pub room : Room corners table
   pub fresh : least (stops corners) n ≡ found.Nothing
-  pub chained : Chained corners n heads links ends
+  pub chained : Chained size corners n heads links ends
   pub turns : TurnsBelow corners n table
 
 -- half-edge h, from u to v and followed by f, is the next
-pub record PairRoom (corners : List ℕ) (h f u v : ℕ) (heads links ends table : List ℕ) : Type 0 where
-  pub going : Going corners h heads links ends table
+pub record PairRoom (size : ℕ) (corners : List ℕ) (h f u v : ℕ) (heads links ends table : List ℕ) : Type 0 where
+  pub going : Going size corners h heads links ends table
   pub edge : h < length corners
   pub plain : twice corners (h / 3) ≡ false
   pub follows : f ≡ following h
   pub start : u ≡ startOf corners h
   pub end : v ≡ endOf corners h
 
-pub record PairDone (corners : List ℕ) (h : ℕ) (done : Bool) (heads links ends table : List ℕ) : Type 0 where
+pub record PairDone (size : ℕ) (corners : List ℕ) (h : ℕ) (done : Bool) (heads links ends table : List ℕ) : Type 0 where
   pub answer : done ≡ not (repeats corners h)
-  pub going : done ≡ true → Going corners (h + 1) heads links ends table
+  pub going : done ≡ true → Going size corners (h + 1) heads links ends table
+
+-- two of a triangle's corners are alike
+unfoldable pub alike : ℕ → ℕ → ℕ → Bool
+alike a b c = eqb a b || eqb b c || eqb c a
 
 -- the triangle whose first half-edge is i is the next
-pub record TriangleRoom (corners : List ℕ) (i : ℕ) (heads links ends table : List ℕ) : Type 0 where
-  pub going : Going corners i heads links ends table
+pub record TriangleRoom (size : ℕ) (corners : List ℕ) (i : ℕ) (heads links ends table : List ℕ) : Type 0 where
+  pub going : Going size corners i heads links ends table
   pub edge : i < length corners
   pub first : i % 3 ≡ 0
 
-pub record TriangleDone (corners : List ℕ) (i : ℕ) (stop : Found) (heads links ends table : List ℕ) : Type 0 where
+pub record TriangleDone (size : ℕ) (corners : List ℕ) (i : ℕ) (stop : Found) (heads links ends table : List ℕ) : Type 0 where
   pub answer : stop ≡ least (stops corners) (i + 3)
-  pub going : stop ≡ found.Nothing → Going corners (i + 3) heads links ends table
+  pub going : stop ≡ found.Nothing → Going size corners (i + 3) heads links ends table

@@ -1,36 +1,20 @@
 -- The run over all loops, as the code takes it: these definitions are the code's own, and no part of a promise.
 use mathlib.Core.Path.{_≡_}
-use mathlib.Core.Logic.{_⊎_}
-use mathlib.Core.List.{List, [], map, flatten}
-use Prim.Native.Nat.{ℕ, _+_, _*_, _%_, _<_, _≤_}
+use mathlib.Core.List.{List, [], flatten}
+use Prim.Native.Nat.{ℕ, _*_, _≤_}
 use lib.IntN.{ℤ}
-use lib.ListN.{length, getD, take}
-use lib.Ieee.{Float}
+use lib.ListN.{length, take}
 use Rattle.limits.specs.Limits as limits
 use Rattle.surface.specs.Buffers.{over}
 use Rattle.run.specs.Fates.{Fate}
 use Rattle.run.specs.Run.{Run, statesOf, weightsOf, laidBy}
-use Rattle.patcher.specs.Turns.{RingOf, Bench}
-
--- the loops of the input by their rings, which stand one after the other, and by their lengths
-pub record Loops (grid : List ℤ) (input : List ℕ) (rs : List (List ℕ)) (rings lengths : List ℕ) : Type 0 where
-  pub rings-are : rings ≡ flatten rs
-  pub lengths-are : lengths ≡ map length rs
-  pub each : (l : ℕ) → l < length rs → RingOf grid input (getD rs l [])
-  pub few : length rings ≤ limits.corners
-  pub few-loops : length rs ≤ limits.triangles
+use Rattle.rounds.specs.Rings.{Loops, Input}
 
 -- room for what they leave
 pub record Lent (rs : List (List ℕ)) (states weights patches : List ℕ) : Type 0 where
   pub states-room : length rs ≤ length states
   pub weights-room : length rs ≤ length weights
   pub patches-room : 3 * length (flatten rs) ≤ length patches
-
--- the input's corners
-pub record Input (input : List ℕ) : Type 0 where
-  pub whole : length input % 3 ≡ 0
-  pub few : length input ≤ limits.corners
-  pub inside : (i : ℕ) → i < length input → getD input i 0 < limits.points
 
 pub record RunRoom (grid : List ℤ) (input rings lengths states weights patches : List ℕ) : Type 0 where
   pub rs : List (List ℕ)
@@ -63,7 +47,3 @@ abbrev pub Runs : List ℤ → List ℕ → List ℕ → List ℕ → List ℕ �
 Runs grid input rings lengths states weights patches p states′ weights′ patches′ =
     (rs : List (List ℕ)) → Loops grid input rs rings lengths → Lent rs states weights patches
     → RanAll grid input rs states weights patches p states′ weights′ patches′
-
--- each of the lengths is three or a long one's
-abbrev pub Plain : List ℕ → Type 0
-Plain lengths = (l : ℕ) → l < length lengths → (getD lengths l 0 ≤ 3) ⊎ (limits.longest < getD lengths l 0)

@@ -1,3 +1,4 @@
 pub mod Outcome
 pub mod Turns
 pub mod Courses
+pub mod Scratch

@@ -10,11 +10,11 @@ use Rattle.terms.specs.declared.Answer.{Answer}
 use Rattle.terms.specs.declared.Answer.the-variants.{Done}
 use Rattle.surface.specs.Buffers.{over}
 use Rattle.surface.specs.Refusals.{refusal}
-use Rattle.loops.specs.Loops.{loops, ring}
+use Rattle.loops.specs.Loops.{loops}
 use Rattle.finder.specs.Listing.{ringsOf}
 use Rattle.survey.specs.Grid.{gridOf}
 use Rattle.run.specs.Fates.{Fate}
-use Rattle.run.specs.Run.{Run, statesOf, weightsOf, laidBy}
+use Rattle.run.specs.Run.{Run, ringList, statesOf, weightsOf, laidBy}
 use Rattle.patcher.specs.declared.Patched.{Patched}
 
 -- the lent buffers 1 to 6
@@ -51,10 +51,6 @@ buffers grid rings lengths states weights patches = record {
 -- "A refusal ... leaves all buffers untouched and has zero in every count."
 abbrev pub refused : Answer → Buffers → Outcome
 refused a b = record { answer = a; loops = 0; vertices = 0; corners = 0; left = b }
-
--- the rings of all loops, in listed order
-abbrev pub ringList : List ℕ → List (List ℕ)
-ringList corners = map (ring corners) (loops corners)
 
 -- "Each is written from its start, grid wholly, the rest as far as used; everything after that stays."
 abbrev pub done : List ℕ → List ℕ → List Fate → Buffers → Outcome

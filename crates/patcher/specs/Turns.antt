@@ -1,39 +1,17 @@
 -- One loop's turn in the run, as the code takes it: these definitions are the code's own, and no part of a promise.
 use mathlib.Core.Path.{_≡_}
-use mathlib.Core.Bool.{true}
 use mathlib.Core.List.{List, _++_}
-use Prim.Native.Nat.{ℕ, _+_, _-_, _*_, _%_, _^_, _<_, _≤_}
+use Prim.Native.Nat.{ℕ, _+_, _-_, _*_, _^_, _<_, _≤_}
 use lib.IntN.{ℤ}
-use lib.ListN.{length, getD}
+use lib.ListN.{length}
 use lib.Ieee.{Float}
 use Rattle.limits.specs.Limits as limits
 use Rattle.surface.specs.Buffers.{laid}
 use Rattle.covers.specs.Covers.{empty, apex}
-use Rattle.weight.specs.Weight.{Coordinates, Names}
-use Rattle.bars.specs.Bars.{between}
-use Rattle.bars.specs.Chains.{Tells}
-use Rattle.column.specs.Columns.{Table}
 use Rattle.run.specs.Fates.{Fate, patched, stateOf, weighs, lays, Meets}
+use Rattle.rounds.specs.Rings.{RingOf}
+use Rattle.rounds.specs.Bench.{Bench}
 use Rattle.patcher.specs.declared.turn.Became.{Became}
-
--- the ring of a loop of the input: three or more different points on the grid, each joined to the next by the input
-pub record RingOf (grid : List ℤ) (input ring : List ℕ) : Type 0 where
-  pub coordinates : Coordinates grid
-  pub named : (j : ℕ) → j < length ring → Names grid (getD ring j 0)
-  pub inside : (j : ℕ) → j < length ring → getD ring j 0 < limits.points
-  pub three : 3 ≤ length ring
-  pub apart : (i j : ℕ) → i < length ring → j < length ring → getD ring i 0 ≡ getD ring j 0 → i ≡ j
-  pub sides : (j : ℕ) → j + 1 < length ring → between input (getD ring j 0) (getD ring (j + 1) 0) ≡ true
-  pub closing : between input (getD ring (length ring - 1) 0) (getD ring 0 0) ≡ true
-
--- what lies on the bench between two turns: chains that tell of the input and of the patches so far, marks below the base, and room
-pub record Bench (input laid : List ℕ) (e : ℕ) (heads links ends marks : List ℕ) (base : ℕ) (rows : List ℕ) (table : List Float) : Type 0 where
-  pub tells : Tells input laid e heads links ends
-  pub whole : length laid % 3 ≡ 0
-  pub marks-long : length marks ≡ limits.points
-  pub below : (v : ℕ) → getD marks v 0 < base
-  pub rows-long : length rows ≡ limits.longest
-  pub table-long : Table table
 
 -- room for the patch of the ring and for its diagonals
 pub record Room (ring links ends patches : List ℕ) (base p e : ℕ) : Type 0 where

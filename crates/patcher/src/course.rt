@@ -1,7 +1,6 @@
 // The run over all loops, in listed order.
-ghost use mathlib.Core.Path.{_≡_};
-ghost use mathlib.Core.Bool.{false};
-ghost use Rattle.patcher.specs.Courses.{RunRoom, Runs, Plain};
+ghost use Rattle.patcher.specs.Courses.{RunRoom, Runs};
+ghost use Rattle.rounds.specs.Rings.{Plain};
 use crate::turn::turn;
 use crate::turn::turn_three;
 use column::FAR;
@@ -11,26 +10,6 @@ use terms::Surface;
 
 // Edges of the input, and at most as many diagonals.
 const EDGES: usize = 2 * Surface::CORNERS;
-
-// Whether some loop has more than three edges and is not long: only such loops need bars and a table.
-fn any_middling(lengths: &[u16]) -> bool
-    ensures { λ r. ⌜ (r ≡ false → Plain (now (lengths .entry))) ⌝ }
-{
-    let mut l = 0;
-    while l < lengths.len() {
-        let n = lengths[l] as usize;
-        if n <= 3 {
-            l += 1;
-            continue;
-        }
-        if Loop::LONGEST < n {
-            l += 1;
-            continue;
-        }
-        return true;
-    }
-    false
-}
 
 // Loops of three and long ones only.
 fn run_plain(
@@ -130,7 +109,7 @@ pub fn run(
     requires { ⌜ RunRoom (now grid) (now corners) (now rings) (now lengths) (now states) (now weights) (now patches) ⌝ }
     ensures { λ r. ⌜ Runs (now (grid .entry)) (now (corners .entry)) (now (rings .entry)) (now (lengths .entry)) (now (states .entry)) (now (weights .entry)) (now (patches .entry)) r (now (states .exit)) (now (weights .exit)) (now (patches .exit)) ⌝ }
 {
-    if any_middling(lengths) {
+    if rounds::any_middling(lengths) {
         return run_all(grid, corners, rings, lengths, states, weights, patches);
     }
     run_plain(grid, corners, rings, lengths, states, weights, patches)

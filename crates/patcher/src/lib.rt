@@ -3,9 +3,18 @@ mod course;
 mod turn;
 
 ghost use mathlib.Core.Path.{_≡_};
+ghost use Prim.Native.Nat.{_/_, _≤_};
+ghost use lib.ListN.{length};
+ghost use Rattle.terms.specs.declared.Answer.the-variants.{Done};
+ghost use Rattle.surface.specs.Refusals.{countRefusal};
 ghost use Rattle.patcher.specs.Outcome.{outcome, buffers, Patches};
+ghost use Rattle.patcher.specs.Scratch.{few, Scratch};
 use terms::Answer;
 use terms::Surface;
+
+// A surface with no more points and no more corners than this is patched with room for as many, and not for as many as a surface
+// may have: to clear that would take longer than to patch it.
+const FEW: usize = 48;
 
 // What the patcher answers: done or a refusal, how many loops there are, how many vertices their rings have, and how many corners
 // were laid.
@@ -35,6 +44,116 @@ pub fn patch(
     if counted.refuses() {
         return refused(counted);
     }
+    if words.len() / 3 <= FEW {
+        if corners.len() <= FEW {
+            return patch_few(
+                words,
+                corners,
+                grid,
+                rings,
+                lengths,
+                states,
+                weights,
+                patches,
+            );
+        }
+    }
+    patch_many(
+        words,
+        corners,
+        grid,
+        rings,
+        lengths,
+        states,
+        weights,
+        patches,
+    )
+}
+
+// Few points and corners.
+fn patch_few(
+    words: &[u32],
+    corners: &[u16],
+    grid: &mut [i32],
+    rings: &mut [u16],
+    lengths: &mut [u16],
+    states: &mut [u16],
+    weights: &mut [u64],
+    patches: &mut [u16],
+) -> Patched
+    requires { ⌜ (countRefusal (length (now words)) (length (now corners)) ≡ Done) × (length (now words) / 3 ≤ few) × (length (now corners) ≤ few) ⌝ }
+    ensures { λ r. ⌜ Patches (now (words .entry)) (now (corners .entry)) (buffers (now (grid .entry)) (now (rings .entry)) (now (lengths .entry)) (now (states .entry)) (now (weights .entry)) (now (patches .entry)))
+        (outcome r (buffers (now (grid .exit)) (now (rings .exit)) (now (lengths .exit)) (now (states .exit)) (now (weights .exit)) (now (patches .exit)))) ⌝ }
+{
+    let mut turns = [0u16; FEW];
+    let mut path = [0u16; FEW];
+    let mut places = [0u16; FEW];
+    patch_with(
+        words,
+        corners,
+        &mut turns,
+        &mut path,
+        &mut places,
+        grid,
+        rings,
+        lengths,
+        states,
+        weights,
+        patches,
+    )
+}
+
+// Any number of them.
+fn patch_many(
+    words: &[u32],
+    corners: &[u16],
+    grid: &mut [i32],
+    rings: &mut [u16],
+    lengths: &mut [u16],
+    states: &mut [u16],
+    weights: &mut [u64],
+    patches: &mut [u16],
+) -> Patched
+    requires { ⌜ countRefusal (length (now words)) (length (now corners)) ≡ Done ⌝ }
+    ensures { λ r. ⌜ Patches (now (words .entry)) (now (corners .entry)) (buffers (now (grid .entry)) (now (rings .entry)) (now (lengths .entry)) (now (states .entry)) (now (weights .entry)) (now (patches .entry)))
+        (outcome r (buffers (now (grid .exit)) (now (rings .exit)) (now (lengths .exit)) (now (states .exit)) (now (weights .exit)) (now (patches .exit)))) ⌝ }
+{
+    let mut turns = [0u16; Surface::CORNERS];
+    let mut path = [0u16; Surface::CORNERS];
+    let mut places = [0u16; Surface::POINTS];
+    patch_with(
+        words,
+        corners,
+        &mut turns,
+        &mut path,
+        &mut places,
+        grid,
+        rings,
+        lengths,
+        states,
+        weights,
+        patches,
+    )
+}
+
+// Refusals 3 to 8, and the patching, with a table of turns, a path and places that are long enough.
+fn patch_with(
+    words: &[u32],
+    corners: &[u16],
+    turns: &mut [u16],
+    path: &mut [u16],
+    places: &mut [u16],
+    grid: &mut [i32],
+    rings: &mut [u16],
+    lengths: &mut [u16],
+    states: &mut [u16],
+    weights: &mut [u64],
+    patches: &mut [u16],
+) -> Patched
+    requires { ⌜ Scratch (now words) (now corners) (now turns) (now path) (now places) ⌝ }
+    ensures { λ r. ⌜ Patches (now (words .entry)) (now (corners .entry)) (buffers (now (grid .entry)) (now (rings .entry)) (now (lengths .entry)) (now (states .entry)) (now (weights .entry)) (now (patches .entry)))
+        (outcome r (buffers (now (grid .exit)) (now (rings .exit)) (now (lengths .exit)) (now (states .exit)) (now (weights .exit)) (now (patches .exit)))) ⌝ }
+{
     let n = corners.len();
     let lent = [
         grid.len(),
@@ -45,14 +164,13 @@ pub fn patch(
         patches.len(),
     ];
     let needs = [words.len(), n, n / 3, n / 3, n / 3, 3 * n];
-    let mut turns = [0u16; Surface::CORNERS];
-    let checked = survey::check(words, corners, &lent, &needs, &mut turns);
+    let checked = survey::check_with(words, corners, &lent, &needs, turns);
     if checked.refuses() {
         return refused(checked);
     }
     let mut firsts = [0u16; Surface::TRIANGLES];
     survey::lay_grid(words, grid);
-    let listed = finder::list_loops(corners, &mut turns, rings, lengths, &mut firsts);
+    let listed = finder::list_with(corners, turns, path, places, rings, lengths, &mut firsts);
     let laid = course::run(
         &grid[..words.len()],
         corners,

@@ -1,10 +1,9 @@
 // One loop's turn in the run.
 ghost use mathlib.Core.Path.{_≡_};
-ghost use mathlib.Core.List.{List};
-ghost use Prim.Native.Nat.{ℕ, _+_, _≤_};
+ghost use Prim.Native.Nat.{_+_, _≤_};
 ghost use lib.ListN.{length};
 ghost use Rattle.limits.specs.Limits.{longest};
-ghost use Rattle.patcher.specs.Turns.{RingOf, TurnRoom, Takes, ThreeRoom, ThreeTook};
+ghost use Rattle.patcher.specs.Turns.{TurnRoom, Takes, ThreeRoom, ThreeTook};
 use table::Least;
 use terms::Loop;
 use terms::Surface;

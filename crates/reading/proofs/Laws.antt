@@ -10,3 +10,5 @@ pub mod Collects
 pub mod Closes
 pub mod Read
 pub mod Weighing
+pub mod Joined
+pub mod Chained

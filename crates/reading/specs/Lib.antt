@@ -1,3 +1,4 @@
 pub mod Reading
 pub mod Weighing
 pub mod Keys
+pub mod Chaining

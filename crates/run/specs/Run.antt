@@ -2,7 +2,12 @@
 use mathlib.Core.List.{List, [], _∷_, _++_, map}
 use Prim.Native.Nat.{ℕ}
 use lib.IntN.{ℤ}
+use Rattle.loops.specs.Loops.{loops, ring}
 use Rattle.run.specs.Fates.{Fate, stateOf, weighs, lays, Meets}
+
+-- the rings of all loops of the surface, in listed order
+abbrev pub ringList : List ℕ → List (List ℕ)
+ringList corners = map (ring corners) (loops corners)
 
 -- what all loops weigh, in listed order, and all corners that they lay
 abbrev pub weightsOf : List ℤ → List (List ℕ) → List Fate → List ℕ

@@ -8,3 +8,4 @@ pub mod Over
 pub mod Laid
 pub mod Refusing
 pub mod Thens
+pub mod Sound

@@ -232,11 +232,5 @@ fn is_off_grid(words: &[u32], i: usize) -> bool
     requires { ⌜ i < length (now words) ⌝ }
     ensures { λ r. ⌜ r ≡ offGrid (now (words .entry)) i ⌝ }
 {
-    let place = grid::place(words[i]);
-    match place {
-        Coordinate::Exact(_) => false,
-        Coordinate::Shifted(_, _) => false,
-        Coordinate::NotFinite => true,
-        Coordinate::TooFar(_) => true,
-    }
+    grid::is_off(words[i])
 }

@@ -27,6 +27,11 @@ pub record Counted (words corners table : List ℕ) : Type 0 where
   pub counts : countRefusal (length words) (length corners) ≡ Done
   pub long : limits.corners ≤ length table
 
+-- or for this one
+pub record Fitted (words corners table : List ℕ) : Type 0 where
+  pub counts : countRefusal (length words) (length corners) ≡ Done
+  pub long : length corners ≤ length table
+
 -- what is known of a surface that passed 1 to 8
 pub record Passed (words corners lent needs table : List ℕ) : Type 0 where
   pub long : (i : ℕ) → i < length needs → getD needs i 0 ≤ getD lent i 0

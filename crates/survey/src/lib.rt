@@ -4,10 +4,9 @@ ghost use Prim.Native.Nat.{_<_, _≤_};
 ghost use lib.ListN.{length, getD};
 ghost use Rattle.surface.specs.Buffers.{over};
 ghost use Rattle.pairing.specs.Turns.{Room};
-ghost use Rattle.survey.specs.Checks.{Counted, Checked, CornersChecked};
+ghost use Rattle.survey.specs.Checks.{Counted, Fitted, Checked, CornersChecked};
 ghost use Rattle.survey.specs.Outcome.{outcome, buffers, surveyOf};
 ghost use Rattle.survey.specs.Grid.{wholeOf, gridOf, OnGrid};
-use grid::Coordinate;
 use surface::Found;
 use terms::Answer;
 use terms::Surface;
@@ -74,6 +73,20 @@ pub fn check(
     requires { ⌜ Counted (now words) (now corners) (now turns) ⌝ }
     ensures { λ r. ⌜ Checked (now (words .entry)) (now (corners .entry)) (now (lent .entry)) (now (needs .entry)) r (now (turns .exit)) ⌝ }
 {
+    check_with(words, corners, lent, needs, turns)
+}
+
+// The same for a caller that knows how long the table need be.
+pub fn check_with(
+    words: &[u32],
+    corners: &[u16],
+    lent: &[usize],
+    needs: &[usize],
+    turns: &mut [u16],
+) -> Answer
+    requires { ⌜ Fitted (now words) (now corners) (now turns) ⌝ }
+    ensures { λ r. ⌜ Checked (now (words .entry)) (now (corners .entry)) (now (lent .entry)) (now (needs .entry)) r (now (turns .exit)) ⌝ }
+{
     let buffers = surface::check_buffers(lent, needs);
     if buffers.refuses() {
         return buffers;
@@ -123,11 +136,5 @@ fn whole(words: &[u32], i: usize) -> i32
     requires { ⌜ OnGrid (now words) × (i < length (now words)) ⌝ }
     ensures { λ r. ⌜ r ≡ wholeOf (getD (now (words .entry)) i 0) ⌝ }
 {
-    let place = grid::place(words[i]);
-    match place {
-        Coordinate::Exact(k) => k,
-        Coordinate::Shifted(k, _) => k,
-        Coordinate::NotFinite => 0,
-        Coordinate::TooFar(_) => 0,
-    }
+    grid::nearest(words[i])
 }

@@ -7,11 +7,11 @@ use mathlib.Core.Bool.{Bool, false}
 use native.Mathlib.Omega.{arith}
 use native.Mathlib.Decide.{decLt}
 use Rattle.covers.specs.Weights.{Weights}
-use Rattle.covers.specs.Covers.{Cover, empty, apex, Sooner, weight, Allowed, Best, Patch, NoCover}
+use Rattle.covers.specs.Covers.{Cover, empty, apex, Sooner, weight, Allowed, Best, Patch}
 use Rattle.covers.specs.Least.{Least}
 use Rattle.covers.proofs.Laws.Order.{antisym}
 use Rattle.covers.proofs.Laws.Parts.{allowed-before, allowed-after, allowed-free, other-before, other-after, lighter-before, lighter-after}
-use Rattle.covers.proofs.Laws.Steps.{AllowedAt, apex-best}
+use Rattle.covers.proofs.Laws.Steps.{AllowedAt, apex-best, patch-side}
 
 module _ (𝓦 : Weights) (tri : ℕ → ℕ → ℕ → 𝓦 .W) (barred : ℕ → ℕ → Bool) where
   open Weights 𝓦 using (W, none, add, _≺_)
@@ -32,6 +32,10 @@ module _ (𝓦 : Weights) (tri : ℕ → ℕ → ℕ → 𝓦 .W) (barred : ℕ 
 
   pub patch-least : (i k : ℕ) (c : Cover) → Patch 𝓦 tri barred i k c → Least 𝓦 tri barred i k (wt i k c)
   patch-least i k c p = least-of i k c (p .among) (p .least)
+
+  -- a side weighs nothing
+  pub least-side : (i k : ℕ) → k ≡ suc i → Least 𝓦 tri barred i k none
+  least-side i k e = patch-least i k empty (patch-side 𝓦 tri barred i k e)
 
   pub patch-weighs : (i k : ℕ) (w : W) (c : Cover) → Least 𝓦 tri barred i k w → Patch 𝓦 tri barred i k c → wt i k c ≡ w
   patch-weighs i k w c q p = least-unique i k (wt i k c) w (patch-least i k c p) q
@@ -81,21 +85,8 @@ module _ (𝓦 : Weights) (tri : ℕ → ℕ → ℕ → 𝓦 .W) (barred : ℕ 
       go empty a e = let f : k ≡ suc i = a .covers in absurd (omega arith)
       go (apex m c d) a e = (m, made-at i k w q m c d a e)
 
-  -- there is none at an apex where a part has no allowed cover, or where the sum is another
-  pub not-made-before : (i k : ℕ) (w : W) (m : ℕ) → NoCover barred i m → MadeAt i k w m → ⊥
-  not-made-before i k w m n h = n (h .left-least .cover) (h .left-least .among)
-
-  pub not-made-after : (i k : ℕ) (w : W) (m : ℕ) → NoCover barred m k → MadeAt i k w m → ⊥
-  not-made-after i k w m n h = n (h .right-least .cover) (h .right-least .among)
-
-  pub not-made-sum : (i k : ℕ) (w : W) (m : ℕ) (u v : W) → Least 𝓦 tri barred i m u → Least 𝓦 tri barred m k v
-      → (add (tri i k m) (add u v) ≡ w → ⊥) → MadeAt i k w m → ⊥
-  not-made-sum i k w m u v p q n h =
-      n
-      (ap (λ (x : W). add (tri i k m) (add x v)) (least-unique i m u (h .left) p (h .left-least))
-      ∙ (ap (λ (x : W). add (tri i k m) (add (h .left) x)) (least-unique m k v (h .right) q (h .right-least)) ∙ h .makes))
-
-  least-free : (i k m : ℕ) (w : W) → Least 𝓦 tri barred i k w → i < m → m < k → barred i k ≡ false
+  -- a stretch with an allowed cover that is no side is not barred
+  pub least-free : (i k m : ℕ) (w : W) → Least 𝓦 tri barred i k w → i < m → m < k → barred i k ≡ false
   least-free i k m w q lo hi = go (q .cover) (q .among)
     where
       go : (c : Cover) → Allowed barred i k c → barred i k ≡ false

@@ -1,11 +1,11 @@
 -- A float holds one whole number, two floats that hold one number are the same, and comparisons of floats are those of their numbers.
-use mathlib.Core.Path.{_≡_, refl, sym, ap, _∙_}
+use mathlib.Core.Path.{_≡_, sym, ap, _∙_}
 use mathlib.Core.Bool.{Bool, true, false, _&&_, _||_, true≢false}
 use mathlib.Core.Logic.{inl, inr}
 use Prim.Native.Nat.{ℕ, _*_, _≤_}
 use native.Mathlib.Nat.{zero-lt-suc, mul-pos, eq-of-mul-eq-mul-right, eq-or-lt-of-le, le-of-lt, le-of-eq}
 use lib.Dec.{T, ltb, leb, eqb, ltb→lt, lt→ltb, leb→le, le→leb, eqb→eq}
-use lib.IntN.{ℤ, pos, natAbs}
+use lib.IntN.{ℤ, natAbs}
 use lib.Ieee.{Float, nan, inf, fin, binary64, up, down, lt, le, eq}
 use lib.Ieee.Fits.{down-pos, eq→eqb, and-i, and-l}
 use lib.Ieee.Exact.{HasValue}
@@ -16,16 +16,10 @@ use Rattle.exact.specs.Whole.{Whole, Natural}
 
 -- ---- one number
 
-pub natural-whole : (x : Float) (n : ℕ) → Natural x n → Whole x (pos n)
-natural-whole x n p = record { held = p .held; minus = false; value = p .value; sign = refl }
-
 one-size : (x : Float) (s t : Bool) (m n : ℕ) → HasValue x s m 1 → HasValue x t n 1 → (s ≡ t) × (m ≡ n)
 one-size nan s t m n v w = absurd v
 one-size (inf b) s t m n v w = absurd v
 one-size (fin b k e) s t m n v w = (sym (v .0) ∙ w .0, eq-of-mul-eq-mul-right (down e) (down-pos e) m n (sym (v .1) ∙ w .1))
-
-pub natural-unique : (x : Float) (m n : ℕ) → Natural x m → Natural x n → m ≡ n
-natural-unique x m n p q = one-size x false false m n (p .value) (q .value) .1
 
 pub whole-one : (x : Float) (a b : ℤ) → Whole x a → Whole x b → a ≡ b
 whole-one x a b p q =

@@ -9,6 +9,7 @@ use native.Mathlib.Omega.{arith}
 use lib.Dec.{ltb}
 use lib.ListN.{getD}
 use borrow.Author.Tests.{ltb-true}
+use Rattle.surface.proofs.Laws.Tests.{lt-or-le}
 use Rattle.pairing.specs.Turns.{openMark}
 use Rattle.finder.specs.Walking.{Quiet}
 
@@ -21,6 +22,15 @@ unfolding Quiet
 quiet-more turns h i q l k m n =
     let b : k ≤ i = omega arith in
     ⊎-elim (λ (e : k ≡ i). rw e l) (λ (d : k < i). q k m d) (eq-or-lt-of-le b)
+
+-- what follows what is quiet
+pub quiet-join : (turns : List ℕ) (h i j : ℕ) → Quiet turns h i → Quiet turns i j → Quiet turns h j
+unfolding Quiet
+quiet-join turns h i j a b k l m = ⊎-elim (λ (d : k < i). a k l d) (λ (d : i ≤ k). b k d m) (lt-or-le k i)
+
+-- the next that leads lies after one that does not
+pub quiet-after : (turns : List ℕ) (h i : ℕ) → Quiet turns h i → getD turns h 0 < openMark → openMark ≤ getD turns i 0 → h ≤ i → h < i
+quiet-after turns h i q l m w = ⊎-elim (λ (e : h ≡ i). absurd (let b : getD turns i 0 < openMark = subst (λ (z : ℕ). getD turns z 0 < openMark) e l in omega arith)) (λ (d : h < i). d) (eq-or-lt-of-le w)
 
 -- one half-edge alone
 pub quiet-one : (turns : List ℕ) (h : ℕ) → getD turns h 0 < openMark → Quiet turns h (h + 1)

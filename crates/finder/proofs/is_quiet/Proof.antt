@@ -1,4 +1,4 @@
--- `is_quiet` passes the sixteen half-edges one by one, and `all` says that those passed are quiet.
+-- `is_quiet` passes the eight half-edges one by one, and `all` says that those passed are quiet.
 use Prim.Native.Nat.{_≤_, _+_, _-_}
 use mathlib.Core.Bool.{true}
 use mathlib.Core.Path.{_≡_}
@@ -9,10 +9,10 @@ use Rattle.finder.proofs.is_quiet.Statement.{statement}
 use Rattle.finder.proofs.is_quiet.Tie as tie
 
 abbrev Inv-loop : tie.InvT-loop
-Inv-loop turns h all₀ i₀ all i = (h ≤ i) × (i ≤ h + 16) × (all ≡ true → Quiet turns h i)
+Inv-loop turns h all₀ i₀ all i = (h ≤ i) × (i ≤ h + 8) × (all ≡ true → Quiet turns h i)
 
 abbrev μ-loop : tie.MeasureT-loop
-μ-loop turns h all₀ i₀ all i = h + 16 - i
+μ-loop turns h all₀ i₀ all i = h + 8 - i
 
 loop-holds : tie.Need-loop-holds Inv-loop μ-loop
 loop-holds c = (search needs, search needs, λ t. quiet-none _ _)

@@ -384,6 +384,8 @@ pub record Small (w : ℕ) : Type 0 where
   pub zeros : ℕ
   pub few : digits < 2 ^ 24
   pub low : zeros ≤ 147
+  pub after : zeros ≡ field w - 1
+  pub lead : 0 < field w → digits ≡ 2 ^ 23 + w % 2 ^ 23
   pub value : HasValue (ofBits binary32 w) (minus w) (digits * 2 ^ zeros) one
 
 pub small : (w : ℕ) → field w < 149 → Small w
@@ -395,6 +397,8 @@ small w h = go (field w) refl h
       zeros = 0;
       few = omega (arith, mod-lt w (pow-pos 23));
       low = omega arith;
+      after = sym (ap (λ (n : ℕ). n - 1) e);
+      lead = λ l. absurd (omega (arith, e, l));
       value = by-field (λ (x : Float). HasValue x (minus w) (w % 2 ^ 23 * 2 ^ 0) one) w 0 e (value-low (minus w) (w % 2 ^ 23));
     }
     go (suc x) e h = record {
@@ -402,6 +406,8 @@ small w h = go (field w) refl h
       zeros = x;
       few = omega (arith, mod-lt w (pow-pos 23));
       low = omega arith;
+      after = omega (arith, e);
+      lead = λ l. refl;
       value = by-field (λ (r : Float). HasValue r (minus w) ((2 ^ 23 + w % 2 ^ 23) * 2 ^ x) one) w (suc x) e (value-high (minus w) x (w % 2 ^ 23) (omega arith));
     }
 

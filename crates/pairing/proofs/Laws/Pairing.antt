@@ -17,7 +17,7 @@ use Rattle.surface.proofs.Laws.Edges.{following-below, plain-apart}
 use Rattle.pairing.specs.declared.Met.{Met}
 use Rattle.pairing.specs.declared.Met.the-variants.{Twin, Like, Nothing}
 use Rattle.pairing.specs.Turns.{stops}
-use Rattle.pairing.specs.Chains.{buckets, bucketOf, home, inBucket, top, Headed, Linked, Ended, MeetRoom, Meets, refused, TurnRoom, TurnDone, TurnsBelow, PairRoom, PairDone}
+use Rattle.pairing.specs.Chains.{bucketOf, home, inBucket, top, Headed, Linked, Ended, MeetRoom, Meets, refused, TurnRoom, TurnDone, TurnsBelow, PairRoom, PairDone}
 use Rattle.pairing.proofs.Laws.Tops.{top-le}
 use Rattle.pairing.proofs.Laws.Buckets.{Apart, bucket-small, head-home, head-rest}
 use Rattle.pairing.proofs.Laws.Chaining.{chained-more}
@@ -35,39 +35,37 @@ twin-below : (corners : List ℕ) (u v n e : ℕ) → Meets corners u v n (Twin 
 unfolding Meets
 twin-below corners u v n e m = m .0
 
-module _ (corners : List ℕ) (h f u v : ℕ) (heads links ends table : List ℕ) (room : PairRoom corners h f u v heads links ends table) (b : ℕ) (hb : b ≡ bucketOf u v) where
+module _ (size : ℕ) (corners : List ℕ) (h f u v : ℕ) (heads links ends table : List ℕ) (room : PairRoom size corners h f u v heads links ends table) (b : ℕ) (hb : b ≡ bucketOf size u v) where
   pub bucket-inside : b < length heads
-  bucket-inside = let s : bucketOf u v < buckets = bucket-small u v in let l : length heads ≡ buckets = room .going .chained .heads-long in omega arith
+  bucket-inside = let s : bucketOf size u v < size = bucket-small size u v (room .going .chained .some) in let l : length heads ≡ size = room .going .chained .heads-long in omega arith
 
-  bucket-below : b < buckets
-  bucket-below = rw hb (bucket-small u v)
+  bucket-below : b < size
+  bucket-below = rw hb (bucket-small size u v (room .going .chained .some))
 
-  home-is : b ≡ home corners h
+  home-is : b ≡ home size corners h
   unfolding home
-  home-is = hb ∙ ap₂ bucketOf (room .start) (room .end)
+  home-is = hb ∙ ap₂ (bucketOf size) (room .start) (room .end)
 
-  last-is : getD heads b 0 ≡ top (inBucket corners b) h
+  last-is : getD heads b 0 ≡ top (inBucket size corners b) h
   unfolding Headed
   last-is = room .going .chained .headed b bucket-below
 
   last-below : getD heads b 0 ≤ h
-  last-below = let l : top (inBucket corners b) h ≤ h = top-le (inBucket corners b) h in let e = last-is in omega arith
+  last-below = let l : top (inBucket size corners b) h ≤ h = top-le (inBucket size corners b) h in let e = last-is in omega arith
 
   pub pair-meets : MeetRoom corners links ends (getD heads b 0) u v
   unfolding Linked Ended
   pair-meets =
-      let few : length corners ≤ limits.corners = room .going .room .few in
-      let l : length links ≡ limits.corners = room .going .chained .links-long in
-      let m : length ends ≡ limits.corners = room .going .chained .ends-long in
       let edge : h < length corners = room .edge in
       let below : getD heads b 0 ≤ h = last-below in
       record {
+        size = size;
         inside = omega arith;
-        links-long = omega arith;
-        ends-long = omega arith;
+        links-long = room .going .chained .links-long;
+        ends-long = room .going .chained .ends-long;
         linked = λ k q. room .going .chained .linked k (omega arith);
         ended = λ k q. room .going .chained .ended k (omega arith);
-        here = λ q. head-home corners b h (getD heads b 0) last-is q ∙ hb;
+        here = λ q. head-home size corners b h (getD heads b 0) last-is q ∙ hb;
       }
 
   module _ (met : Met) (meets : Meets corners u v (getD heads b 0) met) where
@@ -75,7 +73,7 @@ module _ (corners : List ℕ) (h f u v : ℕ) (heads links ends table : List ℕ
     sees =
         subst (λ (z : ℕ). Meets corners z (endOf corners h) h met) (room .start)
         (subst (λ (z : ℕ). Meets corners u z h met) (room .end)
-        (meets-all corners u v (getD heads b 0) h last-below (head-rest corners b h (getD heads b 0) last-is u v hb) met meets))
+        (meets-all corners u v (getD heads b 0) h last-below (head-rest size corners b h (getD heads b 0) last-is u v hb) met meets))
 
     pub pair-turns : TurnRoom met h f table
     pair-turns =
@@ -97,7 +95,7 @@ module _ (corners : List ℕ) (h f u v : ℕ) (heads links ends table : List ℕ
       answer-is : done ≡ not (repeats corners h)
       answer-is = d .answer ∙ ap not (met-repeats corners table h (room .going .room) (room .going .fresh) (room .going .turns) (room .edge) met sees)
 
-      pub pair-stops : done ≡ false → (heads′ links′ ends′ table′ : List ℕ) → PairDone corners h false heads′ links′ ends′ table′
+      pub pair-stops : done ≡ false → (heads′ links′ ends′ table′ : List ℕ) → PairDone size corners h false heads′ links′ ends′ table′
       pair-stops q heads′ links′ ends′ table′ = record { answer = sym q ∙ answer-is; going = λ e. absurd (true≢false (sym e)) }
 
       module _ (q : done ≡ true) where
@@ -111,7 +109,7 @@ module _ (corners : List ℕ) (h f u v : ℕ) (heads links ends table : List ℕ
         unfolding stops
         still-fresh = least-more (stops corners) h (room .going .fresh) (rw (not-repeats, room .plain, and-false))
 
-        pub pair-goes : PairDone corners h true (set heads b (h + 1)) (set links h (getD heads b 0)) (set ends h v) left
+        pub pair-goes : PairDone size corners h true (set heads b (h + 1)) (set links h (getD heads b 0)) (set ends h v) left
         pair-goes =
             let few : length corners ≤ limits.corners = room .going .room .few in
             let long : length corners ≤ length table = room .going .room .long in
@@ -124,7 +122,7 @@ module _ (corners : List ℕ) (h f u v : ℕ) (heads links ends table : List ℕ
                   record {
                     room = record { triples = room .going .room .triples; few = few; long = omega arith };
                     fresh = still-fresh;
-                    chained = chained-more corners heads links ends h (room .going .chained) (omega arith) b (getD heads b 0) v bucket-below home-is refl (room .end);
+                    chained = chained-more size corners heads links ends h (room .going .chained) edge b (getD heads b 0) v bucket-below home-is refl (room .end);
                     turns =
                         subst (TurnsBelow corners (h + 1)) (sym (d .laid q))
                         (met-turns corners table h (room .going .room) (room .going .fresh) (room .going .turns) (room .edge) (plain-apart corners h (room .plain)) met sees f (room .follows) not-refused);

@@ -5,20 +5,19 @@ use Prim.Native.Nat.{ℕ, _+_, _%_, _<_, _≤_}
 use native.Mathlib.Nat.{not-suc-le-zero}
 use native.Mathlib.Omega.{arith}
 use lib.ListN.{length, replicate}
-use Rattle.limits.specs.Limits as limits
 use Rattle.surface.specs.declared.Found.{Found}
 use Rattle.surface.specs.declared.Found.the-variants.{At, Nothing}
 use Rattle.surface.specs.Smallest.{least}
 use Rattle.surface.specs.Edges.{twin}
 use Rattle.surface.proofs.Laws.Smallest.{At-not-Nothing, least-none}
 use Rattle.pairing.specs.Turns.{stops, Room, Turns, Paired}
-use Rattle.pairing.specs.Chains.{buckets, TurnsBelow, Going, TriangleRoom, TriangleDone}
+use Rattle.pairing.specs.Chains.{TurnsBelow, Going, TriangleRoom, TriangleDone}
 use Rattle.pairing.proofs.Laws.Searches.{least-keeps}
 use Rattle.pairing.proofs.Laws.Chaining.{chained-begins}
 
 -- the triangle whose first half-edge is i is next, if there is one
-pub record Round (corners : List ℕ) (i : ℕ) (heads links ends table : List ℕ) : Type 0 where
-  pub going : Going corners i heads links ends table
+pub record Round (size : ℕ) (corners : List ℕ) (i : ℕ) (heads links ends table : List ℕ) : Type 0 where
+  pub going : Going size corners i heads links ends table
   pub first : i % 3 ≡ 0
   pub within : i ≤ length corners
 
@@ -26,20 +25,20 @@ turns-none : (corners table : List ℕ) → TurnsBelow corners 0 table
 unfolding TurnsBelow
 turns-none corners table k l = absurd (not-suc-le-zero l)
 
-pub round-begins : (corners table : List ℕ) → Room corners table → Round corners 0 (replicate buckets 0) (replicate limits.corners 0) (replicate limits.corners 0) table
-round-begins corners table room =
+pub round-begins : (size many : ℕ) (corners table : List ℕ) → 0 < size → length corners ≤ many → Room corners table → Round size corners 0 (replicate size 0) (replicate many 0) (replicate many 0) table
+round-begins size many corners table some enough room =
     record {
-      going = record { room = room; fresh = least-none (stops corners); chained = chained-begins corners; turns = turns-none corners table };
+      going = record { room = room; fresh = least-none (stops corners); chained = chained-begins size many corners some enough; turns = turns-none corners table };
       first = refl;
       within = omega arith;
     }
 
-turns-all : (corners table : List ℕ) → TurnsBelow corners (length corners) table → Turns corners table
+pub turns-all : (corners table : List ℕ) → TurnsBelow corners (length corners) table → Turns corners table
 unfolding TurnsBelow Turns twin
 turns-all corners table t = t
 
-module _ (corners : List ℕ) (i : ℕ) (heads links ends table : List ℕ) (round : Round corners i heads links ends table) where
-  pub round-room : i < length corners → TriangleRoom corners i heads links ends table
+module _ (size : ℕ) (corners : List ℕ) (i : ℕ) (heads links ends table : List ℕ) (round : Round size corners i heads links ends table) where
+  pub round-room : i < length corners → TriangleRoom size corners i heads links ends table
   round-room l = record { going = round .going; edge = l; first = round .first }
 
   pub round-ends : length corners ≤ i → Paired corners Nothing table
@@ -58,7 +57,7 @@ module _ (corners : List ℕ) (i : ℕ) (heads links ends table : List ℕ) (rou
         let b : length corners % 3 ≡ 0 = round .going .room .triples in
         omega arith
 
-    module _ (stop : Found) (heads′ links′ ends′ table′ : List ℕ) (d : TriangleDone corners i stop heads′ links′ ends′ table′) where
+    module _ (stop : Found) (heads′ links′ ends′ table′ : List ℕ) (d : TriangleDone size corners i stop heads′ links′ ends′ table′) where
       pub round-stops : (h : ℕ) → stop ≡ At h → (left : List ℕ) → Paired corners (At h) left
       round-stops h e left =
           record {
@@ -66,7 +65,7 @@ module _ (corners : List ℕ) (i : ℕ) (heads links ends table : List ℕ) (rou
             turns = λ q. absurd (At-not-Nothing q);
           }
 
-      pub round-more : stop ≡ Nothing → Round corners (i + 3) heads′ links′ ends′ table′
+      pub round-more : stop ≡ Nothing → Round size corners (i + 3) heads′ links′ ends′ table′
       round-more e =
           let a : i % 3 ≡ 0 = round .first in
           record { going = d .going e; first = omega arith; within = round-inside }

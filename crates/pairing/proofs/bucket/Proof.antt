@@ -15,9 +15,12 @@ add-result-2 c = search needs
 mul-result : tie.Need-mul-result
 mul-result c = omega (arith, product-fits (c .args .u) (c .args .v) 65536 (omega arith) (omega arith))
 
+rem-result : tie.Need-rem-result
+rem-result c = search needs
+
 returns : tie.Need-returns
 unfolding bucketOf
 returns c = search needs
 
 pub bucket-spec : {M : Type 1} → statement M
-bucket-spec = tie.close (tie.spec add-result add-result-2 mul-result returns)
+bucket-spec = tie.close (tie.spec add-result add-result-2 mul-result rem-result returns)

@@ -9,7 +9,7 @@ use Rattle.pairing.proofs.meet.Statement.{statement}
 use Rattle.pairing.proofs.meet.Tie as tie
 
 abbrev Inv-loop : tie.InvT-loop
-Inv-loop corners links ends last u v g₀ g = MeetRoom corners links ends last u v × Walking corners last u v g
+Inv-loop corners links ends last u v g₀ g = (room : MeetRoom corners links ends last u v) × Walking (room .size) corners last u v g
 
 abbrev μ-loop : tie.MeasureT-loop
 μ-loop corners links ends last u v g₀ g = g

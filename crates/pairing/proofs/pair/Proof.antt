@@ -7,19 +7,19 @@ use Rattle.pairing.proofs.pair.Statement.{statement}
 use Rattle.pairing.proofs.pair.Tie as tie
 
 bucket-requires : tie.Need-bucket-requires
-bucket-requires c κs = search needs
+bucket-requires c κs = c .before .before .before .before .before .pre .going .chained .some
 
 mul-last : tie.Need-mul-last
-mul-last c = omega (arith, bucket-inside _ _ _ _ _ _ _ _ _ (c .before .before .before .before .before .before .pre) _ (c .bucket .ensures))
+mul-last c = omega (arith, bucket-inside _ _ _ _ _ _ _ _ _ _ (c .before .before .before .before .before .before .pre) _ (c .bucket .ensures))
 
 slice-read-last : tie.Need-slice-read-last
-slice-read-last c = bucket-inside _ _ _ _ _ _ _ _ _ (c .before .before .before .before .before .before .before .pre) _ (c .before .bucket .ensures)
+slice-read-last c = bucket-inside _ _ _ _ _ _ _ _ _ _ (c .before .before .before .before .before .before .before .pre) _ (c .before .bucket .ensures)
 
 meet-requires : tie.Need-meet-requires
-meet-requires c κs = pair-meets _ _ _ _ _ _ _ _ _ (c .before .before .before .before .before .before .before .before .before .pre) _ (c .before .before .before .bucket .ensures)
+meet-requires c κs = pair-meets _ _ _ _ _ _ _ _ _ _ (c .before .before .before .before .before .before .before .before .before .pre) _ (c .before .before .before .bucket .ensures)
 
 turn-requires : tie.Need-turn-requires
-turn-requires c κs = pair-turns _ _ _ _ _ _ _ _ _ (c .before .before .before .before .before .before .before .before .before .before .before .pre) _ (c .before .before .before .before .before .bucket .ensures) _ (c .before .meet .ensures)
+turn-requires c κs = pair-turns _ _ _ _ _ _ _ _ _ _ (c .before .before .before .before .before .before .before .before .before .before .before .pre) _ (c .before .before .before .before .before .bucket .ensures) _ (c .before .meet .ensures)
 
 same-length : tie.Need-same-length
 same-length c = search needs
@@ -31,7 +31,7 @@ same-length-3 : tie.Need-same-length-3
 same-length-3 c = search needs
 
 returns : tie.Need-returns
-returns c = pair-stops _ _ _ _ _ _ _ _ _ (c .before .before .before .before .before .before .before .before .before .before .before .before .before .before .before .pre) _ (c .before .before .before .before .before .before .before .before .before .bucket .ensures) _ (c .before .before .before .before .before .meet .ensures) _ _ (c .before .before .before .turn .ensures) (not-true _ (c .if1 .taken)) _ _ _ _
+returns c = pair-stops _ _ _ _ _ _ _ _ _ _ (c .before .before .before .before .before .before .before .before .before .before .before .before .before .before .before .pre) _ (c .before .before .before .before .before .before .before .before .before .bucket .ensures) _ (c .before .before .before .before .before .meet .ensures) _ _ (c .before .before .before .turn .ensures) (not-true _ (c .if1 .taken)) _ _ _ _
 
 mul-ends : tie.Need-mul-ends
 mul-ends c = search needs
@@ -52,10 +52,10 @@ cast-heads : tie.Need-cast-heads
 cast-heads c = search needs
 
 mul-heads : tie.Need-mul-heads
-mul-heads c = omega (arith, bucket-inside _ _ _ _ _ _ _ _ _ (c .before .before .before .before .before .before .before .before .before .before .before .before .before .before .before .pre) _ (c .before .before .before .before .before .before .before .before .before .bucket .ensures))
+mul-heads c = omega (arith, bucket-inside _ _ _ _ _ _ _ _ _ _ (c .before .before .before .before .before .before .before .before .before .before .before .before .before .before .before .pre) _ (c .before .before .before .before .before .before .before .before .before .bucket .ensures))
 
 slice-write-heads : tie.Need-slice-write-heads
-slice-write-heads c = bucket-inside _ _ _ _ _ _ _ _ _ (c .before .before .before .before .before .before .before .before .before .before .before .before .before .before .before .pre) _ (c .before .before .before .before .before .before .before .before .before .bucket .ensures)
+slice-write-heads c = bucket-inside _ _ _ _ _ _ _ _ _ _ (c .before .before .before .before .before .before .before .before .before .before .before .before .before .before .before .pre) _ (c .before .before .before .before .before .before .before .before .before .bucket .ensures)
 
 same-length-4 : tie.Need-same-length-4
 same-length-4 c = search needs
@@ -70,7 +70,7 @@ same-length-7 : tie.Need-same-length-7
 same-length-7 c = search needs
 
 returns-2 : tie.Need-returns-2
-returns-2 c = pair-goes _ _ _ _ _ _ _ _ _ (c .before .before .before .before .before .before .before .before .before .before .before .before .before .before .before .pre) _ (c .before .before .before .before .before .before .before .before .before .bucket .ensures) _ (c .before .before .before .before .before .meet .ensures) _ _ (c .before .before .before .turn .ensures) (not-false _ (c .if1 .left))
+returns-2 c = pair-goes _ _ _ _ _ _ _ _ _ _ (c .before .before .before .before .before .before .before .before .before .before .before .before .before .before .before .pre) _ (c .before .before .before .before .before .before .before .before .before .bucket .ensures) _ (c .before .before .before .before .before .meet .ensures) _ _ (c .before .before .before .turn .ensures) (not-false _ (c .if1 .left))
 
 pub pair-spec : {M : Type 1} → statement M
 pair-spec =

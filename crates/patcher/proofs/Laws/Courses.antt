@@ -1,67 +1,26 @@
 -- One loop more: its ring stands behind those that were read, and what it leaves behind what they left.
 use mathlib.Core.Path.{_≡_, refl, sym, ap, ap₂, _∙_, subst}
-use mathlib.Core.List.{List, [], _∷_, _++_, map, flatten}
-use Prim.Native.Nat.{ℕ, suc, _+_, _-_, _*_, _≤_, _<_}
-use native.Mathlib.Nat.{le-trans, add-zero}
+use mathlib.Core.List.{List, [], _∷_, _++_, flatten}
+use Prim.Native.Nat.{ℕ, _+_, _-_, _*_, _≤_, _<_}
+use native.Mathlib.Nat.{le-trans}
 use native.Mathlib.Numerals.{add-one}
 use native.Mathlib.Omega.{arith}
 use lib.IntN.{ℤ}
-use lib.ListN.{length, getD, take, drop, set, length-append, length-map, length-drop, take-append-drop, List·getD-map}
-use lib.Seq.{take-suc, take-all, drop-cons, drop-append-add, take-append-seam, length-take-le}
+use lib.ListN.{length, getD, take, drop, set, length-append, length-drop}
+use lib.Seq.{take-suc, take-all, length-take-le}
 use Rattle.limits.specs.Limits as limits
 use Rattle.surface.specs.Buffers.{over, laid}
 use Rattle.surface.proofs.Laws.Over.{over-none, over-snoc}
 use Rattle.surface.proofs.Laws.Laid.{laid-over}
-use Rattle.loops.proofs.Laws.Kept.{flatten-append, flatten-snoc}
 use Rattle.run.specs.Fates.{Fate, stateOf, weighs, lays, Meets}
 use Rattle.run.specs.Run.{Run, statesOf, weightsOf, laidBy}
 use Rattle.run.proofs.Laws.Grows.{run-length, run-more, laid-more, weights-more, states-more}
 use Rattle.run.proofs.Laws.Lengths.{states-length, weights-length, laid-length}
-use Rattle.patcher.specs.Turns.{RingOf}
-use Rattle.patcher.specs.Courses.{Loops, Lent, Ran, RanAll}
-
--- ---- the rings one after the other
-
--- behind the first l rings stands the next one
-ring-next : (rs : List (List ℕ)) (l : ℕ) → l < length rs → flatten (take (l + 1) rs) ≡ flatten (take l rs) ++ getD rs l []
-ring-next rs l h = ap (λ (n : ℕ). flatten (take n rs)) (add-one l) ∙ ap flatten (take-suc rs l [] h) ∙ flatten-snoc (take l rs) (getD rs l [])
+use Rattle.rounds.specs.Rings.{Loops}
+use Rattle.rounds.proofs.Laws.Reading.{ring-next, read-few}
+use Rattle.patcher.specs.Courses.{Lent, Ran, RanAll}
 
 module _ (grid : List ℤ) (input : List ℕ) (rs : List (List ℕ)) (rings lengths : List ℕ) (s : Loops grid input rs rings lengths) where
-  pub as-many : length lengths ≡ length rs
-  as-many = ap length (s .lengths-are) ∙ length-map rs length
-
-  pub length-at : (l : ℕ) → l < length rs → getD lengths l 0 ≡ length (getD rs l [])
-  length-at l h = ap (λ (x : List ℕ). getD x l 0) (s .lengths-are) ∙ List·getD-map length rs l []
-
-  -- the rings from the first l on
-  rest-of : (l : ℕ) → l ≤ length rs → rings ≡ flatten (take l rs) ++ flatten (drop l rs)
-  rest-of l h = s .rings-are ∙ ap flatten (sym (take-append-drop l rs)) ∙ flatten-append (take l rs) (drop l rs)
-
-  -- the ring of loop l stands behind those before it
-  pub ring-at : (l r : ℕ) → l < length rs → r ≡ length (flatten (take l rs)) → take (r + getD lengths l 0 - r) (drop r rings) ≡ getD rs l []
-  unfolding flatten
-  ring-at l r h e =
-      let a : drop r rings ≡ flatten (drop l rs) =
-      ap (λ (x : List ℕ). drop r x) (rest-of l (omega arith)) ∙ ap (λ (n : ℕ). drop n (flatten (take l rs) ++ flatten (drop l rs))) (e ∙ sym (add-zero (length (flatten (take l rs))))) ∙ drop-append-add (flatten (take l rs)) (flatten (drop l rs)) 0 in
-      let b : flatten (drop l rs) ≡ getD rs l [] ++ flatten (drop (suc l) rs) = ap flatten (drop-cons rs l [] h) ∙ flatten-cons (getD rs l []) (drop (suc l) rs) in
-      let c : r + getD lengths l 0 - r ≡ length (getD rs l []) = let d : getD lengths l 0 ≡ length (getD rs l []) = length-at l h in omega arith in
-      ap₂ (λ (n : ℕ) (x : List ℕ). take n x) c (a ∙ b) ∙ take-append-seam (getD rs l []) (flatten (drop (suc l) rs))
-    where
-      flatten-cons : (x : List ℕ) (xs : List (List ℕ)) → flatten (x ∷ xs) ≡ x ++ flatten xs
-      flatten-cons x xs = refl
-
-  -- it ends within
-  pub end-in : (l r : ℕ) → l < length rs → r ≡ length (flatten (take l rs)) → r + getD lengths l 0 ≤ length rings
-  end-in l r h e =
-      let a : length rings ≡ length (flatten (take (l + 1) rs)) + length (flatten (drop (l + 1) rs)) =
-      ap length (rest-of (l + 1) (omega arith)) ∙ length-append (flatten (take (l + 1) rs)) (flatten (drop (l + 1) rs)) in
-      let b : length (flatten (take (l + 1) rs)) ≡ length (flatten (take l rs)) + length (getD rs l []) =
-      ap length (ring-next rs l h) ∙ length-append (flatten (take l rs)) (getD rs l []) in
-      let c : getD lengths l 0 ≡ length (getD rs l []) = length-at l h in
-      omega arith
-
-  -- ---- what they leave
-
   module _ (states₀ weights₀ patches₀ : List ℕ) (lent : Lent rs states₀ weights₀ patches₀) where
     pub ran-begins : Ran grid input rs states₀ weights₀ patches₀ 0 0 0 states₀ weights₀ patches₀
     unfolding flatten
@@ -109,12 +68,7 @@ module _ (grid : List ℤ) (input : List ℕ) (rs : List (List ℕ)) (rings leng
 
       -- the next loop's patch has room
       all-read : length (flatten (take l rs)) + length (getD rs l []) ≤ length (flatten rs)
-      all-read =
-          let a : length (flatten rs) ≡ length (flatten (take (l + 1) rs)) + length (flatten (drop (l + 1) rs)) =
-          ap length (sym (s .rings-are) ∙ rest-of (l + 1) (omega arith)) ∙ length-append (flatten (take (l + 1) rs)) (flatten (drop (l + 1) rs)) in
-          let b : length (flatten (take (l + 1) rs)) ≡ length (flatten (take l rs)) + length (getD rs l []) =
-          ap length (ring-next rs l h) ∙ length-append (flatten (take l rs)) (getD rs l []) in
-          omega arith
+      all-read = read-few grid input rs rings lengths s l h
 
       laid-few : p ≤ 3 * length (flatten (take l rs))
       laid-few = let a : length (laidBy (take l rs) (g .fates)) ≤ 3 * length (flatten (take l rs)) = laid-length grid input [] (take l rs) (g .fates) (g .run) in let b : p ≡ length (laidBy (take l rs) (g .fates)) = g .count in omega arith

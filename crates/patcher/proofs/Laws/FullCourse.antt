@@ -1,10 +1,10 @@
 -- The run over all loops, with the bench from one turn to the next.
 use mathlib.Core.Path.{_≡_, refl, sym, ap, _∙_, subst}
-use mathlib.Core.List.{List, [], _∷_, _++_}
-use Prim.Native.Nat.{ℕ, zero, suc, _+_, _-_, _*_, _^_, _≤_, _<_}
+use mathlib.Core.List.{List, [], _++_}
+use Prim.Native.Nat.{ℕ, _+_, _-_, _*_, _≤_, _<_}
 use native.Mathlib.Omega.{arith}
 use lib.IntN.{ℤ}
-use lib.ListN.{length, getD, take, drop, set, replicate, length-set, length-replicate}
+use lib.ListN.{length, getD, take, drop, set, length-set, length-replicate}
 use lib.Ieee.{Float}
 use Rattle.limits.specs.Limits as limits
 use Rattle.bars.specs.Chains.{Tells, InputRoom}
@@ -12,22 +12,17 @@ use Rattle.column.specs.Columns.{Table}
 use Rattle.run.specs.Fates.{lays}
 use Rattle.run.specs.Run.{laidBy}
 use Rattle.patcher.specs.declared.turn.Became.{Became}
-use Rattle.patcher.specs.Turns.{RingOf, Bench, Room, TurnRoom, Took, Takes}
-use Rattle.patcher.specs.Courses.{Loops, Lent, Input, RunRoom, Ran, RanAll}
-use Rattle.patcher.proofs.Laws.Courses.{as-many, length-at, ring-at, end-in, ran-begins, states-in, weights-in, patches-in, ran-more, laid-next, ran-all}
+use Rattle.patcher.specs.Turns.{TurnRoom, Took, Takes}
+use Rattle.rounds.specs.Rings.{RingOf, Loops}
+use Rattle.rounds.specs.Bench.{Bench}
+use Rattle.rounds.proofs.Laws.Reading.{as-many, length-at, ring-at, end-in}
+use Rattle.rounds.proofs.Laws.Bench.{noughts, zeros}
+use Rattle.patcher.specs.Courses.{Lent, RunRoom, Ran, RanAll}
+use Rattle.patcher.proofs.Laws.Courses.{ran-begins, states-in, weights-in, patches-in, ran-more, laid-next, ran-all}
 
 -- how many edges the chains hold at most
 abbrev pub edgesMost : ℕ
 edgesMost = 2 * limits.corners
-
--- an array of zeros
-abbrev pub noughts : ℕ → List ℕ
-noughts n = replicate n 0
-
-pub zeros : (n v : ℕ) → getD (noughts n) v 0 ≡ 0
-zeros zero v = refl
-zeros (suc n) zero = refl
-zeros (suc n) (suc v) = zeros n v
 
 -- the first l loops ran, and the bench is ready
 pub record Stood (grid : List ℤ) (input : List ℕ) (rs : List (List ℕ)) (states₀ weights₀ patches₀ : List ℕ) (l r p e : ℕ) (states weights patches heads links ends marks rows : List ℕ) (table : List Float) : Type 0 where

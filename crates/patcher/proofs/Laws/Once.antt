@@ -8,8 +8,9 @@ use Rattle.terms.specs.declared.Answer.{Answer}
 use Rattle.surface.specs.Refusals.{refusal}
 use Rattle.survey.specs.Grid.{gridOf}
 use Rattle.run.specs.Fates.{Fate}
+use Rattle.run.specs.Run.{ringList}
 use Rattle.run.proofs.Laws.Once.{run-once}
-use Rattle.patcher.specs.Outcome.{Buffers, Outcome, ringList, done, lent, needs, PatchesIf, Patches}
+use Rattle.patcher.specs.Outcome.{Buffers, Outcome, done, lent, needs, PatchesIf, Patches}
 
 pub patches-once : (words corners : List ℕ) (b : Buffers) (o p : Outcome) → Patches words corners b o → Patches words corners b p → o ≡ p
 patches-once words corners b o p = go (refusing a) a

@@ -1,12 +1,12 @@
 -- From the checks, the finder and the run to what the patcher answers and leaves.
-use mathlib.Core.Path.{_≡_, refl, sym, ap, _∙_, subst}
-use mathlib.Core.Bool.{Bool, true, false}
+use mathlib.Core.Path.{_≡_, sym, ap, _∙_, subst}
+use mathlib.Core.Bool.{true, false}
 use mathlib.Core.List.{List, [], _++_, map, flatten}
-use Prim.Native.Nat.{ℕ, _+_, _*_, _/_, _%_, _≤_, _<_}
+use Prim.Native.Nat.{ℕ, _+_, _*_, _/_, _≤_}
 use native.Mathlib.Nat.{le-trans}
 use native.Mathlib.Omega.{arith}
 use lib.IntN.{ℤ}
-use lib.ListN.{length, getD, take, drop, length-append, length-map}
+use lib.ListN.{length, take, drop, length-append, length-map}
 use lib.Seq.{take-append-seam, length-take-le}
 use Rattle.limits.specs.Limits as limits
 use Rattle.terms.specs.Answers.{refusing}
@@ -18,14 +18,18 @@ use Rattle.surface.proofs.Laws.Thens.{then-refused, then-next, count-plain, con
 use Rattle.loops.specs.Loops.{loops, ring}
 use Rattle.loops.proofs.Theorems.{vertices-in-all, vertices-few, loops-third}
 use Rattle.finder.specs.Listing.{Ready, Lists, ringsOf}
+use Rattle.finder.specs.Listing as listing
 use Rattle.finder.specs.declared.Listed.{Listed}
 use Rattle.survey.specs.Grid.{gridOf, OnGrid}
-use Rattle.survey.specs.Checks.{Counted, Passed, Checked}
-use Rattle.run.specs.Run.{Run, statesOf, weightsOf, laidBy}
-use Rattle.patcher.specs.Outcome.{Buffers, Outcome, outcome, buffers, refused, ringList, done, needs, lent, PatchesIf, Patches}
+use Rattle.survey.specs.Checks.{Fitted, Passed, Checked}
+use Rattle.run.specs.Run.{Run, weightsOf}
+use Rattle.patcher.specs.Outcome.{Buffers, Outcome, outcome, buffers, refused, done, needs, lent, Patches}
 use Rattle.patcher.specs.declared.Patched.{Patched}
-use Rattle.patcher.specs.Courses.{Loops, Lent, Input, RunRoom, RanAll, Runs}
-use Rattle.patcher.proofs.Laws.Rings.{loops-of}
+use Rattle.run.specs.Run.{ringList}
+use Rattle.rounds.specs.Rings.{Loops}
+use Rattle.rounds.proofs.Laws.Rings.{loops-of}
+use Rattle.patcher.specs.Scratch.{Scratch}
+use Rattle.patcher.specs.Courses.{Lent, RunRoom, RanAll, Runs}
 
 -- what stands at the start of a buffer that it was laid over
 start-of : {A : Type 0} (front buffer : List A) (n : ℕ) → n ≡ length front → take n (over front buffer) ≡ front
@@ -46,7 +50,7 @@ module _ (words corners : List ℕ) (b : Buffers) where
   counts-refuse r a e c t = decided a (outcome r b) (then-refused (countRefusal (length words) (length corners)) _ (ap refusing (sym c) ∙ t) ∙ sym c) t (refused-is r a e)
 
   module _ (a : Answer) (c : a ≡ countRefusal (length words) (length corners)) (f : refusing a ≡ false) where
-    counts-done : countRefusal (length words) (length corners) ≡ Done
+    pub counts-done : countRefusal (length words) (length corners) ≡ Done
     counts-done = done-of (countRefusal (length words) (length corners)) (count-plain (length words) (length corners)) (ap refusing (sym c) ∙ f)
 
     fits : Fitting (length words) (length corners)
@@ -56,8 +60,13 @@ module _ (words corners : List ℕ) (b : Buffers) where
     pub corners-few : length corners ≤ limits.corners
     corners-few = fits .few-corners
 
-    pub counted : (table : List ℕ) → limits.corners ≤ length table → Counted words corners table
+    pub counted : (table : List ℕ) → length corners ≤ length table → Fitted words corners table
     counted table l = record { counts = counts-done; long = l }
+
+    -- room for any surface is room for this one
+    pub scratch-most : (turns path places : List ℕ) → limits.corners ≤ length turns → limits.corners ≤ length path → limits.points ≤ length places → Scratch words corners turns path places
+    scratch-most turns path places t p q =
+        record { counts = counts-done; turns-long = le-trans (fits .few-corners) t; path-long = le-trans (fits .few-corners) p; places-long = omega (arith, fits .few-words) }
 
     to-content : refusal words corners (lent b) (needs words corners) ≡ contentRefusal words corners (lent b) (needs words corners)
     unfolding refusal
@@ -76,7 +85,7 @@ module _ (words corners : List ℕ) (b : Buffers) where
       pub grid-ready : OnGrid words × (length words ≤ length (b .grid))
       grid-ready = (passes .on-grid, passes .long 0 (omega arith))
 
-      pub ready : (firsts : List ℕ) → limits.corners ≤ length table → limits.triangles ≤ length firsts → Ready corners table (b .rings) (b .lengths) firsts
+      pub ready : (firsts : List ℕ) → length corners ≤ length table → limits.triangles ≤ length firsts → Ready corners table (b .rings) (b .lengths) firsts
       ready firsts l m =
           let w = passes .woven in
           record {
@@ -84,14 +93,17 @@ module _ (words corners : List ℕ) (b : Buffers) where
             few = fits .few-corners;
             named = λ i h. omega (arith, w .named i h, fits .few-words);
             table = w .turns;
-            table-long = le-trans (fits .few-corners) l;
+            table-long = l;
             rings-long = passes .long 1 (omega arith);
             lengths-long = passes .long 2 (omega arith);
             firsts-long = omega (arith, fits .few-corners);
           }
 
+      pub lent-long : (path places : List ℕ) → length corners ≤ length path → length words / 3 ≤ length places → listing.Lent corners path places
+      lent-long path places p q = record { path-long = p; named = λ i h. omega (arith, passes .woven .named i h) }
+
       the-loops : Loops (gridOf words) corners (ringList corners) (ringsOf corners (loops corners)) (map length (loops corners))
-      the-loops = loops-of words corners table (passes .woven) (passes .on-grid) (fits .word-threes) (fits .few-words) (fits .few-corners)
+      the-loops = loops-of words corners table (passes .woven) (passes .on-grid) (fits .few-words) (fits .few-corners)
 
       -- there is room for what the run leaves
       the-lent : Lent (ringList corners) (b .states) (b .weights) (b .patches)

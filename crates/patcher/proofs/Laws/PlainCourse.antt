@@ -8,13 +8,14 @@ use native.Mathlib.Omega.{arith}
 use lib.IntN.{ℤ}
 use lib.ListN.{length, getD, take, drop, set, length-set}
 use Rattle.limits.specs.Limits as limits
-use Rattle.surface.specs.Buffers.{laid}
 use Rattle.surface.proofs.Laws.Laid.{laid-none}
-use Rattle.run.specs.Fates.{Fate, long, lays}
+use Rattle.run.specs.Fates.{long}
 use Rattle.patcher.specs.declared.turn.Became.{Became}
-use Rattle.patcher.specs.Turns.{RingOf, ThreeRoom, ThreeTook}
-use Rattle.patcher.specs.Courses.{Loops, Lent, RunRoom, Ran, RanAll, Plain}
-use Rattle.patcher.proofs.Laws.Courses.{as-many, length-at, ring-at, end-in, ran-begins, states-in, weights-in, patches-in, ran-more, ran-all}
+use Rattle.patcher.specs.Turns.{ThreeRoom, ThreeTook}
+use Rattle.rounds.specs.Rings.{RingOf, Loops, Plain}
+use Rattle.rounds.proofs.Laws.Reading.{as-many, length-at, ring-at, end-in}
+use Rattle.patcher.specs.Courses.{Lent, RunRoom, Ran, RanAll}
+use Rattle.patcher.proofs.Laws.Courses.{ran-begins, states-in, weights-in, patches-in, ran-more, ran-all}
 
 pub record Going (grid : List ℤ) (input rings lengths states₀ weights₀ patches₀ : List ℕ) (l r p : ℕ) (states weights patches : List ℕ) : Type 0 where
   pub states-kept : length states ≡ length states₀

@@ -1,7 +1,7 @@
 -- One loop's turn: whichever way it goes, the loop meets its fate and the bench is left for the next one.
 use mathlib.Core.Path.{_≡_, refl, sym, ap, _∙_, subst}
 use mathlib.Core.Bool.{true}
-use mathlib.Core.List.{List, [], _++_, append-assoc, append-nil}
+use mathlib.Core.List.{List, _++_, append-assoc}
 use Prim.Native.Nat.{ℕ, _+_, _-_, _*_, _/_, _%_, _^_, _<_, _≤_}
 use native.Mathlib.Omega.{arith}
 use lib.IntN.{ℤ}
@@ -26,7 +26,8 @@ use Rattle.run.specs.Fates.{Fate, patched, long, uncovered, lays}
 use Rattle.run.proofs.Laws.Three.{sides-free, three-meets}
 use Rattle.run.proofs.Laws.Sides.{three-tells}
 use Rattle.patcher.specs.declared.turn.Became.{Became}
-use Rattle.patcher.specs.Turns.{Bench, TurnRoom, Takes, ThreeRoom, ThreeTook}
+use Rattle.rounds.proofs.Laws.Bench.{bench-kept}
+use Rattle.patcher.specs.Turns.{TurnRoom, Takes, ThreeRoom, ThreeTook}
 
 -- ---- what is laid stands in its place
 
@@ -38,21 +39,6 @@ slice-laid p q xs w l e =
     ap (λ (r : List ℕ). drop p (take q r)) (sym (append-assoc (take p w) xs (drop (p + length xs) w)))
     ∙ ap (drop p) (take-at (take p w ++ xs) (drop (p + length xs) w) q m)
     ∙ drop-at (take p w) xs p n
-
--- ---- a loop that lays nothing leaves the bench to the next one
-
-bench-kept : (input before : List ℕ) (e f : ℕ) (heads links ends marks marks′ : List ℕ) (base base′ : ℕ) (rows rows′ : List ℕ) (table table′ : List Float)
-    → Bench input before e heads links ends marks base rows table → f ≡ e → length marks′ ≡ limits.points → ((v : ℕ) → getD marks′ v 0 < base′)
-    → length rows′ ≡ limits.longest → length table′ ≡ length table → Bench input (before ++ []) f heads links ends marks′ base′ rows′ table′
-bench-kept input before e f heads links ends marks marks′ base base′ rows rows′ table table′ b x y z u t =
-    record {
-      tells = subst (λ (n : ℕ). Tells input (before ++ []) n heads links ends) (sym x) (subst (λ (l : List ℕ). Tells input l e heads links ends) (sym (append-nil before)) (b .tells));
-      whole = ap (λ (l : List ℕ). length l % 3) (append-nil before) ∙ b .whole;
-      marks-long = y;
-      below = z;
-      rows-long = u;
-      table-long = t ∙ b .table-long;
-    }
 
 -- ---- the loop of three
 

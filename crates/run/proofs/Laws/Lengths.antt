@@ -1,15 +1,12 @@
 -- How much a run lays: whole triangles, fewer than its loops have edges, on the loops' own vertices.
 use mathlib.Core.Path.{_≡_, refl, ap}
 use mathlib.Core.List.{List, [], _∷_, _++_, flatten}
-use Prim.Native.Nat.{ℕ, suc, _+_, _-_, _*_, _%_, _<_, _≤_, zero-le}
-use native.Mathlib.Nat.{not-suc-le-zero, le-refl}
+use Prim.Native.Nat.{ℕ, suc, _+_, _-_, _*_, _%_, _≤_, zero-le}
 use native.Mathlib.Omega.{arith}
 use lib.IntN.{ℤ}
-use lib.ListN.{length, getD, length-append}
-use Rattle.covers.specs.Covers.{Covers, patchOf}
-use Rattle.covers.proofs.Laws.Counted.{covers-forward}
+use lib.ListN.{length, length-append}
+use Rattle.covers.specs.Covers.{patchOf}
 use Rattle.covers.proofs.Laws.Corners.{patch-length}
-use Rattle.bars.proofs.Laws.Patches.{corners-each}
 use Rattle.run.specs.Fates.{Fate, patched, long, uncovered, lays, Meets}
 use Rattle.run.specs.Run.{Run, weightsOf, laidBy, statesOf}
 
@@ -25,15 +22,6 @@ module _ (grid : List ℤ) (input laid ring : List ℕ) where
   lays-whole (patched c) m = let e : length (patchOf ring c) ≡ 3 * (length ring - 2) = patch-length ring c (m .1 .among .covers) in omega arith
   lays-whole long m = refl
   lays-whole uncovered m = refl
-
-  -- what all vertices of the ring have, all corners that it lays have
-  pub corners-of-ring : (P : ℕ → Type 0) → ((j : ℕ) → j < length ring → P (getD ring j 0)) → (f : Fate) → Meets grid input laid ring f → (i : ℕ) → i < length (lays ring f) → P (getD (lays ring f) i 0)
-  corners-of-ring P w (patched c) m =
-      let h : Covers 0 (length ring - 1) c = m .1 .among .covers in
-      let l : 0 < length ring - 1 = covers-forward 0 (length ring - 1) c h in
-      corners-each P (λ (j : ℕ). getD ring j 0) (length ring - 1) (λ j s. w j (omega arith)) 0 (length ring - 1) c h (le-refl (length ring - 1))
-  corners-of-ring P w long m = λ i s. absurd (not-suc-le-zero s)
-  corners-of-ring P w uncovered m = λ i s. absurd (not-suc-le-zero s)
 
 -- ---- all loops
 

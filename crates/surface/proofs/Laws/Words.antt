@@ -12,7 +12,7 @@ use lib.Ieee.Scale.{finite}
 use borrow.Author.Tests.{lt-ltb, le-ltb}
 use Rattle.limits.specs.Limits.{greatest}
 use Rattle.grid.specs.Units.{units}
-use Rattle.grid.specs.Places.{whole, Lands, Places}
+use Rattle.grid.specs.Places.{whole, Lands, Places, isOff}
 use Rattle.grid.specs.declared.Coordinate.{Coordinate}
 use Rattle.grid.specs.declared.Coordinate.the-variants.{Exact, Shifted, NotFinite, TooFar}
 use Rattle.surface.specs.Refusals.{notFinite, tooFar, offGrid}
@@ -56,9 +56,13 @@ module _ (words : List ℕ) (i : ℕ) where
   too-far-is NotFinite p = far (finite x) (natAbs (whole 1 (units x))) false (ltb greatest (natAbs (whole 1 (units x)))) (is-false (finite x) p) refl
   too-far-is (TooFar y) p = far (finite x) (natAbs (whole 1 (units x))) true true (is-true (finite x) (p .0)) (lt-ltb greatest (natAbs (whole 1 (units x))) (p .1))
 
-  pub off-grid-is : (a : Coordinate) → Places 1 x a → offGrid words i ≡ (noNumber a || beyond a)
-  unfolding offGrid
-  off-grid-is a p = rw (not-finite-is a p, too-far-is a p)
+  pub off-grid-is : offGrid words i ≡ isOff x
+  unfolding offGrid notFinite tooFar isOff
+  off-grid-is = go (finite x) (ltb greatest (natAbs (whole 1 (units x))))
+    where
+      go : (f t : Bool) → (not f || (f && t)) ≡ (not f || t)
+      go true t = refl
+      go false t = refl
 
   -- as each of the three tests finds it: the answer is a, and b is what a says
   pub read : (P : Bool) (says : Coordinate → Bool) → ((a : Coordinate) → Places 1 x a → P ≡ says a) → {found : Coordinate} (a : Coordinate) → found ≡ a → Places 1 x found → says a ≡ P

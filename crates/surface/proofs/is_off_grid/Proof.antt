@@ -1,57 +1,21 @@
--- `is_off_grid` goes by the answer for the word's coordinate.
-use mathlib.Core.Path.{sym, subst}
-use Rattle.grid.specs.Places.{Places}
-use Rattle.grid.specs.declared.Coordinate.the-variants.{Exact, Shifted, NotFinite, TooFar}
-use Rattle.surface.proofs.Laws.Words.{off-grid-is}
+-- `is_off_grid` asks for one word.
+use mathlib.Core.Path.{sym, _∙_}
 use borrow.Author.Needs.{needs}
+use Rattle.surface.proofs.Laws.Words.{off-grid-is}
 use Rattle.surface.proofs.is_off_grid.Statement.{statement}
 use Rattle.surface.proofs.is_off_grid.Tie as tie
 
-mul-place : tie.Need-mul-place
-mul-place c = search needs
+mul-is-off : tie.Need-mul-is-off
+mul-is-off c = search needs
 
-shared-slice-read-place : tie.Need-shared-slice-read-place
-shared-slice-read-place c = search needs
+shared-slice-read-is-off : tie.Need-shared-slice-read-is-off
+shared-slice-read-is-off c = search needs
 
-place-requires : tie.Need-place-requires
-place-requires c κs = search needs
-
-enum-told : tie.Need-enum-told
-enum-told c = search needs
-
-enum-told-2 : tie.Need-enum-told-2
-enum-told-2 c = search needs
-
-enum-told-3 : tie.Need-enum-told-3
-enum-told-3 c = search needs
-
-enum-told-4 : tie.Need-enum-told-4
-enum-told-4 c = search needs
+is-off-requires : tie.Need-is-off-requires
+is-off-requires c κs = search needs
 
 returns : tie.Need-returns
-returns c = sym (off-grid-is _ _ (Exact _) (subst (Places 1 _) (c .enum-told .given .1) (c .before .before .place .ensures)))
-
-returns-2 : tie.Need-returns-2
-returns-2 c = sym (off-grid-is _ _ (Shifted _ _) (subst (Places 1 _) (c .enum-told2 .given .1) (c .before .before .place .ensures)))
-
-returns-3 : tie.Need-returns-3
-returns-3 c = sym (off-grid-is _ _ NotFinite (subst (Places 1 _) (c .enum-told3 .given .1) (c .before .before .place .ensures)))
-
-returns-4 : tie.Need-returns-4
-returns-4 c = sym (off-grid-is _ _ (TooFar _) (subst (Places 1 _) (c .enum-told4 .given .1) (c .before .before .place .ensures)))
+returns c = c .is-off .ensures ∙ sym (off-grid-is _ _)
 
 pub is-off-grid-spec : {M : Type 1} → statement M
-is-off-grid-spec =
-    tie.close
-    (tie.spec
-    mul-place
-    shared-slice-read-place
-    place-requires
-    enum-told
-    enum-told-2
-    enum-told-3
-    enum-told-4
-    returns
-    returns-2
-    returns-3
-    returns-4)
+is-off-grid-spec = tie.close (tie.spec mul-is-off shared-slice-read-is-off is-off-requires returns)

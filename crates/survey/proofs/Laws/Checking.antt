@@ -15,21 +15,25 @@ use Rattle.terms.specs.declared.Answer.the-variants.{Done}
 use Rattle.surface.specs.Refusals.{thenCheck, bufferRefusal, cornerRefusal, wordRefusal, contentRefusal}
 use Rattle.surface.proofs.Laws.Thens.{then-refused, then-next, buffer-plain, corner-plain, done-of, Fitting, counts-fit, buffers-long, words-pass}
 use Rattle.pairing.specs.Turns.{Room}
-use Rattle.survey.specs.Checks.{Counted, CornersChecked, Checked}
+use Rattle.survey.specs.Checks.{Counted, Fitted, CornersChecked, Checked}
 
 module _ (words corners : List ℕ) where
   -- a refusal is not `Done`
   not-done : (a : Answer) → refusing a ≡ true → a ≡ Done → ⊥
   not-done a r e = true≢false (sym r ∙ ap refusing e)
 
-  pub fitting : (table : List ℕ) → Counted words corners table → Fitting (length words) (length corners)
+  pub fitting : (table : List ℕ) → Fitted words corners table → Fitting (length words) (length corners)
   fitting table k = counts-fit (length words) (length corners) (k .counts)
 
-  pub room : (table : List ℕ) → Counted words corners table → Room corners table
-  room table k = let f = fitting table k in record { triples = f .corner-threes; few = f .few-corners; long = le-trans (f .few-corners) (k .long) }
+  pub room : (table : List ℕ) → Fitted words corners table → Room corners table
+  room table k = let f = fitting table k in record { triples = f .corner-threes; few = f .few-corners; long = k .long }
+
+  -- a table for any surface does for this one
+  pub counted-fits : (table : List ℕ) → Counted words corners table → Fitted words corners table
+  counted-fits table k = record { counts = k .counts; long = le-trans (counts-fit (length words) (length corners) (k .counts) .few-corners) (k .long) }
 
   -- a count of points fits 16 bits
-  pub points-fit : (table : List ℕ) → Counted words corners table → limits.words < 3 * 2 ^ 16 → Fits w16 (length words / 3)
+  pub points-fit : (table : List ℕ) → Fitted words corners table → limits.words < 3 * 2 ^ 16 → Fits w16 (length words / 3)
   points-fit table k s = record { fits = omega (arith, fitting table k .few-words) }
 
   module _ (lent needs : List ℕ) where

@@ -2,19 +2,22 @@
 use mathlib.Core.Path.{_≡_, sym, ap, _∙_}
 use mathlib.Core.Bool.{true, false, true≢false}
 use mathlib.Core.List.{List, [], _∷_, _++_, map-append}
-use Prim.Native.Nat.{ℕ, _+_, _^_, _≤_, _<_}
-use native.Mathlib.Nat.{lt-of-le-of-lt}
+use Prim.Native.Nat.{ℕ, _+_, _≤_, _<_}
+use mathlib.Core.Logic.{⊎-elim}
 use native.Mathlib.Numerals.{add-one}
 use native.Mathlib.Omega.{arith}
 use lib.Dec.{lit<}
-use lib.IntN.{ℤ, pos, negsuc, natAbs}
+use lib.IntN.{ℤ, pos}
 use lib.ListN.{length, getD, take, set, length-map}
 use lib.Seq.{take-all, take-suc, length-take-le}
 use lib.Ieee.{binary32, ofBits}
 use mir.Syntax.{w32}
-use mir.Val.{SFits, toZ, ofZ}
-use mir.ValLaws.{toZ-ofZ}
-use Rattle.grid.specs.Places.{Lands, Places}
+use mir.Val.{toZ, ofZ}
+use Rattle.grid.specs.Units.{units}
+use Rattle.grid.specs.Places.{whole, Places}
+use Rattle.grid.proofs.Laws.Floats.{field, no-number}
+use Rattle.grid.proofs.Laws.Coordinates.{beyond, held}
+use Rattle.surface.proofs.Laws.Tests.{eq-or-not, lt-or-le}
 use Rattle.grid.specs.declared.Coordinate.the-variants.{NotFinite, TooFar}
 use Rattle.surface.specs.Buffers.{over}
 use Rattle.surface.specs.Refusals.{notFinite, tooFar}
@@ -23,21 +26,28 @@ use Rattle.surface.proofs.Laws.Words.{not-finite-is, too-far-is}
 use Rattle.surface.proofs.Laws.Over.{over-none, over-snoc}
 use Rattle.survey.specs.Grid.{wholeOf, gridOf, OnGrid}
 
-fits : (z : ℤ) → natAbs z < 2 ^ 31 → SFits w32 z
-fits (pos n) h = record { sfits = h }
-fits (negsuc n) h = record { sfits = omega arith }
-
-pub landed : (word : ℕ) (k : ℤ) → Lands 1 (ofBits binary32 word) k → toZ w32 (ofZ w32 k) ≡ wholeOf word
-unfolding wholeOf
-landed word k l = toZ-ofZ w32 k (fits k (lt-of-le-of-lt (l .within) (lit< tt))) ∙ l .nearest
-
--- the other two answers are not met
+-- of the answers for a coordinate two are not met
 module _ (words : List ℕ) (i : ℕ) (on : OnGrid words) (l : i < length words) where
   pub no-nan : Places 1 (ofBits binary32 (getD words i 0)) NotFinite → ⊥
   no-nan p = true≢false (sym (not-finite-is words i NotFinite p) ∙ least-never (notFinite words) (length words) (on .numbers) i l)
 
   pub not-far : (x : lib.Ieee.Float) → Places 1 (ofBits binary32 (getD words i 0)) (TooFar x) → ⊥
   not-far x p = true≢false (sym (too-far-is words i (TooFar x) p) ∙ least-never (tooFar words) (length words) (on .near) i l)
+
+  -- so the exponent's field is none that belongs to them
+  pub low-field : field (getD words i 0) < 149
+  low-field = ⊎-elim (λ (h : field (getD words i 0) < 149). h) (λ (h : 149 ≤ field (getD words i 0)). absurd (high h)) (lt-or-le (field (getD words i 0)) 149)
+    where
+      high : 149 ≤ field (getD words i 0) → ⊥
+      high h =
+          ⊎-elim
+          (λ (e : field (getD words i 0) ≡ 255). no-nan (no-number (getD words i 0) e))
+          (λ (n : field (getD words i 0) ≡ 255 → ⊥). not-far (ofBits binary32 (getD words i 0)) (beyond (getD words i 0) h n (lit< tt)))
+          (eq-or-not (field (getD words i 0)) 255)
+
+pub whole-is : (word : ℕ) → field word < 149 → (k : ℤ) → k ≡ whole 1 (units (ofBits binary32 word)) → toZ w32 (ofZ w32 k) ≡ wholeOf word
+unfolding wholeOf
+whole-is word h k e = held word h k e
 
 -- the first i words are laid
 unfoldable pub Laid : List ℕ → List ℤ → ℕ → List ℤ → Type 0

@@ -1,17 +1,16 @@
 -- What is told of the parts of a stretch tells the stretch: its least weight is the lowest way, because the parts of an allowed cover
 -- are allowed covers of the parts, and no cover weighs as much as `far`.
 use Prim.Native.Nat.{ℕ, suc, _+_, _<_, _≤_}
-use mathlib.Core.Path.{_≡_, refl, sym, ap, ap₂, _∙_, subst}
+use mathlib.Core.Path.{_≡_, refl, sym, ap₂, _∙_, subst}
 use mathlib.Core.Logic.{_⊎_, inl, inr}
 use mathlib.Core.Bool.{Bool, true, false}
-use native.Mathlib.Nat.{le-trans, le-refl, le-of-lt, lt-of-le-of-lt, not-le-of-lt, lt-of-not-le, eq-or-lt-of-le}
+use native.Mathlib.Nat.{le-trans, le-refl, le-of-lt, not-le-of-lt, eq-or-lt-of-le}
 use native.Mathlib.Omega.{arith}
-use Rattle.covers.specs.Covers.{Cover, empty, apex, Covers, weight, Allowed, NoCover, Patch}
+use Rattle.covers.specs.Covers.{Cover, empty, apex, Covers, weight, Allowed, NoCover}
 use Rattle.covers.specs.Least.{Least}
-use Rattle.covers.proofs.Laws.Parts.{allowed-apex, allowed-before, allowed-after, allowed-free}
+use Rattle.covers.proofs.Laws.Parts.{allowed-apex, allowed-before, allowed-after}
 use Rattle.covers.proofs.Laws.Steps.{none-barred}
-use Rattle.covers.proofs.Laws.Least.{least-unique, MadeAt, least-apex}
-use Rattle.covers.proofs.Laws.Minimum.{least-side}
+use Rattle.covers.proofs.Laws.Least.{least-unique, least-side, MadeAt, least-free}
 use Rattle.weight.specs.Edition.{naturals}
 use Rattle.table.specs.Told.{far, Told, some, none, Way, Lowest}
 
@@ -134,13 +133,6 @@ module _ (tri : ℕ → ℕ → ℕ → ℕ) (barred : ℕ → ℕ → Bool) whe
 
     -- ---- the apex of the patch
 
-    free-of : (i k m w : ℕ) → i < m → m < k → Least naturals tri barred i k w → barred i k ≡ false
-    free-of i k m w lo hi p = go (p .cover) (p .among)
-      where
-        go : (c : Cover) → Allowed barred i k c → barred i k ≡ false
-        go empty a = let e : k ≡ suc i = a .covers in absurd (omega arith)
-        go (apex j c d) a = allowed-free barred i k j c d a
-
     -- what is told of a stretch with an allowed cover is no more than any way
     pub way-over : (i k m w v : ℕ) → k < n → Least naturals tri barred i k w → Way tri barred i k m v → w ≤ v
     way-over i k m w v l p h = go (h .left-told) (h .right-told)
@@ -156,7 +148,7 @@ module _ (tri : ℕ → ℕ → ℕ → ℕ) (barred : ℕ → ℕ → Bool) whe
         go (some x) (none y f) = let g : h .right ≡ far = f in let a : w < far = w-near in omega (arith, e)
         go (some x) (some y) =
             subst (λ (z : ℕ). w ≤ z) (ap₂ (λ (a b : ℕ). tri i k m + (a + b)) (x .weighs) (y .weighs) ∙ sym e)
-            (not-less (p .least (apex m (x .cover) (y .cover)) (allowed-apex barred i k m (x .cover) (y .cover) (h .low) (h .high) (free-of i k m w (h .low) (h .high) p) (x .among) (y .among))))
+            (not-less (p .least (apex m (x .cover) (y .cover)) (allowed-apex barred i k m (x .cover) (y .cover) (h .low) (h .high) (least-free naturals tri barred i k m w p (h .low) (h .high)) (x .among) (y .among))))
 
     -- the way that is no heavier makes it up
     pub made-by : (i k m w v : ℕ) → k < n → Least naturals tri barred i k w → Way tri barred i k m v → v ≤ w → MadeAt naturals tri barred i k w m

@@ -1,9 +1,7 @@
 -- What is known of a weight: how great it is at most, that two equal corners make it 0, and that only the three corners count.
 use mathlib.Core.Path.{_≡_, ap, _∙_}
-use Prim.Native.Nat.{ℕ, _+_, _*_, _^_, _≤_, _<_}
-use native.Mathlib.Nat.{lt-of-le-of-lt}
+use Prim.Native.Nat.{ℕ, _+_, _*_, _≤_}
 use native.Mathlib.Omega.{arith}
-use lib.Dec.{lit<}
 use lib.IntN.{ℤ, pos, natAbs, _-ℤ_, _*ℤ_, +ℤ-invr, *ℤ-comm, *ℤ-zero, zero-*ℤ}
 use Rattle.limits.specs.Limits.{greatest}
 use Rattle.limits.proofs.Figures.{greatest-weight}
@@ -25,9 +23,6 @@ heaviest-is = greatest-weight
 pub weight-most : (a b c : Point) → OnGrid a × OnGrid b × OnGrid c → weightOf a b c ≤ heaviest
 unfolding weightOf
 weight-most a b c h = sizes-most (less b a) (less c a) (less-short b a (h .1) (h .0), less-short c a (h .2) (h .0))
-
-pub weight-below : (a b c : Point) → OnGrid a × OnGrid b × OnGrid c → weightOf a b c < 2 ^ 35
-weight-below a b c h = lt-of-le-of-lt (weight-most a b c h) (lit< tt)
 
 -- two equal corners
 no-first : (p q r s : ℤ) → p ≡ pos 0 → r ≡ pos 0 → natAbs (p *ℤ q -ℤ r *ℤ s) ≡ 0

@@ -1,0 +1,3 @@
+pub mod Outcome
+pub mod Turns
+pub mod Courses

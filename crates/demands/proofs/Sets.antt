@@ -1,0 +1,178 @@
+-- Demand 3 is kept by every outcome of the checker and of the patcher.
+use mathlib.Core.Path.{_≡_, refl, sym, ap, _∙_, subst}
+use mathlib.Core.Bool.{Bool, true, false, true≢false}
+use mathlib.Core.List.{List, [], _++_, flatten}
+use Prim.Native.Nat.{ℕ, _*_, _≤_, _<_}
+use native.Mathlib.Omega.{arith}
+use borrow.Author.Tests.{eqb-true, eqb-false}
+use lib.Dec.{eqb}
+use lib.IntN.{ℤ}
+use lib.ListN.{length, getD, take, drop, length-map, List·getD-map}
+use lib.Seq.{take-append-seam}
+use Rattle.terms.specs.Answers.{refusing, numberOf}
+use Rattle.terms.specs.declared.Answer.{Answer}
+use Rattle.terms.specs.declared.Answer.the-variants.{Done, States}
+use Rattle.surface.specs.Edges.{Sound, startOf}
+use Rattle.surface.specs.Buffers.{over}
+use Rattle.surface.specs.Refusals.{refusal}
+use Rattle.surface.proofs.Laws.Sound.{Passed, passed, passes, passed-sound}
+use Rattle.loops.specs.Loops.{loops, ring}
+use Rattle.loops.proofs.Laws.Distinct.{Distinct}
+use Rattle.loops.proofs.Theorems.{three-or-more, no-vertex-twice, vertices-in-all, vertices-few}
+use Rattle.survey.specs.Grid.{gridOf}
+use Rattle.survey.specs.Outcome as survey
+use Rattle.run.specs.Fates.{Fate}
+use Rattle.run.specs.Run.{Run, ringList, statesOf, laidBy}
+use Rattle.run.proofs.Laws.Grows.{run-length}
+use Rattle.run.proofs.Laws.Lengths.{laid-length, states-length}
+use Rattle.verdicts.specs.Verdicts.{Verdict, AllRight}
+use Rattle.verdicts.proofs.Laws.Once.{RingsApart, verdict-once}
+use Rattle.verdicts.proofs.Laws.Passes.{passes-right, right-passes}
+use Rattle.verdicts.proofs.Laws.Patched.{run-right}
+use Rattle.verdicts.proofs.Laws.Filled.{right-filled, parts-all, part-empty, empty-part}
+use Rattle.patcher.specs.Outcome as patcher
+use Rattle.checker.specs.Outcome.{JudgesCounted, JudgesIf, Judges}
+use Rattle.demands.specs.Sets.{begins, Passable, Closes, CheckerDemand, statesLeft, setLeft, PatcherDemand}
+use Rattle.demands.proofs.Closing.{closing-demand}
+use Rattle.demands.proofs.Passable.{right-each, right-none-left, each-right}
+
+-- ---- the rings of a sound surface
+
+module _ (corners : List ℕ) (sound : Sound corners) where
+  many : length (ringList corners) ≡ length (loops corners)
+  many = length-map (loops corners) (ring corners)
+
+  ring-at : (l : ℕ) → getD (ringList corners) l [] ≡ ring corners (getD (loops corners) l [])
+  ring-at l = List·getD-map (ring corners) (loops corners) l []
+
+  apart : RingsApart (ringList corners)
+  unfolding Distinct
+  apart = record {
+    three = λ l b.
+        let a : 3 ≤ length (getD (loops corners) l []) = three-or-more corners sound l (omega (arith, many)) in
+        let c : length (getD (ringList corners) l []) ≡ length (getD (loops corners) l []) = ap length (ring-at l) ∙ length-map (getD (loops corners) l []) (startOf corners) in
+        omega arith;
+    different = λ l b. subst (λ (r : List ℕ). (i j : ℕ) → i < length r → j < length r → getD r i 0 ≡ getD r j 0 → i ≡ j) (sym (ring-at l)) (no-vertex-twice corners sound l (omega (arith, many)));
+  }
+
+  -- ---- a set whose loops are all right
+
+  module _ (grid : List ℤ) (states set : List ℕ) where
+    passable : AllRight grid corners [] (ringList corners) states set → length states ≡ length (loops corners) → Passable grid corners states set
+    passable h d = record {
+      declared = d;
+      none-left = subst (λ (n : ℕ). length set ≡ begins (ringList corners) states n) many (right-none-left grid corners [] (ringList corners) states set h);
+      each = λ l b. right-each grid corners [] (ringList corners) states set h l (omega (arith, many));
+    }
+
+    all-right : Passable grid corners states set → AllRight grid corners [] (ringList corners) states set
+    all-right p =
+        each-right grid corners [] (ringList corners) states set (p .declared ∙ sym many)
+        (subst (λ (n : ℕ). length set ≡ begins (ringList corners) states n) (sym many) (p .none-left))
+        (λ l b. p .each l (omega (arith, many)))
+
+    closes : AllRight grid corners [] (ringList corners) states set → Closes corners states set
+    closes h = record {
+      whole = parts-all grid corners [] (ringList corners) states set h;
+      closing = closing-demand corners _ sound (right-filled grid corners [] (ringList corners) states set h);
+      open-or-long = λ l b. part-empty grid corners [] (ringList corners) states set h apart l (omega (arith, many));
+      takes-nothing = empty-part (ringList corners) states set;
+    }
+
+-- ---- the checker
+
+module _ (words corners states set : List ℕ) (b : survey.Buffers) (o : survey.Outcome) where
+  abbrev table : Answer
+  table = refusal words corners (survey.lent b) (survey.needs words corners)
+
+  refused-demand : refusing table ≡ true → o ≡ survey.refused table b → CheckerDemand words corners states set b o
+  refused-demand r e = record {
+    passed-only = λ d. absurd (true≢false (sym r ∙ ap refusing (sym (ap (λ (x : survey.Outcome). x .answer) e) ∙ d)));
+    passed-always = λ f p. absurd (true≢false (sym r ∙ f));
+    closes = λ d. absurd (true≢false (sym r ∙ ap refusing (sym (ap (λ (x : survey.Outcome). x .answer) e) ∙ d)));
+  }
+
+  module _ (r : refusing table ≡ false) where
+    sound : Sound corners
+    sound = passed-sound words corners (survey.lent b) (survey.needs words corners) (passed words corners (survey.lent b) (survey.needs words corners) r)
+
+    counted-demand : (t : Bool) → eqb (length (loops corners)) (length states) ≡ t → JudgesCounted t words corners states set b o → CheckerDemand words corners states set b o
+    counted-demand false n e =
+        let no : (d : o .answer ≡ Done) → ⊥ = λ d. let z : numberOf (States (length (loops corners))) ≡ numberOf Done = ap numberOf (sym (ap (λ (x : survey.Outcome). x .answer) e) ∙ d) in omega arith in
+        record {
+          passed-only = λ d. absurd (no d);
+          passed-always = λ f p. absurd (eqb-false (length (loops corners)) (length states) n (sym (p .declared)));
+          closes = λ d. absurd (no d);
+        }
+    counted-demand true n (a, v, e) =
+        let said : o .answer ≡ a = ap (λ (x : survey.Outcome). x .answer) e in
+        let right : o .answer ≡ Done → AllRight (gridOf words) corners [] (ringList corners) states set = λ d.
+        passes-right (gridOf words) corners [] 0 0 (ringList corners) states set (subst (Verdict (gridOf words) corners [] 0 0 (ringList corners) states set) (sym said ∙ d) v) in
+        record {
+          passed-only = λ d. passable corners sound (gridOf words) states set (right d) (sym (eqb-true (length (loops corners)) (length states) n));
+          passed-always = λ f p.
+              said ∙ verdict-once (gridOf words) corners [] 0 0 (ringList corners) states set a Done (apart corners sound) v
+              (right-passes (gridOf words) corners [] 0 0 (ringList corners) states set (all-right corners sound (gridOf words) states set p));
+          closes = λ d. closes corners sound (gridOf words) states set (right d);
+        }
+
+  pub checker-demand : Judges words corners states set b o → CheckerDemand words corners states set b o
+  checker-demand = go (refusing table) refl
+    where
+      go : (t : Bool) → refusing table ≡ t → JudgesIf t table words corners states set b o → CheckerDemand words corners states set b o
+      go true r j = refused-demand r j
+      go false r j = counted-demand r (eqb (length (loops corners)) (length states)) refl j
+
+-- ---- the patcher
+
+-- what was laid over a buffer's start is read back
+front : (xs buffer : List ℕ) (n : ℕ) → n ≡ length xs → take n (over xs buffer) ≡ xs
+unfolding over
+front xs buffer n e = ap (λ (k : ℕ). take k (xs ++ drop (length xs) buffer)) e ∙ take-append-seam xs (drop (length xs) buffer)
+
+module _ (words corners : List ℕ) (b : patcher.Buffers) (o : patcher.Outcome) where
+  abbrev refuses : Answer
+  refuses = refusal words corners (patcher.lent b) (patcher.needs words corners)
+
+  done-demand : refusing refuses ≡ false → (fates : List Fate) → Run (gridOf words) corners [] (ringList corners) fates → o ≡ patcher.done words corners fates b
+      → PatcherDemand words corners o
+  done-demand r fates run e = record {
+    fits = fit;
+    passes = λ c p l j.
+        checker-demand words corners (statesLeft o) (setLeft o) c p j .passed-always
+        (passes words corners (survey.lent c) (survey.needs words corners) (record { counts = table .counts; buffers = l; corner = table .corner; word = table .word }))
+        (passable corners sound (gridOf words) (statesLeft o) (setLeft o) right (ap length states ∙ fated));
+    closes = closes corners sound (gridOf words) (statesLeft o) (setLeft o) right;
+  }
+    where
+      table : Passed words corners (patcher.lent b) (patcher.needs words corners)
+      table = passed words corners (patcher.lent b) (patcher.needs words corners) r
+
+      sound : Sound corners
+      sound = passed-sound words corners (patcher.lent b) (patcher.needs words corners) table
+
+      fated : length (statesOf fates) ≡ length (loops corners)
+      fated = states-length fates ∙ run-length (gridOf words) corners [] (ringList corners) fates run ∙ many corners sound
+
+      states : statesLeft o ≡ statesOf fates
+      states = ap statesLeft e ∙ front (statesOf fates) (b .states) (length (loops corners)) (sym fated)
+
+      set : setLeft o ≡ laidBy (ringList corners) fates
+      set = ap setLeft e ∙ front (laidBy (ringList corners) fates) (b .patches) (length (laidBy (ringList corners) fates)) refl
+
+      right : AllRight (gridOf words) corners [] (ringList corners) (statesLeft o) (setLeft o)
+      right = subst (λ (x : List ℕ). AllRight (gridOf words) corners [] (ringList corners) x (setLeft o)) (sym states)
+          (subst (λ (x : List ℕ). AllRight (gridOf words) corners [] (ringList corners) (statesOf fates) x) (sym set) (run-right (gridOf words) corners [] (ringList corners) fates run))
+
+      fit : o .corners ≤ 3 * length corners
+      fit =
+          let a : o .corners ≡ length (laidBy (ringList corners) fates) = ap (λ (x : patcher.Outcome). x .corners) e in
+          let c : length (laidBy (ringList corners) fates) ≤ 3 * length (flatten (ringList corners)) = laid-length (gridOf words) corners [] (ringList corners) fates run in
+          omega (arith, vertices-in-all corners sound, vertices-few corners sound)
+
+  pub patcher-demand : patcher.Patches words corners b o → refusing (o .answer) ≡ false → PatcherDemand words corners o
+  patcher-demand h n = go (refusing refuses) refl h
+    where
+      go : (t : Bool) → refusing refuses ≡ t → patcher.PatchesIf t refuses words corners b o → PatcherDemand words corners o
+      go true r e = absurd (true≢false (sym r ∙ ap refusing (sym (ap (λ (x : patcher.Outcome). x .answer) e)) ∙ n))
+      go false r (fates, run, e) = done-demand r fates run e

@@ -1,0 +1,83 @@
+-- Demand 3, of patch sets: when the checker passes one, that it passes our own patcher's, and what the edges are afterwards.
+use mathlib.Core.Path.{_≡_}
+use mathlib.Core.Bool.{false}
+use mathlib.Core.Logic.{_⊎_}
+use mathlib.Core.List.{List, [], _∷_, flatten}
+use Prim.Native.Nat.{ℕ, zero, suc, _+_, _*_, _<_, _≤_}
+use lib.IntN.{ℤ}
+use lib.ListN.{length, getD, take, drop}
+use Rattle.terms.specs.Answers.{refusing}
+use Rattle.terms.specs.declared.Answer.the-variants.{Done}
+use Rattle.surface.specs.Refusals.{bufferRefusal, refusal}
+use Rattle.loops.specs.Loops.{loops}
+use Rattle.survey.specs.Grid.{gridOf}
+use Rattle.survey.specs.Outcome as survey
+use Rattle.run.specs.Run.{ringList}
+use Rattle.verdicts.specs.Faults.{Right}
+use Rattle.verdicts.specs.Verdicts.{taken, parts}
+use Rattle.patcher.specs.Outcome as patcher
+use Rattle.checker.specs.Outcome.{Judges}
+use Rattle.demands.specs.Closing.{ClosingDemand, laidIn}
+
+-- ---- demand 3's condition
+
+-- how many corners of the set the first l loops take
+abbrev pub begins : List (List ℕ) → List ℕ → ℕ → ℕ
+begins rings states zero = 0
+begins [] states (suc l) = 0
+begins (r ∷ rings) [] (suc l) = 0
+begins (r ∷ rings) (s ∷ states) (suc l) = taken r s + begins rings states l
+
+-- "No corner is left over and, loop by loop, each loop ..." is right: with the triangles of the loops before it laid, and the corners
+-- from there on
+pub record Passable (grid : List ℤ) (corners states set : List ℕ) : Type 0 where
+  pub declared : length states ≡ length (loops corners)
+  pub none-left : length set ≡ begins (ringList corners) states (length (loops corners))
+  pub each : (l : ℕ) → l < length (loops corners)
+      → Right grid corners (take (begins (ringList corners) states l) set) (getD (ringList corners) l []) (getD states l 0) (drop (begins (ringList corners) states l) set)
+
+-- ---- the edges afterwards
+
+-- what each loop takes of the set
+abbrev pub laidBy : List ℕ → List ℕ → List ℕ → List (List ℕ)
+laidBy corners states set = parts (ringList corners) states set
+
+pub record Closes (corners states set : List ℕ) : Type 0 where
+  -- the loops take the whole set,
+  pub whole : flatten (laidBy corners states set) ≡ set
+  -- "no directed edge occurs twice and the only open edges are those of loops" that take nothing,
+  pub closing : ClosingDemand corners (laidBy corners states set)
+  -- and these are the loops "declared open or long".
+  pub open-or-long : (l : ℕ) → l < length (loops corners) → laidIn (laidBy corners states set) l ≡ [] → (getD states l 0 ≡ 2) ⊎ (getD states l 0 ≡ 3)
+  pub takes-nothing : (l : ℕ) → (getD states l 0 ≡ 2) ⊎ (getD states l 0 ≡ 3) → laidIn (laidBy corners states set) l ≡ []
+
+-- ---- the checker
+
+-- what holds of every outcome o of the checker
+pub record CheckerDemand (words corners states set : List ℕ) (b : survey.Buffers) (o : survey.Outcome) : Type 0 where
+  -- It passes a set only when the condition holds,
+  pub passed-only : o .answer ≡ Done → Passable (gridOf words) corners states set
+  -- and then always, where it does not refuse the surface or the buffers.
+  pub passed-always : refusing (refusal words corners (survey.lent b) (survey.needs words corners)) ≡ false
+      → Passable (gridOf words) corners states set → o .answer ≡ Done
+  -- After a passed set, anybody's:
+  pub closes : o .answer ≡ Done → Closes corners states set
+
+-- ---- the patcher
+
+-- the states and the set that the patcher leaves
+abbrev pub statesLeft : patcher.Outcome → List ℕ
+statesLeft o = take (o .loops) (o .left .states)
+
+abbrev pub setLeft : patcher.Outcome → List ℕ
+setLeft o = take (o .corners) (o .left .patches)
+
+-- what holds of every outcome o of the patcher that is no refusal
+pub record PatcherDemand (words corners : List ℕ) (o : patcher.Outcome) : Type 0 where
+  -- The patch corners are no more than 9 a triangle.
+  pub fits : o .corners ≤ 3 * length corners
+  -- "Our own patcher's sets pass", whatever buffers the checker is lent, if they are long enough.
+  pub passes : (b : survey.Buffers) (p : survey.Outcome) → bufferRefusal (survey.lent b) (survey.needs words corners) ≡ Done
+      → Judges words corners (statesLeft o) (setLeft o) b p → p .answer ≡ Done
+  -- After the run:
+  pub closes : Closes corners (statesLeft o) (setLeft o)

@@ -1,0 +1,29 @@
+-- How many decimal digits a number has, by the units that it lies between.
+use mathlib.Core.Path.{_≡_, refl, sym}
+use mathlib.Core.Logic.{_⊎_, inl, inr}
+use Prim.Native.Nat.{ℕ, _<_, _≤_}
+use native.Mathlib.Omega.{arith}
+use Rattle.digits.specs.Numeral.{size}
+use Rattle.digits.proofs.Laws.Digit.{size-is, lt-or-ge}
+
+pub size-two : (n : ℕ) → 10 ≤ n → n < 100 → 2 ≡ size n
+size-two n h l = sym (size-is 1 n l (inr h))
+
+pub size-three : (n : ℕ) → 100 ≤ n → n < 1000 → 3 ≡ size n
+size-three n h l = sym (size-is 2 n l (inr h))
+
+pub size-four : (n : ℕ) → 1000 ≤ n → n < 10000 → 4 ≡ size n
+size-four n h l = sym (size-is 3 n l (inr h))
+
+pub size-five : (n : ℕ) → 10000 ≤ n → n < 100000 → 5 ≡ size n
+size-five n h l = sym (size-is 4 n l (inr h))
+
+pub size-most : (n : ℕ) → n < 100000 → size n ≤ 5
+size-most n h = go (lt-or-ge n 10) (lt-or-ge n 100) (lt-or-ge n 1000) (lt-or-ge n 10000)
+  where
+    go : (n < 10) ⊎ (10 ≤ n) → (n < 100) ⊎ (100 ≤ n) → (n < 1000) ⊎ (1000 ≤ n) → (n < 10000) ⊎ (10000 ≤ n) → size n ≤ 5
+    go (inl a) b c d = omega (arith, size-is 0 n a (inl refl))
+    go (inr a) (inl b) c d = omega (arith, size-two n a b)
+    go (inr a) (inr b) (inl c) d = omega (arith, size-three n b c)
+    go (inr a) (inr b) (inr c) (inl d) = omega (arith, size-four n c d)
+    go (inr a) (inr b) (inr c) (inr d) = omega (arith, size-five n d h)

@@ -1,0 +1,18 @@
+-- What lies on the bench between the turns of two loops. This definition is the code's own, and no part of a promise.
+use mathlib.Core.Path.{_≡_}
+use mathlib.Core.List.{List}
+use Prim.Native.Nat.{ℕ, _%_, _<_}
+use lib.ListN.{length, getD}
+use lib.Ieee.{Float}
+use Rattle.limits.specs.Limits as limits
+use Rattle.bars.specs.Chains.{Tells}
+use Rattle.column.specs.Columns.{Table}
+
+-- chains that tell of the input and of the patches so far, marks below the base, and room for rows of bars and for the table
+pub record Bench (input laid : List ℕ) (e : ℕ) (heads links ends marks : List ℕ) (base : ℕ) (rows : List ℕ) (table : List Float) : Type 0 where
+  pub tells : Tells input laid e heads links ends
+  pub whole : length laid % 3 ≡ 0
+  pub marks-long : length marks ≡ limits.points
+  pub below : (v : ℕ) → getD marks v 0 < base
+  pub rows-long : length rows ≡ limits.longest
+  pub table-long : Table table

@@ -1,0 +1,40 @@
+-- The loops of a surface by their rings, as the code that goes from loop to loop takes them. These definitions are the code's own, and no
+-- part of a promise.
+use mathlib.Core.Path.{_≡_}
+use mathlib.Core.Bool.{true}
+use mathlib.Core.Logic.{_⊎_}
+use mathlib.Core.List.{List, [], map, flatten}
+use Prim.Native.Nat.{ℕ, _+_, _-_, _%_, _<_, _≤_}
+use lib.IntN.{ℤ}
+use lib.ListN.{length, getD}
+use Rattle.limits.specs.Limits as limits
+use Rattle.weight.specs.Weight.{Coordinates, Names}
+use Rattle.bars.specs.Bars.{between}
+
+-- the ring of a loop of the input: three or more different points on the grid, each joined to the next by the input
+pub record RingOf (grid : List ℤ) (input ring : List ℕ) : Type 0 where
+  pub coordinates : Coordinates grid
+  pub named : (j : ℕ) → j < length ring → Names grid (getD ring j 0)
+  pub inside : (j : ℕ) → j < length ring → getD ring j 0 < limits.points
+  pub three : 3 ≤ length ring
+  pub apart : (i j : ℕ) → i < length ring → j < length ring → getD ring i 0 ≡ getD ring j 0 → i ≡ j
+  pub sides : (j : ℕ) → j + 1 < length ring → between input (getD ring j 0) (getD ring (j + 1) 0) ≡ true
+  pub closing : between input (getD ring (length ring - 1) 0) (getD ring 0 0) ≡ true
+
+-- the loops of the input by their rings, which stand one after the other, and by their lengths
+pub record Loops (grid : List ℤ) (input : List ℕ) (rs : List (List ℕ)) (rings lengths : List ℕ) : Type 0 where
+  pub rings-are : rings ≡ flatten rs
+  pub lengths-are : lengths ≡ map length rs
+  pub each : (l : ℕ) → l < length rs → RingOf grid input (getD rs l [])
+  pub few : length rings ≤ limits.corners
+  pub few-loops : length rs ≤ limits.triangles
+
+-- the input's corners
+pub record Input (input : List ℕ) : Type 0 where
+  pub whole : length input % 3 ≡ 0
+  pub few : length input ≤ limits.corners
+  pub inside : (i : ℕ) → i < length input → getD input i 0 < limits.points
+
+-- each of the lengths is three or a long one's
+abbrev pub Plain : List ℕ → Type 0
+Plain lengths = (l : ℕ) → l < length lengths → (getD lengths l 0 ≤ 3) ⊎ (limits.longest < getD lengths l 0)

@@ -1,0 +1,25 @@
+// What going from loop to loop takes, for the patcher and for the checker alike.
+ghost use mathlib.Core.Path.{_≡_};
+ghost use mathlib.Core.Bool.{false};
+ghost use Rattle.rounds.specs.Rings.{Plain};
+use terms::Loop;
+
+// Whether some loop has more than three edges and is not long: only such loops need bars and a table.
+pub fn any_middling(lengths: &[u16]) -> bool
+    ensures { λ r. ⌜ (r ≡ false → Plain (now (lengths .entry))) ⌝ }
+{
+    let mut l = 0;
+    while l < lengths.len() {
+        let n = lengths[l] as usize;
+        if n <= 3 {
+            l += 1;
+            continue;
+        }
+        if Loop::LONGEST < n {
+            l += 1;
+            continue;
+        }
+        return true;
+    }
+    false
+}

@@ -1,0 +1,100 @@
+-- What the loops of a right set take of it: each part fills its loop, all parts one after the other are the set, and a part is empty exactly
+-- where the loop is declared long or open.
+use mathlib.Core.Path.{_≡_, refl, sym, ap, _∙_, subst}
+use mathlib.Core.Bool.{Bool, cond}
+use mathlib.Core.Logic.{_⊎_, inl, inr, ⊎-elim}
+use mathlib.Core.List.{List, [], _∷_, _++_, flatten}
+use Prim.Native.Nat.{ℕ, zero, suc, _<_, _≤_}
+use native.Mathlib.Nat.{not-suc-le-zero}
+use native.Mathlib.Omega.{arith}
+use lib.IntN.{ℤ}
+use lib.ListN.{length, getD, take, drop, take-append-drop}
+use lib.Seq.{length-take-le}
+use borrow.Author.Tests.{eq-eqb, ne-eqb}
+use Rattle.closing.specs.Filling.{Fills, nothing, cover, Filled}
+use Rattle.verdicts.specs.Faults.{share, Right, patched, long, open-left}
+use Rattle.verdicts.specs.Verdicts.{taken, AllRight, parts}
+use Rattle.verdicts.proofs.Laws.Once.{RingsApart, rings-rest}
+
+-- ---- one loop
+
+module _ (ring : List ℕ) (state : ℕ) where
+  pub taken-patched : state ≡ 1 → taken ring state ≡ share ring
+  taken-patched e = ap (λ (t : Bool). cond t (share ring) 0) (eq-eqb state 1 e)
+
+  pub taken-none : (state ≡ 1 → ⊥) → taken ring state ≡ 0
+  taken-none n = ap (λ (t : Bool). cond t (share ring) 0) (ne-eqb state 1 n)
+
+  pub part-none : (set : List ℕ) → (state ≡ 1 → ⊥) → take (taken ring state) set ≡ []
+  part-none set n = ap (λ (k : ℕ). take k set) (taken-none n)
+
+not-one : (state : ℕ) → (state ≡ 2) ⊎ (state ≡ 3) → state ≡ 1 → ⊥
+not-one state h e = ⊎-elim (λ f. omega arith) (λ f. omega arith) h
+
+right-empty : (grid : List ℤ) (input laid ring : List ℕ) (state : ℕ) (set : List ℕ) → 3 ≤ length ring
+    → Right grid input laid ring state set → take (taken ring state) set ≡ [] → (state ≡ 2) ⊎ (state ≡ 3)
+right-empty grid input laid ring state set n (patched e s c t a l) z =
+    let f : length (take (taken ring state) set) ≡ share ring =
+    ap (λ (k : ℕ). length (take k set)) (taken-patched ring state e) ∙ length-take-le (share ring) set (t .there) in
+    let g : length (take (taken ring state) set) ≡ 0 = ap length z in
+    absurd (omega arith)
+right-empty grid input laid ring state set n (long e s) z = inl e
+right-empty grid input laid ring state set n (open-left e s x) z = inr e
+
+pub right-fills : (grid : List ℤ) (input laid ring : List ℕ) (state : ℕ) (set : List ℕ) → Right grid input laid ring state set
+    → Fills input laid ring (take (taken ring state) set)
+right-fills grid input laid ring state set (patched e s c t a l) =
+    subst (λ (k : ℕ). Fills input laid ring (take k set)) (sym (taken-patched ring state e))
+    (cover c (length-take-le (share ring) set (t .there)) (t .covers) a)
+right-fills grid input laid ring state set (long e s) = nothing (part-none ring state set (λ f. omega arith))
+right-fills grid input laid ring state set (open-left e s n) = nothing (part-none ring state set (λ f. omega arith))
+
+-- ---- all loops
+
+pub right-filled : (grid : List ℤ) (input laid : List ℕ) (rings : List (List ℕ)) (states set : List ℕ)
+    → AllRight grid input laid rings states set → Filled input laid rings (parts rings states set)
+right-filled grid input laid [] [] set h = tt
+right-filled grid input laid [] (s ∷ states) set h = absurd h
+right-filled grid input laid (r ∷ rings) [] set h = absurd h
+right-filled grid input laid (r ∷ rings) (s ∷ states) set h =
+    let k = taken r s in
+    (right-fills grid input laid r s set (h .0), right-filled grid input (laid ++ take k set) rings states (drop k set) (h .1))
+
+pub parts-length : (grid : List ℤ) (input laid : List ℕ) (rings : List (List ℕ)) (states set : List ℕ)
+    → AllRight grid input laid rings states set → length (parts rings states set) ≡ length rings
+parts-length grid input laid [] [] set h = refl
+parts-length grid input laid [] (s ∷ states) set h = absurd h
+parts-length grid input laid (r ∷ rings) [] set h = absurd h
+parts-length grid input laid (r ∷ rings) (s ∷ states) set h =
+    let k = taken r s in
+    ap suc (parts-length grid input (laid ++ take k set) rings states (drop k set) (h .1))
+
+pub parts-all : (grid : List ℤ) (input laid : List ℕ) (rings : List (List ℕ)) (states set : List ℕ)
+    → AllRight grid input laid rings states set → flatten (parts rings states set) ≡ set
+unfolding flatten
+parts-all grid input laid [] [] set h = sym h
+parts-all grid input laid [] (s ∷ states) set h = absurd h
+parts-all grid input laid (r ∷ rings) [] set h = absurd h
+parts-all grid input laid (r ∷ rings) (s ∷ states) set h =
+    let k = taken r s in
+    ap (λ (l : List ℕ). take k set ++ l) (parts-all grid input (laid ++ take k set) rings states (drop k set) (h .1))
+    ∙ take-append-drop k set
+
+pub part-empty : (grid : List ℤ) (input laid : List ℕ) (rings : List (List ℕ)) (states set : List ℕ)
+    → AllRight grid input laid rings states set → RingsApart rings → (l : ℕ) → l < length rings
+    → getD (parts rings states set) l [] ≡ [] → (getD states l 0 ≡ 2) ⊎ (getD states l 0 ≡ 3)
+part-empty grid input laid [] [] set h a l s z = absurd (not-suc-le-zero s)
+part-empty grid input laid [] (x ∷ states) set h a l s z = absurd h
+part-empty grid input laid (r ∷ rings) [] set h a l s z = absurd h
+part-empty grid input laid (r ∷ rings) (x ∷ states) set h a zero s z = right-empty grid input laid r x set (a .three 0 s) (h .0) z
+part-empty grid input laid (r ∷ rings) (x ∷ states) set h a (suc l) s z =
+    let k = taken r x in
+    part-empty grid input (laid ++ take k set) rings states (drop k set) (h .1) (rings-rest r rings a) l (omega arith) z
+
+-- the other way round
+pub empty-part : (rings : List (List ℕ)) (states set : List ℕ) (l : ℕ) → (getD states l 0 ≡ 2) ⊎ (getD states l 0 ≡ 3)
+    → getD (parts rings states set) l [] ≡ []
+empty-part [] states set l h = refl
+empty-part (r ∷ rings) [] set l h = refl
+empty-part (r ∷ rings) (x ∷ states) set zero h = part-none r x set (not-one x h)
+empty-part (r ∷ rings) (x ∷ states) set (suc l) h = empty-part rings states (drop (taken r x) set) l h

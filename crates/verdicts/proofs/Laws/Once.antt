@@ -1,0 +1,156 @@
+-- A set has one verdict at most. One loop has one fault at most, and none if it is right: a set is one cover at most, so the cover that has a
+-- barred diagonal is not the allowed one, and the one that has a lighter one is not the one that has none.
+use mathlib.Core.Path.{_≡_, sym, ap, _∙_, subst}
+use mathlib.Core.Bool.{true≢false}
+use mathlib.Core.Logic.{inl, inr}
+use mathlib.Core.List.{List, [], _∷_, _++_}
+use Prim.Native.Nat.{ℕ, suc, _+_, _-_, _<_, _≤_}
+use native.Mathlib.Omega.{arith}
+use lib.IntN.{ℤ}
+use lib.ListN.{length, getD, take, drop}
+use Rattle.limits.specs.Limits as limits
+use Rattle.terms.specs.declared.Answer.{Answer}
+use Rattle.terms.specs.declared.Answer.the-variants.{Done, Words, Corners, Buffer, Unnamed, Twice, Repeated, NotFinite, TooFar, States, Line, Misdeclared, Uncovered, Barred, Heavy, LeftOver}
+use Rattle.covers.specs.Covers.{Cover, Uses, vertexOf}
+use Rattle.covers.specs.Sets.{triples}
+use Rattle.covers.proofs.Laws.Closed.{Different, covered-once}
+use Rattle.verdicts.specs.Faults.{share, IsCover, AllowedHere, Lighter, Right, patched, long, open-left, WrongState, no-state, two-on-a-short, not-two-on-a-long, three-with-a-cover, NoCoverTaken, BarredTaken, HeavyTaken, DeclaredPatched, Fault}
+use Rattle.verdicts.specs.Verdicts.{taken, Verdict}
+
+-- "Every loop has 3 or more edges and no vertex twice."
+pub record RingsApart (rings : List (List ℕ)) : Type 0 where
+  pub three : (l : ℕ) → l < length rings → 3 ≤ length (getD rings l [])
+  pub different : (l : ℕ) → l < length rings → (i j : ℕ) → i < length (getD rings l []) → j < length (getD rings l [])
+      → getD (getD rings l []) i 0 ≡ getD (getD rings l []) j 0 → i ≡ j
+
+pub rings-rest : (r : List ℕ) (rings : List (List ℕ)) → RingsApart (r ∷ rings) → RingsApart rings
+rings-rest r rings h = record {
+  three = λ l s. h .three (suc l) (omega arith);
+  different = λ l s. h .different (suc l) (omega arith);
+}
+
+no-longer : (ring : List ℕ) → length ring ≤ limits.longest → limits.longest < length ring → ⊥
+no-longer ring a b = omega arith
+
+apart : (state a b : ℕ) → (a ≡ b → ⊥) → state ≡ a → state ≡ b → ⊥
+apart state a b n e f = n (sym e ∙ f)
+
+-- ---- one loop
+
+module _ (grid : List ℤ) (input laid ring : List ℕ) (state : ℕ) (set : List ℕ) where
+  -- a right loop is declared rightly,
+  pub right-not-wrong : Right grid input laid ring state set → WrongState input laid ring state → ⊥
+  right-not-wrong (patched e s c t a n) (no-state x y z) = x e
+  right-not-wrong (patched e s c t a n) (two-on-a-short f g) = apart state 1 2 (λ h. omega arith) e f
+  right-not-wrong (patched e s c t a n) (not-two-on-a-long f g) = no-longer ring s g
+  right-not-wrong (patched e s c t a n) (three-with-a-cover f d b) = apart state 1 3 (λ h. omega arith) e f
+  right-not-wrong (long e s) (no-state x y z) = y e
+  right-not-wrong (long e s) (two-on-a-short f g) = no-longer ring g s
+  right-not-wrong (long e s) (not-two-on-a-long f g) = f e
+  right-not-wrong (long e s) (three-with-a-cover f d b) = apart state 2 3 (λ h. omega arith) e f
+  right-not-wrong (open-left e s n) (no-state x y z) = z e
+  right-not-wrong (open-left e s n) (two-on-a-short f g) = apart state 3 2 (λ h. omega arith) e f
+  right-not-wrong (open-left e s n) (not-two-on-a-long f g) = no-longer ring s g
+  right-not-wrong (open-left e s n) (three-with-a-cover f d b) = n d b
+
+  -- and if it is declared patched, the set has a cover that is allowed and has no lighter one
+  pub record RightlyPatched : Type 0 where
+    pub cover : Cover
+    pub taken : IsCover ring set cover
+    pub allowed : AllowedHere input laid ring cover
+    pub least : Lighter grid input laid ring cover → ⊥
+
+  pub right-patched : state ≡ 1 → Right grid input laid ring state set → RightlyPatched
+  right-patched f (patched e s c t a n) = record { cover = c; taken = t; allowed = a; least = n }
+  right-patched f (long e s) = absurd (apart state 1 2 (λ h. omega arith) f e)
+  right-patched f (open-left e s n) = absurd (apart state 1 3 (λ h. omega arith) f e)
+
+-- the set is one cover at most: the one with a barred diagonal is not the allowed one, and the one that has a lighter one not the least
+module _ (ring set : List ℕ) (different : Different (length ring) (vertexOf ring)) where
+  one-cover : (c d : Cover) → IsCover ring set c → IsCover ring set d → c ≡ d
+  one-cover c d p q = covered-once (length ring) (vertexOf ring) different (triples (take (share ring) set)) c d (p .covers) (q .covers)
+
+  barred-not-allowed : (input laid : List ℕ) → BarredTaken input laid ring set → (c : Cover) → IsCover ring set c → AllowedHere input laid ring c → ⊥
+  barred-not-allowed input laid b c t a =
+      true≢false
+      (sym (b .barring)
+      ∙ a .free (b .from) (b .to)
+      (subst (λ (x : Cover). Uses 0 (length ring - 1) x (b .from) (b .to)) (one-cover (b .cover) c (b .taken) t) (b .used)))
+
+  heavy-not-least : (grid : List ℤ) (input laid : List ℕ) → HeavyTaken grid input laid ring set → (c : Cover) → IsCover ring set c
+      → (Lighter grid input laid ring c → ⊥) → ⊥
+  heavy-not-least grid input laid h c t n = n (subst (Lighter grid input laid ring) (one-cover (h .cover) c (h .taken) t) (h .lighter))
+
+module _ (grid : List ℤ) (input laid : List ℕ) (l : ℕ) (ring : List ℕ) (state : ℕ) (set : List ℕ) where
+  -- a fault, by its kind
+  data Kind (a : Answer) : Type 0 where
+    misdeclared : a ≡ Misdeclared l → WrongState input laid ring state → Kind a
+    uncovered : a ≡ Uncovered l → DeclaredPatched input laid ring state → NoCoverTaken ring set → Kind a
+    barred : a ≡ Barred l → DeclaredPatched input laid ring state → BarredTaken input laid ring set → Kind a
+    heavy : a ≡ Heavy l → DeclaredPatched input laid ring state → HeavyTaken grid input laid ring set → Kind a
+
+  kind : (a : Answer) → Fault grid input laid l ring state set a → Kind a
+  kind (Misdeclared at) f = misdeclared (ap Misdeclared (f .0)) (f .1)
+  kind (Uncovered at) f = uncovered (ap Uncovered (f .0)) (f .1) (f .2)
+  kind (Barred at) f = barred (ap Barred (f .0)) (f .1) (f .2)
+  kind (Heavy at) f = heavy (ap Heavy (f .0)) (f .1) (f .2)
+  kind Done f = absurd f
+  kind Words f = absurd f
+  kind Corners f = absurd f
+  kind (Buffer b) f = absurd f
+  kind (Unnamed c) f = absurd f
+  kind (Twice t) f = absurd f
+  kind (Repeated h) f = absurd f
+  kind (NotFinite w) f = absurd f
+  kind (TooFar w) f = absurd f
+  kind (States n) f = absurd f
+  kind (Line n) f = absurd f
+  kind (LeftOver c) f = absurd f
+
+  module _ (different : Different (length ring) (vertexOf ring)) where
+    kind-once : (a b : Answer) → Kind a → Kind b → a ≡ b
+    kind-once a b (misdeclared e w) (misdeclared f x) = e ∙ sym f
+    kind-once a b (misdeclared e w) (uncovered f s n) = absurd (s .not-wrong w)
+    kind-once a b (misdeclared e w) (barred f s n) = absurd (s .not-wrong w)
+    kind-once a b (misdeclared e w) (heavy f s n) = absurd (s .not-wrong w)
+    kind-once a b (uncovered e s n) (misdeclared f w) = absurd (s .not-wrong w)
+    kind-once a b (uncovered e s n) (uncovered f t m) = e ∙ sym f
+    kind-once a b (uncovered e s n) (barred f t m) = absurd (n (m .cover) (m .taken))
+    kind-once a b (uncovered e s n) (heavy f t m) = absurd (n (m .cover) (m .taken))
+    kind-once a b (barred e s n) (misdeclared f w) = absurd (s .not-wrong w)
+    kind-once a b (barred e s n) (uncovered f t m) = absurd (m (n .cover) (n .taken))
+    kind-once a b (barred e s n) (barred f t m) = e ∙ sym f
+    kind-once a b (barred e s n) (heavy f t m) = absurd (barred-not-allowed ring set different input laid n (m .cover) (m .taken) (m .allowed))
+    kind-once a b (heavy e s n) (misdeclared f w) = absurd (s .not-wrong w)
+    kind-once a b (heavy e s n) (uncovered f t m) = absurd (m (n .cover) (n .taken))
+    kind-once a b (heavy e s n) (barred f t m) = absurd (barred-not-allowed ring set different input laid m (n .cover) (n .taken) (n .allowed))
+    kind-once a b (heavy e s n) (heavy f t m) = e ∙ sym f
+
+    pub fault-once : (a b : Answer) → Fault grid input laid l ring state set a → Fault grid input laid l ring state set b → a ≡ b
+    fault-once a b p q = kind-once a b (kind a p) (kind b q)
+
+    right-no-kind : (a : Answer) → Right grid input laid ring state set → Kind a → ⊥
+    right-no-kind a r (misdeclared e w) = right-not-wrong grid input laid ring state set r w
+    right-no-kind a r (uncovered e s n) = let p = right-patched grid input laid ring state set (s .is-one) r in n (p .cover) (p .taken)
+    right-no-kind a r (barred e s n) = let p = right-patched grid input laid ring state set (s .is-one) r in barred-not-allowed ring set different input laid n (p .cover) (p .taken) (p .allowed)
+    right-no-kind a r (heavy e s n) = let p = right-patched grid input laid ring state set (s .is-one) r in heavy-not-least ring set different grid input laid n (p .cover) (p .taken) (p .least)
+
+    pub right-no-fault : (a : Answer) → Right grid input laid ring state set → Fault grid input laid l ring state set a → ⊥
+    right-no-fault a r f = right-no-kind a r (kind a f)
+
+-- ---- all loops
+
+pub verdict-once : (grid : List ℤ) (input laid : List ℕ) (l at : ℕ) (rings : List (List ℕ)) (states set : List ℕ) (a b : Answer)
+    → RingsApart rings → Verdict grid input laid l at rings states set a → Verdict grid input laid l at rings states set b → a ≡ b
+verdict-once grid input laid l at [] [] set a b h p q = p ∙ sym q
+verdict-once grid input laid l at [] (s ∷ states) set a b h p q = absurd p
+verdict-once grid input laid l at (r ∷ rings) [] set a b h p q = absurd p
+verdict-once grid input laid l at (r ∷ rings) (s ∷ states) set a b h (inl p) (inl q) =
+    fault-once grid input laid l r s set (h .different 0 (omega arith)) a b p q
+verdict-once grid input laid l at (r ∷ rings) (s ∷ states) set a b h (inl p) (inr q) =
+    absurd (right-no-fault grid input laid l r s set (h .different 0 (omega arith)) a (q .0) p)
+verdict-once grid input laid l at (r ∷ rings) (s ∷ states) set a b h (inr p) (inl q) =
+    absurd (right-no-fault grid input laid l r s set (h .different 0 (omega arith)) b (p .0) q)
+verdict-once grid input laid l at (r ∷ rings) (s ∷ states) set a b h (inr p) (inr q) =
+    let k = taken r s in
+    verdict-once grid input (laid ++ take k set) (suc l) (at + k) rings states (drop k set) a b (rings-rest r rings h) (p .1) (q .1)

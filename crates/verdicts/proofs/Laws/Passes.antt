@@ -1,0 +1,34 @@
+-- A set is passed exactly if all its loops are right and no corner is left over: a fault is never `Done`.
+use mathlib.Core.Path.{_≡_, refl, sym, ap}
+use mathlib.Core.Logic.{inl, inr}
+use mathlib.Core.List.{List, [], _∷_, _++_}
+use Prim.Native.Nat.{ℕ, suc, _+_}
+use native.Mathlib.Omega.{arith}
+use lib.IntN.{ℤ}
+use lib.ListN.{take, drop}
+use Rattle.terms.specs.declared.Answer.the-variants.{Done}
+use Rattle.terms.specs.Answers.{numberOf}
+use Rattle.verdicts.specs.Verdicts.{taken, leftOver, Verdict, AllRight}
+
+none-left : (at : ℕ) (set : List ℕ) → Done ≡ leftOver at set → set ≡ []
+none-left at [] e = refl
+none-left at (x ∷ set) e = absurd (omega (arith, ap numberOf e))
+
+pub passes-right : (grid : List ℤ) (input laid : List ℕ) (l at : ℕ) (rings : List (List ℕ)) (states set : List ℕ)
+    → Verdict grid input laid l at rings states set Done → AllRight grid input laid rings states set
+passes-right grid input laid l at [] [] set v = none-left at set v
+passes-right grid input laid l at [] (s ∷ states) set v = absurd v
+passes-right grid input laid l at (r ∷ rings) [] set v = absurd v
+passes-right grid input laid l at (r ∷ rings) (s ∷ states) set (inl f) = absurd f
+passes-right grid input laid l at (r ∷ rings) (s ∷ states) set (inr v) =
+    let k = taken r s in
+    (v .0, passes-right grid input (laid ++ take k set) (suc l) (at + k) rings states (drop k set) (v .1))
+
+pub right-passes : (grid : List ℤ) (input laid : List ℕ) (l at : ℕ) (rings : List (List ℕ)) (states set : List ℕ)
+    → AllRight grid input laid rings states set → Verdict grid input laid l at rings states set Done
+right-passes grid input laid l at [] [] set h = ap (leftOver at) (sym h)
+right-passes grid input laid l at [] (s ∷ states) set h = absurd h
+right-passes grid input laid l at (r ∷ rings) [] set h = absurd h
+right-passes grid input laid l at (r ∷ rings) (s ∷ states) set h =
+    let k = taken r s in
+    inr (h .0, right-passes grid input (laid ++ take k set) (suc l) (at + k) rings states (drop k set) (h .1))

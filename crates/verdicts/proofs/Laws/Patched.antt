@@ -1,0 +1,51 @@
+-- What a run leaves is right, loop by loop: a patch is the listing of an allowed cover that none is lighter than.
+use mathlib.Core.Path.{_≡_, refl, sym, subst}
+use mathlib.Core.List.{List, [], _∷_, _++_}
+use Prim.Native.Nat.{ℕ}
+use lib.IntN.{ℤ}
+use lib.ListN.{length, take, drop}
+use lib.Seq.{take-at, drop-at}
+use Rattle.covers.proofs.Laws.Corners.{patch-length}
+use Rattle.run.specs.Fates.{Fate, patched, long, uncovered, stateOf, lays, Meets}
+use Rattle.run.specs.Run.{Run, laidBy, statesOf}
+use Rattle.verdicts.specs.Faults as faults
+use Rattle.verdicts.specs.Verdicts.{taken, AllRight}
+use Rattle.verdicts.proofs.Laws.Listing.{patch-is-cover}
+
+module _ (grid : List ℤ) (input laid ring : List ℕ) where
+  -- what a loop lays is as long as what it takes,
+  lays-taken : (f : Fate) → Meets grid input laid ring f → length (lays ring f) ≡ taken ring (stateOf f)
+  lays-taken (patched c) m = patch-length ring c (m .1 .among .covers)
+  lays-taken long m = refl
+  lays-taken uncovered m = refl
+
+  -- and a loop that meets its fate is right, whatever comes behind what it lays
+  pub meets-right : (f : Fate) (rest : List ℕ) → Meets grid input laid ring f
+      → faults.Right grid input laid ring (stateOf f) (lays ring f ++ rest)
+  meets-right (patched c) rest m =
+      faults.patched refl (m .0) c (patch-is-cover ring c rest (m .1 .among .covers)) (m .1 .among)
+      (λ x. m .1 .least (x .other) (x .allowed) (x .lighter))
+  meets-right long rest m = faults.long refl m
+  meets-right uncovered rest m = faults.open-left refl (m .0) (m .1)
+
+  -- it takes what it laid, and leaves the rest
+  takes-laid : (f : Fate) (rest : List ℕ) → Meets grid input laid ring f → take (taken ring (stateOf f)) (lays ring f ++ rest) ≡ lays ring f
+  takes-laid f rest m = take-at (lays ring f) rest (taken ring (stateOf f)) (lays-taken f m)
+
+  leaves-rest : (f : Fate) (rest : List ℕ) → Meets grid input laid ring f → drop (taken ring (stateOf f)) (lays ring f ++ rest) ≡ rest
+  leaves-rest f rest m = drop-at (lays ring f) rest (taken ring (stateOf f)) (lays-taken f m)
+
+pub run-right : (grid : List ℤ) (input laid : List ℕ) (rings : List (List ℕ)) (fates : List Fate)
+    → Run grid input laid rings fates → AllRight grid input laid rings (statesOf fates) (laidBy rings fates)
+run-right grid input laid [] [] p = refl
+run-right grid input laid [] (f ∷ fates) p = absurd p
+run-right grid input laid (r ∷ rings) [] p = absurd p
+run-right grid input laid (r ∷ rings) (f ∷ fates) p =
+    let rest = laidBy rings fates in (
+      meets-right grid input laid r f rest (p .0),
+      subst (λ (s : List ℕ). AllRight grid input (laid ++ s) rings (statesOf fates) (drop (taken r (stateOf f)) (lays r f ++ rest)))
+          (sym (takes-laid grid input laid r f rest (p .0)))
+          (subst (AllRight grid input (laid ++ lays r f) rings (statesOf fates))
+          (sym (leaves-rest grid input laid r f rest (p .0)))
+          (run-right grid input (laid ++ lays r f) rings fates (p .1))),
+    )

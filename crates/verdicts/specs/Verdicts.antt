@@ -1,0 +1,47 @@
+-- The verdict on a patch set, over all loops in listed order.
+use mathlib.Core.Path.{_≡_}
+use mathlib.Core.Bool.{cond}
+use mathlib.Core.Logic.{_⊎_}
+use mathlib.Core.List.{List, [], _∷_, _++_}
+use Prim.Native.Nat.{ℕ, suc, _+_}
+use lib.Dec.{eqb}
+use lib.IntN.{ℤ}
+use lib.ListN.{take, drop}
+use Rattle.terms.specs.declared.Answer.{Answer}
+use Rattle.terms.specs.declared.Answer.the-variants.{Done, LeftOver}
+use Rattle.verdicts.specs.Faults.{share, Right, Fault}
+
+-- only a loop that is declared patched takes corners
+abbrev pub taken : List ℕ → ℕ → ℕ
+taken ring state = cond (eqb state 1) (share ring) 0
+
+-- 15: "corners left after the last loop", and the "index of the first"
+abbrev pub leftOver : ℕ → List ℕ → Answer
+leftOver at [] = Done
+leftOver at (x ∷ set) = LeftOver at
+
+-- The verdict a, where loop l is the first of these rings and `at` corners were taken before it: "the first loop that has one decides;
+-- 15 comes last".
+abbrev pub Verdict : List ℤ → List ℕ → List ℕ → ℕ → ℕ → List (List ℕ) → List ℕ → List ℕ → Answer → Type 0
+Verdict grid input laid l at [] [] set a = a ≡ leftOver at set
+Verdict grid input laid l at [] (s ∷ states) set a = ⊥
+Verdict grid input laid l at (r ∷ rings) [] set a = ⊥
+Verdict grid input laid l at (r ∷ rings) (s ∷ states) set a =
+    let k = taken r s in
+    Fault grid input laid l r s set a
+    ⊎ (Right grid input laid r s set × Verdict grid input (laid ++ take k set) (suc l) (at + k) rings states (drop k set) a)
+
+-- No corner is left over, and loop by loop each loop is right.
+abbrev pub AllRight : List ℤ → List ℕ → List ℕ → List (List ℕ) → List ℕ → List ℕ → Type 0
+AllRight grid input laid [] [] set = set ≡ []
+AllRight grid input laid [] (s ∷ states) set = ⊥
+AllRight grid input laid (r ∷ rings) [] set = ⊥
+AllRight grid input laid (r ∷ rings) (s ∷ states) set =
+    let k = taken r s in
+    Right grid input laid r s set × AllRight grid input (laid ++ take k set) rings states (drop k set)
+
+-- what each loop takes of the set
+abbrev pub parts : List (List ℕ) → List ℕ → List ℕ → List (List ℕ)
+parts [] states set = []
+parts (r ∷ rings) [] set = []
+parts (r ∷ rings) (s ∷ states) set = let k = taken r s in take k set ∷ parts rings states (drop k set)

@@ -1,0 +1,24 @@
+/* Surfaces laid triangle by triangle, among them sheets of as many triangles as there may be, for tests against the reference. */
+
+#ifndef SHEETS_H
+#define SHEETS_H
+
+#include "generate.h"
+
+/* The bits of a whole number on the plate. */
+uint32_t sheet_word(int32_t whole);
+
+void sheet_add_triangle(struct generated_surface *surface, size_t a, size_t b, size_t c);
+
+/* A cone about a hub, without the triangles that repeat a half-edge of its rim. */
+void sheet_add_cone(struct generated_surface *surface, const uint16_t *rim, size_t length, uint16_t hub);
+
+/* Cones with rims of 4 to 64 edges over a common stock of points, so that a
+   patch of one bars diagonals of the next; buffers exact. */
+void sheet_make_cones(struct generator *generator, struct generated_surface *surface);
+
+/* The full sheet of that number, its points anywhere on the plate, buffers
+   exact; gives its name, or 0 where there is no sheet of that number. */
+const char *sheet_make(struct generator *generator, size_t sheet, struct generated_surface *surface);
+
+#endif
