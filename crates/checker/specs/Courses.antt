@@ -1,12 +1,19 @@
 -- The verdict over all loops, as the code takes it: these definitions are the code's own, and no part of a promise.
 use mathlib.Core.Path.{_≡_}
 use mathlib.Core.List.{List, []}
-use Prim.Native.Nat.{ℕ}
+use Prim.Native.Nat.{ℕ, _/_, _≤_}
 use lib.IntN.{ℤ}
 use lib.ListN.{length}
 use Rattle.terms.specs.declared.Answer.{Answer}
 use Rattle.rounds.specs.Rings.{Loops, Input, Plain}
+use Rattle.rounds.specs.Scratch.{Scratch}
 use Rattle.verdicts.specs.Verdicts.{Verdict}
+
+-- room to list the loops apart from the lent buffers
+pub record ListingRoom (words corners turns path places rings lengths : List ℕ) : Type 0 where
+  pub scratch : Scratch words corners turns path places
+  pub rings-long : length corners ≤ length rings
+  pub lengths-long : length corners / 3 ≤ length lengths
 
 pub record VerdictRoom (grid : List ℤ) (input rings lengths states : List ℕ) : Type 0 where
   pub rs : List (List ℕ)

@@ -98,7 +98,7 @@ fn judge_open(
     ensures { λ r. ⌜ FindsOpen (now (grid .entry)) (now (ring .entry)) l (now (heads .entry)) (now (links .entry)) (now (ends .entry)) (now (marks .entry)) base (now (rows .entry)) (now (table .entry)) r (now (marks .exit)) (now (rows .exit)) (now (table .exit)) ⌝ }
 {
     bars::bars_of(ring, heads, links, ends, marks, base, rows);
-    let least = table::least_weight(grid, ring, rows, table);
+    let least = laying::least(grid, ring, rows, table);
     match least {
         Least::Nothing => Answer::Done,
         Least::Weight(_) => Answer::Misdeclared(l),
@@ -166,7 +166,7 @@ fn judge_weight(
     requires { ⌜ WeightRoom (now grid) (now ring) (now part) (now rows) (now table) ⌝ }
     ensures { λ r. ⌜ FindsWeight (now (grid .entry)) (now (ring .entry)) (now (part .entry)) l (now (rows .entry)) r ⌝ }
 {
-    let least = table::least_weight(grid, ring, rows, table);
+    let least = laying::least(grid, ring, rows, table);
     let Least::Weight(weight) = least else {
         return Answer::Done;
     };

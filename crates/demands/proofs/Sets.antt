@@ -2,23 +2,22 @@
 use mathlib.Core.Path.{_≡_, refl, sym, ap, _∙_, subst}
 use mathlib.Core.Bool.{Bool, true, false, true≢false}
 use mathlib.Core.List.{List, [], _++_, flatten}
-use Prim.Native.Nat.{ℕ, _*_, _≤_, _<_}
+use Prim.Native.Nat.{ℕ, _*_, _≤_}
 use native.Mathlib.Omega.{arith}
 use borrow.Author.Tests.{eqb-true, eqb-false}
 use lib.Dec.{eqb}
 use lib.IntN.{ℤ}
-use lib.ListN.{length, getD, take, drop, length-map, List·getD-map}
+use lib.ListN.{length, take, drop, length-map}
 use lib.Seq.{take-append-seam}
 use Rattle.terms.specs.Answers.{refusing, numberOf}
 use Rattle.terms.specs.declared.Answer.{Answer}
 use Rattle.terms.specs.declared.Answer.the-variants.{Done, States}
-use Rattle.surface.specs.Edges.{Sound, startOf}
+use Rattle.surface.specs.Edges.{Sound}
 use Rattle.surface.specs.Buffers.{over}
 use Rattle.surface.specs.Refusals.{refusal}
 use Rattle.surface.proofs.Laws.Sound.{Passed, passed, passes, passed-sound}
 use Rattle.loops.specs.Loops.{loops, ring}
-use Rattle.loops.proofs.Laws.Distinct.{Distinct}
-use Rattle.loops.proofs.Theorems.{three-or-more, no-vertex-twice, vertices-in-all, vertices-few}
+use Rattle.loops.proofs.Theorems.{vertices-in-all, vertices-few}
 use Rattle.survey.specs.Grid.{gridOf}
 use Rattle.survey.specs.Outcome as survey
 use Rattle.run.specs.Fates.{Fate}
@@ -26,11 +25,12 @@ use Rattle.run.specs.Run.{Run, ringList, statesOf, laidBy}
 use Rattle.run.proofs.Laws.Grows.{run-length}
 use Rattle.run.proofs.Laws.Lengths.{laid-length, states-length}
 use Rattle.verdicts.specs.Verdicts.{Verdict, AllRight}
-use Rattle.verdicts.proofs.Laws.Once.{RingsApart, verdict-once}
+use Rattle.verdicts.proofs.Laws.Once.{verdict-once}
 use Rattle.verdicts.proofs.Laws.Passes.{passes-right, right-passes}
 use Rattle.verdicts.proofs.Laws.Patched.{run-right}
 use Rattle.verdicts.proofs.Laws.Filled.{right-filled, parts-all, part-empty, empty-part}
 use Rattle.patcher.specs.Outcome as patcher
+use Rattle.checker.proofs.Laws.Apart.{rings-apart}
 use Rattle.checker.specs.Outcome.{JudgesCounted, JudgesIf, Judges}
 use Rattle.demands.specs.Sets.{begins, Passable, Closes, CheckerDemand, statesLeft, setLeft, PatcherDemand}
 use Rattle.demands.proofs.Closing.{closing-demand}
@@ -41,19 +41,6 @@ use Rattle.demands.proofs.Passable.{right-each, right-none-left, each-r
 module _ (corners : List ℕ) (sound : Sound corners) where
   many : length (ringList corners) ≡ length (loops corners)
   many = length-map (loops corners) (ring corners)
-
-  ring-at : (l : ℕ) → getD (ringList corners) l [] ≡ ring corners (getD (loops corners) l [])
-  ring-at l = List·getD-map (ring corners) (loops corners) l []
-
-  apart : RingsApart (ringList corners)
-  unfolding Distinct
-  apart = record {
-    three = λ l b.
-        let a : 3 ≤ length (getD (loops corners) l []) = three-or-more corners sound l (omega (arith, many)) in
-        let c : length (getD (ringList corners) l []) ≡ length (getD (loops corners) l []) = ap length (ring-at l) ∙ length-map (getD (loops corners) l []) (startOf corners) in
-        omega arith;
-    different = λ l b. subst (λ (r : List ℕ). (i j : ℕ) → i < length r → j < length r → getD r i 0 ≡ getD r j 0 → i ≡ j) (sym (ring-at l)) (no-vertex-twice corners sound l (omega (arith, many)));
-  }
 
   -- ---- a set whose loops are all right
 
@@ -75,7 +62,7 @@ module _ (corners : List ℕ) (sound : Sound corners) where
     closes h = record {
       whole = parts-all grid corners [] (ringList corners) states set h;
       closing = closing-demand corners _ sound (right-filled grid corners [] (ringList corners) states set h);
-      open-or-long = λ l b. part-empty grid corners [] (ringList corners) states set h apart l (omega (arith, many));
+      open-or-long = λ l b. part-empty grid corners [] (ringList corners) states set h (rings-apart corners sound) l (omega (arith, many));
       takes-nothing = empty-part (ringList corners) states set;
     }
 
@@ -111,7 +98,7 @@ module _ (words corners states set : List ℕ) (b : survey.Buffers) (o : survey.
         record {
           passed-only = λ d. passable corners sound (gridOf words) states set (right d) (sym (eqb-true (length (loops corners)) (length states) n));
           passed-always = λ f p.
-              said ∙ verdict-once (gridOf words) corners [] 0 0 (ringList corners) states set a Done (apart corners sound) v
+              said ∙ verdict-once (gridOf words) corners [] 0 0 (ringList corners) states set a Done (rings-apart corners sound) v
               (right-passes (gridOf words) corners [] 0 0 (ringList corners) states set (all-right corners sound (gridOf words) states set p));
           closes = λ d. closes corners sound (gridOf words) states set (right d);
         }

@@ -13,7 +13,7 @@ use Rattle.covers.specs.Covers.{Cover, empty, apex, Patch, NoCover, weight, pat
 use Rattle.weight.specs.Edition.{naturals, triOf, along}
 use Rattle.table.specs.declared.Least.{Least}
 use Rattle.table.specs.declared.Least.the-variants.{Weight, Nothing}
-use Rattle.table.specs.Loops.{OnGrid, Barring, LoopRoom}
+use Rattle.table.specs.Loops.{OnGrid, Barring, LoopRoom, LeastIs}
 
 -- a loop, a table for its weights, and room for its triangles from p on
 pub record PatchRoom (grid : List ℤ) (ring bars : List ℕ) (table : List Float) (buffer : List ℕ) (p : ℕ) : Type 0 where
@@ -32,6 +32,10 @@ LaysIf grid ring barred buffer p Nothing buffer′ = NoCover barred 0 (length ri
 -- so it is by whatever bars these rows are
 abbrev pub LaysPatch : List ℤ → List ℕ → List ℕ → List ℕ → ℕ → Least → List ℕ → Type 0
 LaysPatch grid ring bars buffer p r buffer′ = (barred : ℕ → ℕ → Bool) → Barring barred ring bars → LaysIf grid ring barred buffer p r buffer′
+
+-- the answer is the least weight of the allowed covers, by whatever bars these rows are
+abbrev pub FindsLeast : List ℤ → List ℕ → List ℕ → Least → Type 0
+FindsLeast grid ring bars r = (barred : ℕ → ℕ → Bool) → Barring barred ring bars → LeastIs grid ring barred r
 
 -- ---- a loop of three, which has one cover
 

@@ -1,17 +1,15 @@
 // Lists the patch of a loop from the table of least weights. The table keeps weights only, so the apexes are found again along the way.
 ghost use mathlib.Core.Path.{_≡_};
-ghost use mathlib.Core.Bool.{true, false};
 ghost use mathlib.Core.List.{[], _∷_};
-ghost use Prim.Native.Nat.{ℕ, suc, _+_, _*_, _^_, _<_, _≤_};
-ghost use lib.ListN.{length, getD};
+ghost use Prim.Native.Nat.{suc, _+_, _^_, _<_, _≤_};
+ghost use lib.ListN.{length};
 ghost use Rattle.surface.specs.Buffers.{laid};
 ghost use Rattle.covers.specs.Covers.{vertexOf};
-ghost use Rattle.table.specs.Loops.{OnGrid};
+ghost use Rattle.table.specs.Loops.{OnGrid, LoopRoom};
 ghost use Rattle.laying.specs.Ways.{triangleOf, TriangleRoom, Weighable, IsWay, Middle};
 ghost use Rattle.laying.specs.Lists.{ListRoom, Lists};
-ghost use Rattle.laying.specs.Patches.{PatchRoom, LaysPatch, ThreeRoom, LaysThree, FourRoom, FourOn, byOne, byTwo, GoesByTwo};
+ghost use Rattle.laying.specs.Patches.{PatchRoom, LaysPatch, ThreeRoom, LaysThree, FourRoom, FourOn, byOne, byTwo, GoesByTwo, FindsLeast};
 ghost use Rattle.weight.specs.Edition.{triOf, along};
-ghost use Rattle.masks.specs.Masks.{bit};
 use column::WS;
 use column::YS;
 use column::ZS;
@@ -121,6 +119,34 @@ fn lay_four(grid: &[i32], ring: &[u16], bars: &[u64], out: &mut [u16], p: usize)
     }
     lay(ring, out, p, 0, 3, 1);
     lay(ring, out, p + 3, 1, 3, 2);
+    Least::Weight(by_one(grid, ring))
+}
+
+// The least weight of the loop's allowed covers, or that it has none: for a caller that lists no patch.
+pub fn least(grid: &[i32], ring: &[u16], bars: &[u64], table: &mut [f64]) -> Least
+    requires { ⌜ LoopRoom (now grid) (now ring) (now bars) (now table) ⌝ }
+    ensures { λ r. ⌜ FindsLeast (now (grid .entry)) (now (ring .entry)) (now (bars .entry)) r ⌝ }
+{
+    if ring.len() == 4 {
+        return least_four(grid, ring, bars);
+    }
+    table::least_weight(grid, ring, bars, table)
+}
+
+// The same of a loop of four.
+fn least_four(grid: &[i32], ring: &[u16], bars: &[u64]) -> Least
+    requires { ⌜ FourOn (now grid) (now ring) (now bars) ⌝ }
+    ensures { λ r. ⌜ FindsLeast (now (grid .entry)) (now (ring .entry)) (now (bars .entry)) r ⌝ }
+{
+    if masks::is_set(bars[0], 3) {
+        return Least::Nothing;
+    }
+    if goes_by_two(grid, ring, bars) {
+        return Least::Weight(by_two(grid, ring));
+    }
+    if masks::is_set(bars[1], 3) {
+        return Least::Nothing;
+    }
     Least::Weight(by_one(grid, ring))
 }
 

@@ -1,4 +1,3 @@
 pub mod Outcome
 pub mod Turns
 pub mod Courses
-pub mod Scratch

@@ -7,14 +7,11 @@ ghost use Prim.Native.Nat.{_/_, _≤_};
 ghost use lib.ListN.{length};
 ghost use Rattle.terms.specs.declared.Answer.the-variants.{Done};
 ghost use Rattle.surface.specs.Refusals.{countRefusal};
+ghost use Rattle.rounds.specs.Scratch.{few, Scratch};
 ghost use Rattle.patcher.specs.Outcome.{outcome, buffers, Patches};
-ghost use Rattle.patcher.specs.Scratch.{few, Scratch};
+use rounds::FEW;
 use terms::Answer;
 use terms::Surface;
-
-// A surface with no more points and no more corners than this is patched with room for as many, and not for as many as a surface
-// may have: to clear that would take longer than to patch it.
-const FEW: usize = 48;
 
 // What the patcher answers: done or a refusal, how many loops there are, how many vertices their rings have, and how many corners
 // were laid.

@@ -4,6 +4,10 @@ ghost use mathlib.Core.Bool.{false};
 ghost use Rattle.rounds.specs.Rings.{Plain};
 use terms::Loop;
 
+// A surface with no more points and no more corners than this is worked on with room for as many, and not for as many as a surface
+// may have: to clear that would take longer than the work.
+pub const FEW: usize = 48;
+
 // Whether some loop has more than three edges and is not long: only such loops need bars and a table.
 pub fn any_middling(lengths: &[u16]) -> bool
     ensures { λ r. ⌜ (r ≡ false → Plain (now (lengths .entry))) ⌝ }

@@ -18,17 +18,19 @@ use Rattle.surface.proofs.Laws.Thens.{then-refused, then-next, count-plain, con
 use Rattle.loops.specs.Loops.{loops, ring}
 use Rattle.loops.proofs.Theorems.{vertices-in-all, vertices-few, loops-third}
 use Rattle.finder.specs.Listing.{Ready, Lists, ringsOf}
+use Rattle.finder.specs.Listing as listing
 use Rattle.finder.specs.declared.Listed.{Listed}
 use Rattle.survey.specs.Grid.{wholeOf, gridOf, OnGrid}
-use Rattle.survey.specs.Checks.{Counted, Passed, Checked}
+use Rattle.survey.specs.Checks.{Fitted, Passed, Checked}
 use Rattle.survey.specs.Outcome.{Buffers, Outcome, buffers, refused, needs, lent}
 use Rattle.run.specs.Run.{ringList}
 use Rattle.verdicts.specs.Verdicts.{Verdict}
 use Rattle.rounds.specs.Rings.{Loops}
+use Rattle.rounds.specs.Scratch.{few}
 use Rattle.rounds.proofs.Laws.Rings.{loops-of}
 use Rattle.checker.specs.Outcome.{outcome, judged, Judges}
 use Rattle.checker.specs.declared.Judged.{Judged}
-use Rattle.checker.specs.Courses.{VerdictRoom, Gives}
+use Rattle.checker.specs.Courses.{ListingRoom, VerdictRoom, Gives}
 use Rattle.checker.proofs.Laws.Fronts.{start-of, front-in}
 
 -- a refusal as the code makes it
@@ -48,14 +50,35 @@ module _ (words corners : List ℕ) (b : Buffers) where
   counts-refuse states set r a e c t = decided states set a (outcome r b) (then-refused (countRefusal (length words) (length corners)) _ (ap refusing (sym c) ∙ t) ∙ sym c) t (refused-is r a e)
 
   module _ (a : Answer) (c : a ≡ countRefusal (length words) (length corners)) (f : refusing a ≡ false) where
-    counts-done : countRefusal (length words) (length corners) ≡ Done
+    pub counts-done : countRefusal (length words) (length corners) ≡ Done
     counts-done = done-of (countRefusal (length words) (length corners)) (count-plain (length words) (length corners)) (ap refusing (sym c) ∙ f)
 
     fits : Fitting (length words) (length corners)
     fits = counts-fit (length words) (length corners) counts-done
 
-    pub counted : (table : List ℕ) → limits.corners ≤ length table → Counted words corners table
+    pub counted : (table : List ℕ) → length corners ≤ length table → Fitted words corners table
     counted table l = record { counts = counts-done; long = l }
+
+    -- room for few is room for this surface if it has few points and corners
+    pub listing-few : length words / 3 ≤ few → length corners ≤ few
+        → (turns path places rings lengths : List ℕ) → few ≤ length turns → few ≤ length path → few ≤ length places → few ≤ length rings → few ≤ length lengths
+        → ListingRoom words corners turns path places rings lengths
+    listing-few p q turns path places rings lengths t u v x y = record {
+      scratch = record { counts = counts-done; turns-long = le-trans q t; path-long = le-trans q u; places-long = le-trans p v };
+      rings-long = le-trans q x;
+      lengths-long = omega arith;
+    }
+
+    -- room for any surface is room for this one
+    pub listing-most : (turns path places rings lengths : List ℕ) → limits.corners ≤ length turns → limits.corners ≤ length path → limits.points ≤ length places → limits.corners ≤ length rings → limits.triangles ≤ length lengths
+        → ListingRoom words corners turns path places rings lengths
+    listing-most turns path places rings lengths t u v x y =
+        let q : length corners ≤ limits.corners = fits .few-corners in
+        record {
+          scratch = record { counts = counts-done; turns-long = le-trans q t; path-long = le-trans q u; places-long = omega (arith, fits .few-words) };
+          rings-long = le-trans q x;
+          lengths-long = omega arith;
+        }
 
     to-content : refusal words corners (lent b) (needs words corners) ≡ contentRefusal words corners (lent b) (needs words corners)
     unfolding refusal
@@ -78,7 +101,7 @@ module _ (words corners : List ℕ) (b : Buffers) where
       grid-ready = (passes .on-grid, passes .long 0 (omega arith))
 
       -- the loops are listed apart from the lent buffers
-      pub ready : (rings lengths firsts : List ℕ) → limits.corners ≤ length table → limits.corners ≤ length rings → limits.triangles ≤ length lengths → limits.triangles ≤ length firsts
+      pub ready : (rings lengths firsts : List ℕ) → length corners ≤ length table → length corners ≤ length rings → length corners / 3 ≤ length lengths → limits.triangles ≤ length firsts
           → Ready corners table rings lengths firsts
       ready rings lengths firsts l m n o =
           let w = passes .woven in
@@ -88,11 +111,14 @@ module _ (words corners : List ℕ) (b : Buffers) where
             few = q;
             named = λ i h. omega (arith, w .named i h, fits .few-words);
             table = w .turns;
-            table-long = le-trans q l;
-            rings-long = le-trans q m;
-            lengths-long = omega arith;
+            table-long = l;
+            rings-long = m;
+            lengths-long = n;
             firsts-long = omega arith;
           }
+
+      pub lent-long : (path places : List ℕ) → length corners ≤ length path → length words / 3 ≤ length places → listing.Lent corners path places
+      lent-long path places p q = record { path-long = p; named = λ i h. omega (arith, passes .woven .named i h) }
 
       the-loops : Loops (gridOf words) corners (ringList corners) (ringsOf corners (loops corners)) (map length (loops corners))
       the-loops = loops-of words corners table (passes .woven) (passes .on-grid) (fits .few-words) (fits .few-corners)

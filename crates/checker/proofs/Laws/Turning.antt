@@ -18,7 +18,8 @@ use Rattle.bars.specs.Chains.{Tells, BarsRoom, BarsDone}
 use Rattle.bars.proofs.Laws.Barring.{tells-walkable}
 use Rattle.table.specs.declared.Least.{Least}
 use Rattle.table.specs.declared.Least.the-variants.{Weight, Nothing}
-use Rattle.table.specs.Loops.{OnGrid, Barring, LoopRoom, LeastIs, Found}
+use Rattle.table.specs.Loops.{OnGrid, Barring, LoopRoom, LeastIs}
+use Rattle.laying.specs.Patches.{FindsLeast}
 use Rattle.reading.specs.Keys.{Ringed}
 use Rattle.reading.specs.Chaining as chaining
 use Rattle.run.proofs.Laws.Three.{sides-free}
@@ -29,7 +30,7 @@ use Rattle.verdicts.specs.Faults.{share, Right, patched, long, open-left, no-st
 use Rattle.verdicts.specs.Verdicts.{taken}
 use Rattle.verdicts.proofs.Laws.Filled.{taken-patched, part-none}
 use Rattle.verdicts.proofs.Laws.Once.{right-patched}
-use Rattle.checker.specs.Turns.{right, fault, PlainRoom, FindsPlain, CoverRoom, FindsCover, LoopTurn, FindsLoop, FindsPatched, OpenTurn, FindsOpen}
+use Rattle.checker.specs.Turns.{right, PlainRoom, FindsPlain, CoverRoom, FindsCover, LoopTurn, FindsLoop, FindsPatched, OpenTurn, FindsOpen}
 use Rattle.checker.proofs.Laws.Findings.{declared-patched, done-right, judging-fault}
 use Rattle.checker.proofs.Laws.Threes.{three-told}
 use Rattle.checker.proofs.Laws.Weighed.{cover-part}
@@ -138,9 +139,9 @@ module _ (grid : List ℤ) (ring heads links ends marks : List ℕ) (base : ℕ)
           table-long = turn .bench .table-long;
         }
 
-    module _ (l : ℕ) (least : Least) (table′ : List Float) (found : Found grid ring rows′ least table′) where
+    module _ (l : ℕ) (least : Least) (table′ : List Float) (found : FindsLeast grid ring rows′ least) where
       least-is : (r : Least) → least ≡ r → (input before : List ℕ) (f : ℕ) → Tells input before f heads links ends → LeastIs grid ring (barred input before ring) r
-      least-is r is input before f t = subst (LeastIs grid ring (barred input before ring)) is (found (barred input before ring) (barring input before f t) .0)
+      least-is r is input before f t = subst (LeastIs grid ring (barred input before ring)) is (found (barred input before ring) (barring input before f t))
 
       pub open-right : least ≡ Nothing → length table′ ≡ length table → FindsOpen grid ring l heads links ends marks base rows table Done marks′ rows′ table′
       open-right is same set f input before g b =

@@ -18,7 +18,8 @@ use Rattle.masks.specs.Masks.{Rows}
 use Rattle.bars.specs.Bars.{barred}
 use Rattle.table.specs.declared.Least.{Least}
 use Rattle.table.specs.declared.Least.the-variants.{Weight, Nothing}
-use Rattle.table.specs.Loops.{Barring, LoopRoom, LeastIs, Found}
+use Rattle.table.specs.Loops.{Barring, LoopRoom, LeastIs}
+use Rattle.laying.specs.Patches.{FindsLeast}
 use Rattle.reading.specs.declared.Reading.{Reading}
 use Rattle.reading.specs.declared.Reading.the-variants as reading
 use Rattle.reading.specs.Reading.{Covering, Reads}
@@ -59,9 +60,9 @@ module _ (grid : List ℤ) (ring part rows : List ℕ) (table : List Float) (roo
         let n : length part ≡ share ring = room .long in let k : length ring ≤ limits.longest = room .on .few in omega arith,
       )
 
-  module _ (l : ℕ) (least : Least) (table′ : List Float) (found : Found grid ring rows least table′) where
+  module _ (l : ℕ) (least : Least) (found : FindsLeast grid ring rows least) where
     least-is : (r : Least) → least ≡ r → (input before : List ℕ) → Barring (barred input before ring) ring rows → LeastIs grid ring (barred input before ring) r
-    least-is r is input before b = subst (LeastIs grid ring (barred input before ring)) is (found (barred input before ring) b .0)
+    least-is r is input before b = subst (LeastIs grid ring (barred input before ring)) is (found (barred input before ring) b)
 
     -- with an allowed cover there is a least weight
     pub weight-none : least ≡ Nothing → FindsWeight grid ring part l rows Done

@@ -14,15 +14,18 @@ use lib.ListN.{length, getD}
 use Rattle.surface.specs.Buffers.{laid}
 use Rattle.surface.proofs.Laws.Laid.{laid-then}
 use Rattle.covers.specs.Covers.{Cover, empty, apex, Covers, Allowed, NoCover, Sooner, weight, Patch, vertexOf}
+use Rattle.covers.specs.Least as covers
+use Rattle.covers.proofs.Laws.Least.{patch-least}
 use Rattle.covers.proofs.Laws.Parts.{allowed-apex, allowed-after, allowed-before, allowed-free}
-use Rattle.weight.specs.Weight.{Names, Coordinates}
+use Rattle.weight.specs.Weight.{Coordinates}
 use Rattle.weight.specs.Edition.{naturals, triOf, along}
 use Rattle.weight.proofs.Laws.Named.{named-on-grid}
 use Rattle.weight.proofs.Laws.Bounds.{weight-most}
 use Rattle.masks.specs.Masks.{bit}
 use Rattle.table.specs.declared.Least.the-variants.{Weight, Nothing}
-use Rattle.table.specs.Loops.{Barring}
-use Rattle.laying.specs.Patches.{PatchRoom, LaysPatch, oneWay, twoWay, FourRoom, byOne, byTwo, GoesByTwo}
+use Rattle.table.specs.declared.Least.{Least}
+use Rattle.table.specs.Loops.{Barring, LoopRoom, Found}
+use Rattle.laying.specs.Patches.{PatchRoom, LaysPatch, oneWay, twoWay, FourOn, FourRoom, byOne, byTwo, GoesByTwo, FindsLeast}
 
 -- ---- there are no others
 
@@ -120,27 +123,61 @@ module _ (barred : ℕ → ℕ → Bool) where
           (four-only d (a .covers));
     }
 
--- ---- what is laid
+-- ---- the least weight
 
-module _ (grid : List ℤ) (ring bars buffer : List ℕ) (p : ℕ) (r : FourRoom grid ring bars buffer p) where
-  pub four-named : (j : ℕ) → j < 4 → Names grid (vertexOf ring j)
-  four-named j h = r .there .on .named j (subst (λ (n : ℕ). j < n) (sym (r .there .four)) h)
-
-  pub four-inside : (j : ℕ) → j < 4 → j < length ring
-  four-inside j h = subst (λ (n : ℕ). j < n) (sym (r .there .four)) h
-
+module _ (grid : List ℤ) (ring bars : List ℕ) (r : FourOn grid ring bars) where
   told : (barred : ℕ → ℕ → Bool) → Barring barred ring bars → (a b : ℕ) → a < 4 → b < 4 → bit (getD bars a 0) b ≡ barred a b
-  told barred k a b l m = k .rows .tells a b (four-inside a l) (omega arith)
+  told barred k a b l m = k .rows .tells a b (subst (λ (n : ℕ). a < n) (sym (r .four)) l) (omega arith)
 
   -- no cover is allowed
-  pub four-closed : bit (getD bars 0 0) 3 ≡ true → LaysPatch grid ring bars buffer p Nothing buffer
-  four-closed t barred k = rw (r .there .four) (none-closed barred (sym (told barred k 0 3 (lit< tt) (lit< tt)) ∙ t), refl)
+  pub least-closed : bit (getD bars 0 0) 3 ≡ true → FindsLeast grid ring bars Nothing
+  least-closed t barred k = rw (r .four) (none-closed barred (sym (told barred k 0 3 (lit< tt) (lit< tt)) ∙ t))
 
-  pub four-across : bit (getD bars 1 0) 3 ≡ true → bit (getD bars 0 0) 2 ≡ true → LaysPatch grid ring bars buffer p Nothing buffer
-  four-across s t barred k = rw (r .there .four) (none-across barred (sym (told barred k 1 3 (lit< tt) (lit< tt)) ∙ s) (sym (told barred k 0 2 (lit< tt) (lit< tt)) ∙ t), refl)
+  pub least-across : bit (getD bars 1 0) 3 ≡ true → bit (getD bars 0 0) 2 ≡ true → FindsLeast grid ring bars Nothing
+  least-across s t barred k = rw (r .four) (none-across barred (sym (told barred k 1 3 (lit< tt) (lit< tt)) ∙ s) (sym (told barred k 0 2 (lit< tt) (lit< tt)) ∙ t))
 
   abbrev at : ℕ → ℕ → ℕ → ℕ
   at = triOf (along grid ring)
+
+  module _ (barred : ℕ → ℕ → Bool) (k : Barring barred ring bars) (f : bit (getD bars 0 0) 3 ≡ false) where
+    -- the cover by the apex 1
+    pub patch-one : bit (getD bars 1 0) 3 ≡ false → (bit (getD bars 0 0) 2 ≡ false → byOne grid ring ≤ byTwo grid ring) → Patch naturals at barred 0 3 oneWay
+    patch-one g l =
+        one-best barred at (sym (told barred k 0 3 (lit< tt) (lit< tt)) ∙ f) (sym (told barred k 1 3 (lit< tt) (lit< tt)) ∙ g)
+        (λ h. let m : byOne grid ring ≤ byTwo grid ring = l (told barred k 0 2 (lit< tt) (lit< tt) ∙ h) in omega arith)
+
+    -- the cover by the apex 2
+    pub patch-two : bit (getD bars 0 0) 2 ≡ false → (bit (getD bars 1 0) 3 ≡ false → byTwo grid ring < byOne grid ring) → Patch naturals at barred 0 3 twoWay
+    patch-two g l =
+        two-best barred at (sym (told barred k 0 3 (lit< tt) (lit< tt)) ∙ f) (sym (told barred k 0 2 (lit< tt) (lit< tt)) ∙ g)
+        (λ h. let m : byTwo grid ring < byOne grid ring = l (told barred k 1 3 (lit< tt) (lit< tt) ∙ h) in omega arith)
+
+  patch-weighs : (barred : ℕ → ℕ → Bool) (c : Cover) → Patch naturals at barred 0 3 c → (w : ℕ) → w ≡ weight naturals at 0 3 c → covers.Least naturals at barred 0 3 w
+  patch-weighs barred c p w e = subst (covers.Least naturals at barred 0 3) (sym e) (patch-least naturals at barred 0 3 c p)
+
+  pub least-one : bit (getD bars 0 0) 3 ≡ false → bit (getD bars 1 0) 3 ≡ false → (bit (getD bars 0 0) 2 ≡ false → byOne grid ring ≤ byTwo grid ring)
+      → (w : ℕ) → w ≡ byOne grid ring → FindsLeast grid ring bars (Weight w)
+  least-one f g l w e barred k = rw (r .four) (patch-weighs barred oneWay (patch-one barred k f g l) w (e ∙ omega arith))
+
+  pub least-two : bit (getD bars 0 0) 3 ≡ false → bit (getD bars 0 0) 2 ≡ false → (bit (getD bars 1 0) 3 ≡ false → byTwo grid ring < byOne grid ring)
+      → (w : ℕ) → w ≡ byTwo grid ring → FindsLeast grid ring bars (Weight w)
+  least-two f g l w e barred k = rw (r .four) (patch-weighs barred twoWay (patch-two barred k f g l) w (e ∙ omega arith))
+
+pub found-least : (grid : List ℤ) (ring bars : List ℕ) (r : Least) (table : List Float) → Found grid ring bars r table → FindsLeast grid ring bars r
+found-least grid ring bars r table f barred k = f barred k .0
+
+pub four-there : (grid : List ℤ) (ring bars : List ℕ) (table : List Float) → LoopRoom grid ring bars table → length ring ≡ 4 → FourOn grid ring bars
+four-there grid ring bars table r e = record { on = r .on; four = e; rows = r .barring .rows .long }
+
+-- ---- what is laid
+
+module _ (grid : List ℤ) (ring bars buffer : List ℕ) (p : ℕ) (r : FourRoom grid ring bars buffer p) where
+  -- no cover is allowed
+  pub four-closed : bit (getD bars 0 0) 3 ≡ true → LaysPatch grid ring bars buffer p Nothing buffer
+  four-closed t barred k = (least-closed grid ring bars (r .there) t barred k, refl)
+
+  pub four-across : bit (getD bars 1 0) 3 ≡ true → bit (getD bars 0 0) 2 ≡ true → LaysPatch grid ring bars buffer p Nothing buffer
+  four-across s t barred k = (least-across grid ring bars (r .there) s t barred k, refl)
 
   six : (a b c d e f : ℕ) (buffer′ buffer″ : List ℕ) → buffer′ ≡ laid p (a ∷ b ∷ c ∷ []) buffer → buffer″ ≡ laid (p + 3) (d ∷ e ∷ f ∷ []) buffer′ → buffer″ ≡ laid p (a ∷ b ∷ c ∷ d ∷ e ∷ f ∷ []) buffer
   six a b c d e f buffer′ buffer″ x y =
@@ -153,8 +190,7 @@ module _ (grid : List ℤ) (ring bars buffer : List ℕ) (p : ℕ) (r : FourRoom
   four-one f g l buffer′ buffer″ x y w e barred k =
       rw (r .there .four) (
         oneWay,
-        one-best barred at (sym (told barred k 0 3 (lit< tt) (lit< tt)) ∙ f) (sym (told barred k 1 3 (lit< tt) (lit< tt)) ∙ g)
-            (λ h. let m : byOne grid ring ≤ byTwo grid ring = l (told barred k 0 2 (lit< tt) (lit< tt) ∙ h) in omega arith),
+        patch-one grid ring bars (r .there) barred k f g l,
         e ∙ omega arith,
         six _ _ _ _ _ _ buffer′ buffer″ x y,
       )
@@ -166,8 +202,7 @@ module _ (grid : List ℤ) (ring bars buffer : List ℕ) (p : ℕ) (r : FourRoom
   four-two f g l buffer′ buffer″ x y w e barred k =
       rw (r .there .four) (
         twoWay,
-        two-best barred at (sym (told barred k 0 3 (lit< tt) (lit< tt)) ∙ f) (sym (told barred k 0 2 (lit< tt) (lit< tt)) ∙ g)
-            (λ h. let m : byTwo grid ring < byOne grid ring = l (told barred k 1 3 (lit< tt) (lit< tt) ∙ h) in omega arith),
+        patch-two grid ring bars (r .there) barred k f g l,
         e ∙ omega arith,
         six _ _ _ _ _ _ buffer′ buffer″ x y,
       )
@@ -183,7 +218,7 @@ weighed grid ring i k m h w e =
 
 pub four-room : (grid : List ℤ) (ring bars : List ℕ) (table : List Float) (buffer : List ℕ) (p : ℕ) → PatchRoom grid ring bars table buffer p → length ring ≡ 4 → FourRoom grid ring bars buffer p
 four-room grid ring bars table buffer p r e = record {
-  there = record { on = r .loop .on; four = e; rows = r .loop .barring .rows .long };
+  there = four-there grid ring bars table (r .loop) e;
   room = let h : p + 3 * (length ring - 2) ≤ length buffer = r .room in omega arith;
 }
 

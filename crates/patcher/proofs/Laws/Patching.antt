@@ -27,8 +27,8 @@ use Rattle.patcher.specs.Outcome.{Buffers, Outcome, outcome, buffers, re
 use Rattle.patcher.specs.declared.Patched.{Patched}
 use Rattle.run.specs.Run.{ringList}
 use Rattle.rounds.specs.Rings.{Loops}
+use Rattle.rounds.specs.Scratch.{Scratch}
 use Rattle.rounds.proofs.Laws.Rings.{loops-of}
-use Rattle.patcher.specs.Scratch.{Scratch}
 use Rattle.patcher.specs.Courses.{Lent, RunRoom, RanAll, Runs}
 
 -- what stands at the start of a buffer that it was laid over

@@ -7,8 +7,8 @@ use Rattle.checker.proofs.turn.judge_open.Tie as tie
 bars-of-requires : tie.Need-bars-of-requires
 bars-of-requires c κs = let t = c .before .before .before .before .before .before .pre in bars-room _ _ _ _ _ _ _ _ _ _ (t .turn) (t .short)
 
-least-weight-requires : tie.Need-least-weight-requires
-least-weight-requires c κs = let t = c .before .before .before .before .before .before .before .before .before .before .pre in open-room _ _ _ _ _ _ _ _ _ _ (t .turn) (t .short) _ _ (c .before .before .before .bars-of .ensures)
+least-requires : tie.Need-least-requires
+least-requires c κs = let t = c .before .before .before .before .before .before .before .before .before .before .pre in open-room _ _ _ _ _ _ _ _ _ _ (t .turn) (t .short) _ _ (c .before .before .before .bars-of .ensures)
 
 enum-told : tie.Need-enum-told
 enum-told c = search needs
@@ -20,20 +20,20 @@ same-length : tie.Need-same-length
 same-length c = search needs
 
 returns : tie.Need-returns
-returns c = let t = c .before .before .before .before .before .before .before .before .before .before .before .before .before .before .before .pre in open-right _ _ _ _ _ _ _ _ _ _ (t .turn) (t .short) _ _ (c .before .before .before .before .before .before .before .before .bars-of .ensures) _ _ _ (c .before .before .before .before .least-weight .ensures) (c .enum-told .given .1) (c .before .before .before .table .given)
+returns c = let t = c .before .before .before .before .before .before .before .before .before .before .before .before .before .before .before .pre in open-right _ _ _ _ _ _ _ _ _ _ (t .turn) (t .short) _ _ (c .before .before .before .before .before .before .before .before .bars-of .ensures) _ (c .before .before .before .before .least .result) _ (c .before .before .before .before .least .ensures) (c .enum-told .given .1) (c .before .before .before .table .given)
 
 same-length-2 : tie.Need-same-length-2
 same-length-2 c = search needs
 
 returns-2 : tie.Need-returns-2
-returns-2 c = let t = c .before .before .before .before .before .before .before .before .before .before .before .before .before .before .before .pre in open-wrong _ _ _ _ _ _ _ _ _ _ (t .turn) (t .short) _ _ (c .before .before .before .before .before .before .before .before .bars-of .ensures) _ _ _ (c .before .before .before .before .least-weight .ensures) _ (c .enum-told2 .given .1)
+returns-2 c = let t = c .before .before .before .before .before .before .before .before .before .before .before .before .before .before .before .pre in open-wrong _ _ _ _ _ _ _ _ _ _ (t .turn) (t .short) _ _ (c .before .before .before .before .before .before .before .before .bars-of .ensures) _ (c .before .before .before .before .least .result) _ (c .before .before .before .before .least .ensures) _ (c .enum-told2 .given .1)
 
 pub judge-open-spec : {M : Type 1} → statement M
 judge-open-spec =
     tie.close
     (tie.spec
     bars-of-requires
-    least-weight-requires
+    least-requires
     enum-told
     enum-told-2
     same-length

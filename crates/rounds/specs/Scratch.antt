@@ -1,4 +1,4 @@
--- What the patcher works with besides the lent buffers: these definitions are the code's own, and no part of a promise.
+-- What the patcher and the checker work with besides the lent buffers: these definitions are the code's own, and no part of a promise.
 use mathlib.Core.Path.{_≡_}
 use mathlib.Core.List.{List}
 use Prim.Native.Nat.{ℕ, _/_, _≤_}

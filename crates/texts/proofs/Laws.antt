@@ -1,0 +1,11 @@
+-- The laws of texts of two parts, each file for one idea.
+pub mod Lists
+pub mod Counts
+pub mod Rows
+pub mod Parts
+pub mod Ways
+pub mod Lines
+pub mod Halves
+pub mod Fill
+pub mod Beginnings
+pub mod Later
