@@ -43,6 +43,25 @@ uint32_t wazelpunt_judge(const uint32_t *words, size_t words_count, const uint16
                          size_t grid_length, uint16_t *rings, size_t rings_length, uint16_t *lengths, size_t lengths_length,
                          size_t *place, size_t *loops, size_t *vertices);
 
+/* Reads a sheet text: any bytes. Returns 0 or a refusal 10 (a wrong line), 3 or 4, with its place. Lent are words (1) and corners (2),
+   each long enough for this text. On 0 they hold the sheet's words and corners, each from its start, and what lies behind is as it was;
+   *words_read and *corners_read become how many there are. On a refusal all is as it was and both counts are 0. */
+uint32_t wazelpunt_read(const uint8_t *text, size_t text_length, uint32_t *words, size_t words_length, uint16_t *corners,
+                        size_t corners_length, size_t *place, size_t *words_read, size_t *corners_read);
+
+/* Writes the text of a sheet. Returns 0 or a refusal 1, 2, 3 or 4, with its place. Lent is text (1), long enough for this text. On 0 it
+   holds the text from its start, and what lies behind is as it was; *bytes becomes how long the text is. On a refusal all is as it
+   was and the count is 0. */
+uint32_t wazelpunt_write(const uint32_t *words, size_t words_count, const uint16_t *corners, size_t corners_count,
+                         uint8_t *text, size_t text_length, size_t *place, size_t *bytes);
+
+/* Reads the text of a patch set, which comes after so many lines of a sheet text. Returns 0 or a refusal 10 (a wrong line, counted on
+   from the sheet's last) or 3, with its place. Lent are states (1) and corners (2), each long enough for this text. On 0 they hold the
+   states of the loops and the corners of all triangles, each from its start, and what lies behind is as it was; *states_read and
+   *corners_read become how many there are. On a refusal all is as it was and both counts are 0. */
+uint32_t wazelpunt_read_set(const uint8_t *text, size_t text_length, uint16_t before, uint16_t *states, size_t states_length,
+                            uint16_t *corners, size_t corners_length, size_t *place, size_t *states_read, size_t *corners_read);
+
 #ifdef __cplusplus
 }
 #endif

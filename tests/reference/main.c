@@ -6,8 +6,10 @@
 #include <stdlib.h>
 #include <string.h>
 
+#include "generate.h"
 #include "reference.h"
 #include "self.h"
+#include "sheets.h"
 
 /* ---- Files and texts ---- */
 
@@ -192,13 +194,9 @@ static int open_case(const char *directory, unsigned number, const char *kind, s
     return read_file(name, file);
 }
 
-/* Runs one program, 0 list, 1 check, 2 rewrite, on the case's texts and
-   compares what it prints with what is expected. */
-static int prints_expected(int program)
+/* Runs one program, 0 list, 1 check, 2 rewrite, on the case's texts. */
+static void run_program(int program, FILE *out)
 {
-    char *printed = NULL;
-    size_t length = 0;
-    FILE *out = open_memstream(&printed, &length);
     if (program == 0) {
         list_program(out, &case_sheet);
     } else if (program == 1) {
@@ -206,6 +204,15 @@ static int prints_expected(int program)
     } else {
         rewrite_program(out, &case_sheet);
     }
+}
+
+/* Runs one program and compares what it prints with what is expected. */
+static int prints_expected(int program)
+{
+    char *printed = NULL;
+    size_t length = 0;
+    FILE *out = open_memstream(&printed, &length);
+    run_program(program, out);
     fclose(out);
     int same = length == case_expected.length && memcmp(printed, case_expected.bytes, length) == 0;
     free(printed);
@@ -243,6 +250,82 @@ static int run_cases(const char *directory)
     }
     printf("cases=%zu agree=%zu outputs=%zu of %zu\n", cases, agreeing, outputs, 3 * cases);
     return cases > 0 && agreeing == cases ? 0 : 1;
+}
+
+/* ---- `reference make DIR N SEED` ---- */
+
+static void write_case(const char *directory, unsigned number, const char *kind, const struct file *file)
+{
+    char name[4096];
+    snprintf(name, sizeof name, "%s/%04u.%s", directory, number, kind);
+    FILE *stream = fopen(name, "wb");
+    if (stream == NULL || fwrite(file->bytes, 1, file->length, stream) != file->length || fclose(stream) != 0) {
+        perror(name);
+        exit(2);
+    }
+}
+
+static void write_printed(const char *directory, unsigned number, int program)
+{
+    static const char *const kinds[3] = {"listing", "verdict", "rewritten"};
+    char name[4096];
+    snprintf(name, sizeof name, "%s/%04u.%s", directory, number, kinds[program]);
+    FILE *out = fopen(name, "wb");
+    if (out == NULL) {
+        perror(name);
+        exit(2);
+    }
+    run_program(program, out);
+    fclose(out);
+}
+
+/* Two surfaces in three are sound. */
+static void make_surface(struct generator *generator, struct generated_surface *surface)
+{
+    if (generate_below(generator, 3) == 0) {
+        generate_surface(generator, surface);
+    } else {
+        generate_sound_surface(generator, surface);
+    }
+}
+
+/* A sheet and a set for it, the full sheets first; their texts are damaged in
+   some cases, and one set in eight is missing. */
+static void make_case(struct generator *generator, const char *directory, unsigned number)
+{
+    static struct generated_surface surface;
+    static struct generated_set set;
+    if (sheet_make(generator, number, &surface) == NULL) {
+        make_surface(generator, &surface);
+    }
+    generate_set(generator, &surface, &set);
+    case_sheet.length = generate_sheet_text(&surface, case_sheet.bytes);
+    case_patches.length = generate_set_text(&set, case_patches.bytes);
+    if (generate_below(generator, 5) == 0) {
+        case_sheet.length = generate_text_damage(generator, case_sheet.bytes, case_sheet.length);
+    }
+    if (generate_below(generator, 5) == 0) {
+        case_patches.length = generate_text_damage(generator, case_patches.bytes, case_patches.length);
+    }
+    write_case(directory, number, "sheet", &case_sheet);
+    if (generate_below(generator, 8) == 0) {
+        case_patches.length = 0;
+    } else {
+        write_case(directory, number, "patches", &case_patches);
+    }
+    for (int program = 0; program < 3; program++) {
+        write_printed(directory, number, program);
+    }
+}
+
+static int make_cases(const char *directory, unsigned count, uint64_t seed)
+{
+    struct generator generator;
+    generate_start(&generator, seed);
+    for (unsigned number = 0; number < count && number < 10000; number++) {
+        make_case(&generator, directory, number);
+    }
+    return 0;
 }
 
 /* ---- Bench examples of the scope ---- */
@@ -322,7 +405,7 @@ static int run_examples(void)
 
 static int explain(void)
 {
-    fputs("reference cases DIR | list FILE | check SHEET PATCHES | rewrite FILE | self N SEED\n"
+    fputs("reference cases DIR | make DIR N SEED | list FILE | check SHEET PATCHES | rewrite FILE | self N SEED\n"
           "(a FILE or SHEET of - is standard input)\n", stderr);
     return 2;
 }
@@ -331,6 +414,9 @@ int main(int count, char **given)
 {
     if (count == 3 && strcmp(given[1], "cases") == 0) {
         return run_cases(given[2]);
+    }
+    if (count == 5 && strcmp(given[1], "make") == 0) {
+        return make_cases(given[2], (unsigned)strtoul(given[3], NULL, 10), strtoull(given[4], NULL, 10));
     }
     if (count == 4 && strcmp(given[1], "self") == 0) {
         int differing = run_examples();

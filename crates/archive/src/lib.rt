@@ -3,7 +3,9 @@ ghost use mathlib.Core.Path.{_≡_};
 ghost use lib.Ieee.{binary32, ofBits};
 ghost use Rattle.survey.specs.Outcome.{buffers, surveyOf};
 ghost use Rattle.patcher.specs.Outcome as patcher;
+ghost use Rattle.scribe.specs.Outcome.{writes};
 ghost use Rattle.archive.specs.Plain.{Tells, told, surveyed, JudgesTold, patchTold, PatchesTold};
+ghost use Rattle.archive.specs.Texts.{textTold, ReadsTold, ReadsSetTold, writeTold, written};
 use grid::Coordinate;
 
 // The answer for the coordinate with these bits: its number is returned, 0 or refusal 7 or 8; the whole number, or 0, is
@@ -125,4 +127,68 @@ pub extern "C" fn wazelpunt_judge(
     *loops = judged.loops;
     *vertices = judged.vertices;
     verdict.number()
+}
+
+// Reads a sheet text, as `read` does: words and corners are left in the lent buffers; the number of the answer is returned, and its place
+// and how many words and corners there are are left too.
+#[no_mangle]
+pub extern "C" fn wazelpunt_read(
+    text: &[u8],
+    words: &mut [u32],
+    corners: &mut [u16],
+    place: &mut usize,
+    words_read: &mut usize,
+    corners_read: &mut usize,
+) -> u32
+    ensures { λ r. ⌜ ReadsTold (now (text .entry)) (now (words .entry)) (now (corners .entry))
+        (textTold r (now (place .exit)) (now («words_read» .exit)) (now («corners_read» .exit)) (now (words .exit)) (now (corners .exit))) ⌝ }
+{
+    let read = intake::read(text, words, corners);
+    let told = read.answer;
+    *place = told.place();
+    *words_read = read.words;
+    *corners_read = read.corners;
+    told.number()
+}
+
+// Writes the text of a sheet, as `write` does: it is left in the lent buffer; the number of the answer is returned, and its place and how
+// many bytes the text has are left too.
+#[no_mangle]
+pub extern "C" fn wazelpunt_write(
+    words: &[u32],
+    corners: &[u16],
+    text: &mut [u8],
+    place: &mut usize,
+    bytes: &mut usize,
+) -> u32
+    ensures { λ r. ⌜ writeTold r (now (place .exit)) (now (bytes .exit)) (now (text .exit)) ≡ written (writes (now (words .entry)) (now (corners .entry)) (now (text .entry))) ⌝ }
+{
+    let done = scribe::write(words, corners, text);
+    let result = done.answer;
+    *place = result.place();
+    *bytes = done.bytes;
+    result.number()
+}
+
+// Reads the text of a patch set that comes after so many lines, as `read_set` does: states and corners are left in the lent buffers; the
+// number of the answer is returned, and its place and how many states and corners there are are left too.
+#[no_mangle]
+pub extern "C" fn wazelpunt_read_set(
+    text: &[u8],
+    before: u16,
+    states: &mut [u16],
+    corners: &mut [u16],
+    place: &mut usize,
+    states_read: &mut usize,
+    corners_read: &mut usize,
+) -> u32
+    ensures { λ r. ⌜ ReadsSetTold (now (text .entry)) before (now (states .entry)) (now (corners .entry))
+        (textTold r (now (place .exit)) (now («states_read» .exit)) (now («corners_read» .exit)) (now (states .exit)) (now (corners .exit))) ⌝ }
+{
+    let read = sets::read_set(text, before, states, corners);
+    let met = read.answer;
+    *place = met.place();
+    *states_read = read.states;
+    *corners_read = read.corners;
+    met.number()
 }

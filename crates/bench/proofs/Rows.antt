@@ -23,7 +23,7 @@ use Rattle.covers.specs.Covers.{Cover, Covers, on}
 use Rattle.verdicts.specs.Faults as faults
 use Rattle.verdicts.specs.Faults.{IsCover, DeclaredPatched, Lighter}
 use Rattle.verdicts.proofs.Laws.Listing.{patch-is-cover}
-use Rattle.checker.proofs.Laws.Findings.{declared-patched}
+use Rattle.judgement.proofs.Laws.Findings.{declared-patched}
 use Rattle.bench.specs.Table.{Table, rings, cone, dentedTop, rim, Taken, overOne, overTwo, alone}
 use Rattle.bench.proofs.Small.{allows, allowed, not-allowed, none-of-four, three, four}
 

@@ -1,3 +1,2 @@
 pub mod Outcome
-pub mod Turns
-pub mod Courses
+pub mod Listing

@@ -1,7 +1,4 @@
 // Judges a patch set: all checks, the grid, the loops, and the verdict on the set.
-mod course;
-mod turn;
-
 ghost use mathlib.Core.Path.{_≡_};
 ghost use Prim.Native.Nat.{_/_, _≤_};
 ghost use lib.ListN.{length, take};
@@ -11,7 +8,7 @@ ghost use Rattle.surface.specs.Refusals.{countRefusal};
 ghost use Rattle.survey.specs.Outcome.{buffers};
 ghost use Rattle.rounds.specs.Scratch.{few};
 ghost use Rattle.checker.specs.Outcome.{outcome, Judges};
-ghost use Rattle.checker.specs.Courses.{ListingRoom};
+ghost use Rattle.checker.specs.Listing.{ListingRoom};
 use rounds::FEW;
 use terms::Answer;
 use terms::Surface;
@@ -153,7 +150,7 @@ fn judge_with(
     survey::lay_grid(words, grid);
     lay_front(found, listed.vertices, rings);
     lay_front(sizes, listed.loops, lengths);
-    let answer = course::verdict(
+    let answer = hearing::verdict(
         &grid[..words.len()],
         corners,
         &rings[..listed.vertices],

@@ -20,7 +20,7 @@ use Rattle.closing.proofs.Laws.After.{start-left, end-left, half-right}
 use Rattle.closing.proofs.Laws.Filled.{Laid, as-many, filled-laid}
 use Rattle.closing.proofs.Laws.Sums.{Wholes, flat-whole}
 use Rattle.closing.proofs.Laws.Together.{Sides, Diagonal, together-wholes, together-once, patch-met, side-met, side-left, patch-edge}
-use Rattle.closing.proofs.Laws.Rings.{Against, Side, rings-many, side-against, against-side, ring-of, surface-sides}
+use Rattle.closing.proofs.Laws.Rings.{EdgeAgainst, Side, rings-many, side-against, against-side, ring-of, surface-sides}
 
 module _ (corners : List ℕ) (patches : List (List ℕ)) (sound : Sound corners) (filled : Filled corners [] (map (ring corners) (loops corners)) patches) where
   abbrev after : List ℕ
@@ -63,7 +63,7 @@ module _ (corners : List ℕ) (patches : List (List ℕ)) (sound : Sound corners
   -- ---- open edges
 
   -- an edge of a loop is a side of it, turned round
-  place-against : (h : ℕ) (w : Place (loops corners) h) → Against corners (getD (loops corners) (w .loop) []) (endOf corners h) (startOf corners h)
+  place-against : (h : ℕ) (w : Place (loops corners) h) → EdgeAgainst corners (getD (loops corners) (w .loop) []) (endOf corners h) (startOf corners h)
   place-against h w =
       record { at = w .at; at-below = w .at-below; starts = ap (startOf corners) (w .is); ends = ap (endOf corners) (w .is) }
 
@@ -139,7 +139,7 @@ module _ (corners : List ℕ) (patches : List (List ℕ)) (sound : Sound corners
 
   -- an edge of a patch is wound against an edge of its loop, or it is a diagonal: no edge of the input, and laid in no other loop
   pub each-edge : (l u v : ℕ) → edge (getD patches l []) u v ≡ true
-      → ((l < length (loops corners)) × Against corners (getD (loops corners) l []) u v)
+      → ((l < length (loops corners)) × EdgeAgainst corners (getD (loops corners) l []) u v)
       ⊎ ((between corners u v ≡ false) × ((m : ℕ) → (m ≡ l → ⊥) → between (getD patches m []) u v ≡ false))
   each-edge l u v e =
       let k : l < length patches = laid-edge l u v e in

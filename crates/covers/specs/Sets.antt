@@ -19,8 +19,8 @@ Lists s [] = s ≡ []
 Lists s (t ∷ ts) = (a b : List Triangle) × (u : Triangle) × (s ≡ a ++ (u ∷ b)) × Alike u t × Lists (a ++ b) ts
 
 -- the set s is the cover c of i..k
-abbrev pub IsCover : List Triangle → ℕ → ℕ → Cover → Type 0
-IsCover s i k c = Covers i k c × Lists s (triangles i k c)
+abbrev pub ListsCover : List Triangle → ℕ → ℕ → Cover → Type 0
+ListsCover s i k c = Covers i k c × Lists s (triangles i k c)
 
 -- the triangle whose corners are the vertices at these positions
 abbrev pub named : (ℕ → ℕ) → Triangle → Triangle

@@ -8,7 +8,7 @@ use Rattle.surface.specs.Edges.{Sound}
 use Rattle.loops.specs.Loops.{loops, ring}
 use Rattle.loops.proofs.Laws.Places.{Place}
 use Rattle.closing.specs.Filling.{Filled}
-use Rattle.closing.proofs.Laws.Rings.{Against as EdgeAgainst}
+use Rattle.closing.proofs.Laws.Rings.{EdgeAgainst}
 use Rattle.closing.proofs.Theorems as theorems
 use Rattle.demands.specs.Loops.{loopAt, StandsAt}
 use Rattle.demands.specs.Closing.{Against, ClosingDemand}

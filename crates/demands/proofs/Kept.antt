@@ -4,9 +4,9 @@ use mathlib.Core.List.{List, map}
 use Prim.Native.Nat.{ℕ}
 use lib.ListN.{length, length-map}
 use Rattle.surface.specs.Edges.{Sound, startOf}
+use Rattle.surface.proofs.Laws.Lists.{map-at}
 use Rattle.loops.specs.Loops.{loops}
 use Rattle.loops.proofs.Laws.Distinct.{Distinct}
-use Rattle.loops.proofs.Laws.Parts.{map-at}
 use Rattle.loops.proofs.Laws.Places.{Place}
 use Rattle.loops.proofs.Theorems as theorems
 use Rattle.demands.specs.Loops.{loopAt, StandsAt, LoopsDemand}
@@ -22,7 +22,7 @@ loops-demand corners sound = record {
   only-open-edges = λ e l i a. theorems.one-loop corners sound .nothing-else e (place-of corners e l i a);
   no-vertex-twice = λ l h i j a b e.
       let n : length (map (startOf corners) (loopAt corners l)) ≡ length (loopAt corners l) = length-map (loopAt corners l) (startOf corners) in
-      theorems.no-vertex-twice corners sound l h i j (rw n a) (rw n b) (map-at (startOf corners) (loopAt corners l) i a ∙ e ∙ sym (map-at (startOf corners) (loopAt corners l) j b));
+      theorems.no-vertex-twice corners sound l h i j (rw n a) (rw n b) (map-at (startOf corners) 0 0 (loopAt corners l) i a ∙ e ∙ sym (map-at (startOf corners) 0 0 (loopAt corners l) j b));
   three-or-more = theorems.three-or-more corners sound;
   next-follows = λ h l o. let f = theorems.next-total corners sound h l o in (f .opens, f .starts);
   next-one-to-one = theorems.next-one-to-one corners sound;

@@ -2,3 +2,4 @@ pub mod Kept
 pub mod Closing
 pub mod Passable
 pub mod Sets
+pub mod Texts

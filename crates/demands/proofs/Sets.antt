@@ -1,20 +1,19 @@
 -- Demand 3 is kept by every outcome of the checker and of the patcher.
 use mathlib.Core.Path.{_≡_, refl, sym, ap, _∙_, subst}
 use mathlib.Core.Bool.{Bool, true, false, true≢false}
-use mathlib.Core.List.{List, [], _++_, flatten}
+use mathlib.Core.List.{List, [], flatten}
 use Prim.Native.Nat.{ℕ, _*_, _≤_}
 use native.Mathlib.Omega.{arith}
 use borrow.Author.Tests.{eqb-true, eqb-false}
 use lib.Dec.{eqb}
 use lib.IntN.{ℤ}
-use lib.ListN.{length, take, drop, length-map}
-use lib.Seq.{take-append-seam}
+use lib.ListN.{length, length-map}
 use Rattle.terms.specs.Answers.{refusing, numberOf}
 use Rattle.terms.specs.declared.Answer.{Answer}
 use Rattle.terms.specs.declared.Answer.the-variants.{Done, States}
 use Rattle.surface.specs.Edges.{Sound}
-use Rattle.surface.specs.Buffers.{over}
 use Rattle.surface.specs.Refusals.{refusal}
+use Rattle.surface.proofs.Laws.Over.{start-of}
 use Rattle.surface.proofs.Laws.Sound.{Passed, passed, passes, passed-sound}
 use Rattle.loops.specs.Loops.{loops, ring}
 use Rattle.loops.proofs.Theorems.{vertices-in-all, vertices-few}
@@ -112,11 +111,6 @@ module _ (words corners states set : List ℕ) (b : survey.Buffers) (o : survey.
 
 -- ---- the patcher
 
--- what was laid over a buffer's start is read back
-front : (xs buffer : List ℕ) (n : ℕ) → n ≡ length xs → take n (over xs buffer) ≡ xs
-unfolding over
-front xs buffer n e = ap (λ (k : ℕ). take k (xs ++ drop (length xs) buffer)) e ∙ take-append-seam xs (drop (length xs) buffer)
-
 module _ (words corners : List ℕ) (b : patcher.Buffers) (o : patcher.Outcome) where
   abbrev refuses : Answer
   refuses = refusal words corners (patcher.lent b) (patcher.needs words corners)
@@ -142,10 +136,10 @@ module _ (words corners : List ℕ) (b : patcher.Buffers) (o : patcher.Outcome) 
       fated = states-length fates ∙ run-length (gridOf words) corners [] (ringList corners) fates run ∙ many corners sound
 
       states : statesLeft o ≡ statesOf fates
-      states = ap statesLeft e ∙ front (statesOf fates) (b .states) (length (loops corners)) (sym fated)
+      states = ap statesLeft e ∙ start-of (statesOf fates) (b .states) (length (loops corners)) (sym fated)
 
       set : setLeft o ≡ laidBy (ringList corners) fates
-      set = ap setLeft e ∙ front (laidBy (ringList corners) fates) (b .patches) (length (laidBy (ringList corners) fates)) refl
+      set = ap setLeft e ∙ start-of (laidBy (ringList corners) fates) (b .patches) (length (laidBy (ringList corners) fates)) refl
 
       right : AllRight (gridOf words) corners [] (ringList corners) (statesLeft o) (setLeft o)
       right = subst (λ (x : List ℕ). AllRight (gridOf words) corners [] (ringList corners) x (setLeft o)) (sym states)

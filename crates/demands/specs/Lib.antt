@@ -1,3 +1,4 @@
 pub mod Loops
 pub mod Closing
 pub mod Sets
+pub mod Texts

@@ -39,17 +39,17 @@ pub record Passable (grid : List ℤ) (corners states set : List ℕ) : Type 0 w
 -- ---- the edges afterwards
 
 -- what each loop takes of the set
-abbrev pub laidBy : List ℕ → List ℕ → List ℕ → List (List ℕ)
-laidBy corners states set = parts (ringList corners) states set
+abbrev pub partsTaken : List ℕ → List ℕ → List ℕ → List (List ℕ)
+partsTaken corners states set = parts (ringList corners) states set
 
 pub record Closes (corners states set : List ℕ) : Type 0 where
   -- the loops take the whole set,
-  pub whole : flatten (laidBy corners states set) ≡ set
+  pub whole : flatten (partsTaken corners states set) ≡ set
   -- "no directed edge occurs twice and the only open edges are those of loops" that take nothing,
-  pub closing : ClosingDemand corners (laidBy corners states set)
+  pub closing : ClosingDemand corners (partsTaken corners states set)
   -- and these are the loops "declared open or long".
-  pub open-or-long : (l : ℕ) → l < length (loops corners) → laidIn (laidBy corners states set) l ≡ [] → (getD states l 0 ≡ 2) ⊎ (getD states l 0 ≡ 3)
-  pub takes-nothing : (l : ℕ) → (getD states l 0 ≡ 2) ⊎ (getD states l 0 ≡ 3) → laidIn (laidBy corners states set) l ≡ []
+  pub open-or-long : (l : ℕ) → l < length (loops corners) → laidIn (partsTaken corners states set) l ≡ [] → (getD states l 0 ≡ 2) ⊎ (getD states l 0 ≡ 3)
+  pub takes-nothing : (l : ℕ) → (getD states l 0 ≡ 2) ⊎ (getD states l 0 ≡ 3) → laidIn (partsTaken corners states set) l ≡ []
 
 -- ---- the checker
 

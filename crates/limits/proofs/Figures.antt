@@ -1,7 +1,7 @@
 -- Figures of the scope that follow from the limits. They hold at these limits and at no others, so none can be moved unseen.
 use Prim.Native.Nat.{_+_, _-_, _*_, _/_}
 use mathlib.Core.Path.{_≡_, refl}
-use Rattle.limits.specs.Limits.{points, triangles, words, corners, greatest, longest}
+use Rattle.limits.specs.Limits.{points, triangles, words, corners, states, patches, set-corners, greatest, longest}
 
 -- three words a point and three corners a triangle
 pub words-are : words ≡ 3 * points
@@ -9,6 +9,16 @@ words-are = refl
 
 pub corners-are : corners ≡ 3 * triangles
 corners-are = refl
+
+-- A patch set has room for a state of each loop, and for a triangle for each open edge.
+pub states-are : states ≡ triangles
+states-are = refl
+
+pub patches-are : patches ≡ corners
+patches-are = refl
+
+pub set-corners-are : set-corners ≡ 9 * triangles
+set-corners-are = refl
 
 -- The longest sheet text: two counts of four digits, 29 bytes a point and 17 a triangle with corners of four digits.
 pub longest-text : 12 + 29 * points + (15 + 17 * triangles) ≡ 47131

@@ -4,6 +4,9 @@ use Rattle.terms.proofs.Surface.takes_points.⟦Self·POINTS⟧-asked.Lts as fo
 use Rattle.terms.proofs.Surface.takes_triangles.⟦Self·TRIANGLES⟧-asked.Lts as for-triangles
 use Rattle.terms.proofs.Surface.takes_words.⟦Self·WORDS⟧-asked.Lts as for-words
 use Rattle.terms.proofs.Surface.takes_corners.⟦Self·CORNERS⟧-asked.Lts as for-corners
+use Rattle.terms.proofs.PatchSet.takes_states.⟦Self·STATES⟧-asked.Lts as for-states
+use Rattle.terms.proofs.PatchSet.takes_triangles.⟦Self·TRIANGLES⟧-asked.Lts as for-patches
+use Rattle.terms.proofs.PatchSet.takes_corners.⟦Self·CORNERS⟧-asked.Lts as for-set
 use Rattle.terms.proofs.Grid.holds.⟦Self·GREATEST⟧-asked.Lts as for-grid
 use Rattle.terms.proofs.Loop.is_long.⟦Self·LONGEST⟧-asked.Lts as for-loop
 
@@ -19,6 +22,16 @@ words = for-words.answer tt tt
 
 abbrev pub corners : ℕ
 corners = for-corners.answer tt tt
+
+-- how many states and triangles a patch set has at most, and how many corners those have
+abbrev pub states : ℕ
+states = for-states.answer tt tt
+
+abbrev pub patches : ℕ
+patches = for-patches.answer tt tt
+
+abbrev pub set-corners : ℕ
+set-corners = for-set.answer tt tt
 
 -- how far from 0 the grid reaches
 abbrev pub greatest : ℕ

@@ -1,7 +1,3 @@
--- The laws of the run, each file for one idea.
-pub mod Turns
-pub mod Courses
-pub mod PlainCourse
-pub mod FullCourse
+-- The laws of the patcher, each file for one idea.
 pub mod Patching
 pub mod Once

@@ -1,7 +1,4 @@
 // Patches a surface: all checks, the grid, the loops, and what becomes of each.
-mod course;
-mod turn;
-
 ghost use mathlib.Core.Path.{_≡_};
 ghost use Prim.Native.Nat.{_/_, _≤_};
 ghost use lib.ListN.{length};

@@ -6,7 +6,7 @@ use mathlib.Core.Logic.{_⊎_}
 use mathlib.Core.List.{List, [], map, flatten}
 use Prim.Native.Nat.{ℕ, _+_, _-_, _%_, _<_, _≤_}
 use lib.IntN.{ℤ}
-use lib.ListN.{length, getD}
+use lib.ListN.{length, getD, take, drop}
 use Rattle.limits.specs.Limits as limits
 use Rattle.weight.specs.Weight.{Coordinates, Names}
 use Rattle.bars.specs.Bars.{between}
@@ -28,6 +28,14 @@ pub record Loops (grid : List ℤ) (input : List ℕ) (rs : List (List ℕ)) (ri
   pub each : (l : ℕ) → l < length rs → RingOf grid input (getD rs l [])
   pub few : length rings ≤ limits.corners
   pub few-loops : length rs ≤ limits.triangles
+
+-- where loop l and its ring stand, if the rings before it have r vertices
+pub record RingPlace (rings lengths : List ℕ) (l r : ℕ) : Type 0 where
+  pub ring-in : r + getD lengths l 0 ≤ length rings
+  pub rings-few : length rings ≤ limits.corners
+  pub loop-in : l < limits.triangles
+  pub three : 3 ≤ getD lengths l 0
+  pub part-long : length (take (r + getD lengths l 0 - r) (drop r rings)) ≡ getD lengths l 0
 
 -- the input's corners
 pub record Input (input : List ℕ) : Type 0 where

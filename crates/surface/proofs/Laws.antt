@@ -1,5 +1,6 @@
--- The laws of tests, of searches and of half-edges, each file for one idea.
+-- The laws of tests, of lists, of searches and of half-edges, each file for one idea.
 pub mod Tests
+pub mod Lists
 pub mod Smallest
 pub mod Edges
 pub mod Passes

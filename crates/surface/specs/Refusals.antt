@@ -64,10 +64,14 @@ countRefusal words corners =
 unfoldable pub bufferRefusal : List ℕ → List ℕ → Answer
 bufferRefusal lent needs = refuseAt (λ i. Buffer (i + 1)) (least (short lent needs) (length needs))
 
--- 4, 5 and 6, by the corners and the count of points
+-- 4, by the corners and the count of points
+abbrev pub unnamedRefusal : List ℕ → ℕ → Answer
+unnamedRefusal corners points = refuseAt Unnamed (least (unnamed corners points) (length corners))
+
+-- 4, 5 and 6
 unfoldable pub cornerRefusal : List ℕ → ℕ → Answer
 cornerRefusal corners points =
-    thenCheck (refuseAt Unnamed (least (unnamed corners points) (length corners)))
+    thenCheck (unnamedRefusal corners points)
     (thenCheck (refuseAt Twice (least (twice corners) (length corners / 3)))
     (refuseAt Repeated (least (repeats corners) (length corners))))
 

@@ -66,6 +66,52 @@ fn is_threes(n: usize, most: usize) -> bool
     n % 3 == 0 && n <= most
 }
 
+// A patch set's counts: a state for each loop, and the triangles of all its patches. A surface has at most a loop for each triangle,
+// and the loops together have at most an open edge for each corner, which is more than their patches have triangles.
+pub struct PatchSet {
+    pub states: usize,
+    pub triangles: usize,
+}
+
+impl PatchSet {
+    pub const STATES: usize = Surface::TRIANGLES;
+
+    pub const TRIANGLES: usize = Surface::CORNERS;
+
+    pub const CORNERS: usize = 3 * Self::TRIANGLES;
+
+    // The set of that many states and corners.
+    pub fn of(states: usize, corners: usize) -> PatchSet
+        ensures { λ r. ⌜ (r .states ≡ states) × (r .triangles ≡ corners / 3) ⌝ }
+    {
+        PatchSet {
+            states,
+            triangles: corners / 3,
+        }
+    }
+
+    // That many states are not too many.
+    pub fn takes_states(states: usize) -> bool
+        ensures { λ r. do most ← ⟦Self::STATES⟧ .entry; ⌜ r ≡ leb states most ⌝ }
+    {
+        states <= Self::STATES
+    }
+
+    // That many triangles are not too many.
+    pub fn takes_triangles(triangles: usize) -> bool
+        ensures { λ r. do most ← ⟦Self::TRIANGLES⟧ .entry; ⌜ r ≡ leb triangles most ⌝ }
+    {
+        triangles <= Self::TRIANGLES
+    }
+
+    // That many corners are three for each of at most TRIANGLES triangles.
+    pub fn takes_corners(corners: usize) -> bool
+        ensures { λ r. do most ← ⟦Self::CORNERS⟧ .entry; ⌜ r ≡ threes most corners ⌝ }
+    {
+        is_threes(corners, Self::CORNERS)
+    }
+}
+
 // The grid on which the whole numbers lie, one in every `pitch`.
 pub struct Grid {
     pub pitch: u32,

@@ -9,3 +9,5 @@ pub mod Halves
 pub mod Fill
 pub mod Beginnings
 pub mod Later
+pub mod Cut
+pub mod Taking

@@ -30,6 +30,20 @@ unfoldable pub rows : {A : Type 0} → (List ℕ → Read A) → ℕ → List �
 rows read zero bytes = all [] bytes
 rows read (suc n) bytes = rowThen (read bytes) (rows read n)
 
+-- lines without what they say: how many are right before a wrong one, or what is after them
+pub data Outline : Type 0 where
+  stops : ℕ → Outline
+  leaves : List ℕ → Outline
+
+abbrev pub outline : {A : Type 0} → Rows A → Outline
+outline (stuck l) = stops (length l)
+outline (all l rest) = leaves rest
+
+-- what the lines that are right say
+abbrev pub values : {A : Type 0} → Rows A → List A
+values (stuck l) = l
+values (all l rest) = l
+
 -- what a whole text says, or the line of its fault
 pub data Parsed (A B : Type 0) : Type 0 where
   said : List A → List B → Parsed A B

@@ -10,7 +10,7 @@ use lib.Seq.{getD-append-add}
 use Rattle.surface.specs.Smallest.{least, any}
 use Rattle.surface.specs.Edges.{following, runs}
 use Rattle.surface.proofs.Laws.Smallest.{least-same}
-use Rattle.surface.proofs.Laws.Edges.{following-below}
+use Rattle.surface.proofs.Laws.Edges.{following-below, following-on}
 use Rattle.bars.specs.Bars.{edge, between}
 use Rattle.bars.specs.Chains.{Edge, edgeOf, firsts}
 use Rattle.bars.proofs.Laws.Joins.{any-more}
@@ -41,15 +41,11 @@ module _ (l m : List ℕ) (whole : length l % 3 ≡ 0) (u v : ℕ) where
       ap₂ (λ (x y : ℕ). eqb x u && eqb y v) (List·getD-append l m 0 h s)
       (List·getD-append l m 0 (following h) (following-below (length l) h whole s))
 
-  following-on : (k : ℕ) → following (length l + k) ≡ length l + following k
-  unfolding following
-  following-on k = omega arith
-
   runs-right : (k : ℕ) → runs (l ++ m) u v (length l + k) ≡ runs m u v k
   unfolding runs
   runs-right k =
       ap₂ (λ (x y : ℕ). eqb x u && eqb y v) (getD-append-add l m k 0)
-      (ap (λ (z : ℕ). getD (l ++ m) z 0) (following-on k) ∙ getD-append-add l m (following k) 0)
+      (ap (λ (z : ℕ). getD (l ++ m) z 0) (following-on (length l) k whole) ∙ getD-append-add l m (following k) 0)
 
   edge-append : edge (l ++ m) u v ≡ (edge l u v || edge m u v)
   unfolding edge

@@ -1,11 +1,11 @@
--- The front of a list is laid over a buffer number by number, and stands at the buffer's start then.
+-- The front of a list is laid over a buffer number by number.
 use mathlib.Core.Path.{_≡_, sym, ap, _∙_}
-use mathlib.Core.List.{List, _++_}
+use mathlib.Core.List.{List}
 use Prim.Native.Nat.{ℕ, _+_, _≤_, _<_}
 use native.Mathlib.Numerals.{add-one}
 use native.Mathlib.Omega.{arith}
-use lib.ListN.{length, getD, take, drop, set, length-append, length-set}
-use lib.Seq.{take-suc, length-take-le, take-append-seam}
+use lib.ListN.{length, getD, take, set, length-set}
+use lib.Seq.{take-suc, length-take-le}
 use Rattle.surface.specs.Buffers.{over}
 use Rattle.surface.proofs.Laws.Over.{over-none, over-snoc}
 
@@ -33,18 +33,3 @@ module _ (from : List ℕ) (n : ℕ) (before : List ℕ) where
 
   pub laying-ends : (i : ℕ) (now : List ℕ) → n ≤ i → Laying from n before i now → now ≡ over (take n from) before
   laying-ends i now h g = let q : i ≤ n = g .most in let e : i ≡ n = omega arith in g .laid ∙ ap (λ (k : ℕ). over (take k from) before) e
-
--- ---- what stands at the start of a buffer that it was laid over
-
-pub start-of : {A : Type 0} (front buffer : List A) (n : ℕ) → n ≡ length front → take n (over front buffer) ≡ front
-unfolding over
-start-of {A} front buffer n e = ap (λ (k : ℕ). take k (front ++ drop (length front) buffer)) e ∙ take-append-seam front (drop (length front) buffer)
-
-pub front-in : {A : Type 0} (front buffer l : List A) (n : ℕ) → n ≡ length front → l ≡ over front buffer → n ≤ length l
-unfolding over
-front-in front buffer l n e f =
-    let a : length l ≡ length front + length (drop (length front) buffer) = ap length f ∙ length-append front (drop (length front) buffer) in
-    omega arith
-
-pub as-long : {A : Type 0} (l : List A) (n : ℕ) → n ≤ length l → n ≡ length (take n l)
-as-long l n h = sym (length-take-le n l h)

@@ -14,6 +14,7 @@ use Rattle.terms.specs.declared.Answer.{Answer}
 use Rattle.terms.specs.declared.Answer.the-variants.{Done, States}
 use Rattle.surface.specs.Buffers.{over}
 use Rattle.surface.specs.Refusals.{countRefusal, contentRefusal, refusal}
+use Rattle.surface.proofs.Laws.Over.{start-of, front-in}
 use Rattle.surface.proofs.Laws.Thens.{then-refused, then-next, count-plain, content-plain, done-of, Fitting, counts-fit}
 use Rattle.loops.specs.Loops.{loops, ring}
 use Rattle.loops.proofs.Theorems.{vertices-in-all, vertices-few, loops-third}
@@ -30,8 +31,8 @@ use Rattle.rounds.specs.Scratch.{few}
 use Rattle.rounds.proofs.Laws.Rings.{loops-of}
 use Rattle.checker.specs.Outcome.{outcome, judged, Judges}
 use Rattle.checker.specs.declared.Judged.{Judged}
-use Rattle.checker.specs.Courses.{ListingRoom, VerdictRoom, Gives}
-use Rattle.checker.proofs.Laws.Fronts.{start-of, front-in}
+use Rattle.checker.specs.Listing.{ListingRoom}
+use Rattle.hearing.specs.Courses.{VerdictRoom, Gives}
 
 -- a refusal as the code makes it
 abbrev pub Refuses : Judged → Answer → Type 0

@@ -4,7 +4,7 @@ use lib.Dec.{lit≤}
 use native.Mathlib.Omega.{arith}
 use borrow.Author.Needs.{needs}
 use Rattle.survey.specs.Outcome.{buffers}
-use Rattle.checker.proofs.Laws.Fronts.{as-long}
+use Rattle.surface.proofs.Laws.Lists.{as-long}
 use Rattle.checker.proofs.Laws.Judging.{counted, content-refuse, grid-ready, ready, lent-long, states-refuse, rings-room, lengths-room, grid-in, rings-in, lengths-in, verdict-room, judges}
 use Rattle.checker.proofs.judge_with.Statement.{statement}
 use Rattle.checker.proofs.judge_with.Tie as tie

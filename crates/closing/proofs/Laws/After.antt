@@ -7,7 +7,7 @@ use native.Mathlib.Omega.{arith}
 use lib.ListN.{length, getD, length-append, List·getD-append}
 use lib.Seq.{getD-append-add}
 use Rattle.surface.specs.Edges.{following, startOf, endOf}
-use Rattle.surface.proofs.Laws.Edges.{following-below}
+use Rattle.surface.proofs.Laws.Edges.{following-below, following-on}
 use Rattle.closing.proofs.Laws.Times.{Half}
 
 module _ (l m : List ℕ) (whole : length l % 3 ≡ 0) where
@@ -20,12 +20,8 @@ module _ (l m : List ℕ) (whole : length l % 3 ≡ 0) where
   start-right : (h : ℕ) → startOf (l ++ m) (length l + h) ≡ startOf m h
   start-right h = getD-append-add l m h 0
 
-  following-on : (h : ℕ) → following (length l + h) ≡ length l + following h
-  unfolding following
-  following-on h = omega arith
-
   end-right : (h : ℕ) → endOf (l ++ m) (length l + h) ≡ endOf m h
-  end-right h = ap (λ (z : ℕ). getD (l ++ m) z 0) (following-on h) ∙ getD-append-add l m (following h) 0
+  end-right h = ap (λ (z : ℕ). getD (l ++ m) z 0) (following-on (length l) h whole) ∙ getD-append-add l m (following h) 0
 
   -- a half-edge past the first list is one of the second
   pub half-right : (h : ℕ) → length l ≤ h → h < length (l ++ m) → Half m (startOf (l ++ m) h) (endOf (l ++ m) h) (h - length l)

@@ -8,10 +8,10 @@ use native.Mathlib.Omega.{arith}
 use lib.ListN.{length, getD, length-map, List·getD-map}
 use Rattle.surface.specs.Edges.{Sound, startOf, endOf}
 use Rattle.surface.proofs.Laws.Tests.{lt-or-le}
+use Rattle.surface.proofs.Laws.Lists.{map-at}
 use Rattle.surface.proofs.Laws.Edges.{one-edge}
 use Rattle.loops.specs.Loops.{loops, ring}
 use Rattle.loops.proofs.Laws.Distinct.{Distinct}
-use Rattle.loops.proofs.Laws.Parts.{map-at}
 use Rattle.loops.proofs.Laws.Linked.{Linked, Closed}
 use Rattle.loops.proofs.Laws.Places.{Place}
 use Rattle.loops.proofs.Theorems.{one-loop, no-vertex-twice, three-or-more, loop-closes}
@@ -22,7 +22,7 @@ use Rattle.closing.proofs.Laws.Filled.{Ring}
 use Rattle.closing.proofs.Laws.Together.{Sides}
 
 -- an edge of the loop runs from v to u
-pub record Against (corners loop : List ℕ) (u v : ℕ) : Type 0 where
+pub record EdgeAgainst (corners loop : List ℕ) (u v : ℕ) : Type 0 where
   pub at : ℕ
   pub at-below : at < length loop
   pub starts : startOf corners (getD loop at 0) ≡ v
@@ -36,13 +36,13 @@ module _ (corners loop : List ℕ) (closed : Closed corners loop) (some : 0 < le
   long = length-map loop (startOf corners)
 
   vertex-at : (i : ℕ) → i < length loop → vertex i ≡ startOf corners (getD loop i 0)
-  vertex-at i l = map-at (startOf corners) loop i l
+  vertex-at i l = map-at (startOf corners) 0 0 loop i l
 
   next-of : (j : ℕ) → suc j < length loop → endOf corners (getD loop j 0) ≡ startOf corners (getD loop (suc j) 0)
   unfolding Linked
   next-of = closed .linked
 
-  pub turn-against : (u v : ℕ) → Turn (length (ring corners loop)) (vertexOf (ring corners loop)) u v → Against corners loop u v
+  pub turn-against : (u v : ℕ) → Turn (length (ring corners loop)) (vertexOf (ring corners loop)) u v → EdgeAgainst corners loop u v
   turn-against u v (back j l e f) =
       let m : suc j < length loop = omega (arith, long) in
       record {
@@ -60,7 +60,7 @@ module _ (corners loop : List ℕ) (closed : Closed corners loop) (some : 0 < le
         ends = closed .closes (length loop - 1) (omega arith) ∙ sym (vertex-at 0 some) ∙ e;
       }
 
-  pub against-turn : (u v : ℕ) → Against corners loop u v → Turn (length (ring corners loop)) (vertexOf (ring corners loop)) u v
+  pub against-turn : (u v : ℕ) → EdgeAgainst corners loop u v → Turn (length (ring corners loop)) (vertexOf (ring corners loop)) u v
   against-turn u v a =
       let b : a .at < length loop = a .at-below in
       ⊎-elim
@@ -92,17 +92,17 @@ module _ (corners : List ℕ) (sound : Sound corners) where
     some : 0 < length (loopAt l)
     some = omega (arith, three-or-more corners sound l below)
 
-    pub side-against : (u v : ℕ) → Side l u v → Against corners (getD (loops corners) l []) u v
+    pub side-against : (u v : ℕ) → Side l u v → EdgeAgainst corners (getD (loops corners) l []) u v
     side-against u v t =
         turn-against corners (loopAt l) (loop-closes corners sound l below) some u v
         (subst (λ (r : List ℕ). Turn (length r) (vertexOf r) u v) (ring-is l) t)
 
-    pub against-side : (u v : ℕ) → Against corners (getD (loops corners) l []) u v → Side l u v
+    pub against-side : (u v : ℕ) → EdgeAgainst corners (getD (loops corners) l []) u v → Side l u v
     against-side u v a =
         subst (λ (r : List ℕ). Turn (length r) (vertexOf r) u v) (sym (ring-is l))
         (against-turn corners (loopAt l) (loop-closes corners sound l below) some u v a)
 
-    pub place-of : (u v : ℕ) (a : Against corners (getD (loops corners) l []) u v) → Place (loops corners) (getD (getD (loops corners) l []) (a .at) 0)
+    pub place-of : (u v : ℕ) (a : EdgeAgainst corners (getD (loops corners) l []) u v) → Place (loops corners) (getD (getD (loops corners) l []) (a .at) 0)
     place-of u v a = record { loop = l; loop-below = below; at = a .at; at-below = a .at-below; is = refl }
 
     -- its ring has three vertices or more, all different
@@ -115,7 +115,7 @@ module _ (corners : List ℕ) (sound : Sound corners) where
           three = omega (arith, three-or-more corners sound l below, length-map (loopAt l) (startOf corners));
         })
 
-  against-there : (l u v : ℕ) → l < length (loops corners) → Against corners (loopAt l) u v → 0 < times corners v u
+  against-there : (l u v : ℕ) → l < length (loops corners) → EdgeAgainst corners (loopAt l) u v → 0 < times corners v u
   against-there l u v k a =
       half-times corners (sound .triples) v u (getD (loopAt l) (a .at) 0)
       (record {
@@ -124,12 +124,12 @@ module _ (corners : List ℕ) (sound : Sound corners) where
         ends = a .ends;
       })
 
-  against-open : (l u v : ℕ) → l < length (loops corners) → Against corners (loopAt l) u v → times corners u v ≡ 0
+  against-open : (l u v : ℕ) → l < length (loops corners) → EdgeAgainst corners (loopAt l) u v → times corners u v ≡ 0
   against-open l u v k a =
       sym (ap₂ (times corners) (a .ends) (a .starts))
       ∙ open-times corners (sound .triples) (getD (loopAt l) (a .at) 0) (one-loop corners sound .nothing-else (getD (loopAt l) (a .at) 0) (place-of l k u v a) .1)
 
-  against-one : (l m u v : ℕ) → l < length (loops corners) → m < length (loops corners) → Against corners (loopAt l) u v → Against corners (loopAt m) u v → l ≡ m
+  against-one : (l m u v : ℕ) → l < length (loops corners) → m < length (loops corners) → EdgeAgainst corners (loopAt l) u v → EdgeAgainst corners (loopAt m) u v → l ≡ m
   unfolding place-of
   against-one l m u v k q a b =
       let p = place-of l k u v a in

@@ -5,7 +5,7 @@ use mathlib.Core.Logic.{inl, inr, ⊎-elim}
 use mathlib.Core.List.{List}
 use native.Mathlib.Omega.{arith}
 use Rattle.covers.specs.Covers.{Cover, empty, apex, Covers, Triangle, on, triangles}
-use Rattle.covers.specs.Sets.{turned, Alike, IsCover}
+use Rattle.covers.specs.Sets.{turned, Alike, ListsCover}
 use Rattle.covers.specs.Reading.{In, Stands}
 use Rattle.covers.proofs.Laws.Listed.{in-left, in-right, in-cases, listed-of, listed-in, Apart, apart-append}
 
@@ -155,7 +155,7 @@ one-within a b whole w i k (apex m c d) (apex n y z) h g p q =
     cc
 
 -- what stands in a set that is a cover is a triangle of the cover
-pub stands-of : (s : List Triangle) (i k : ℕ) (c : Cover) → IsCover s i k c → (t : Triangle) → t .first < t .third
+pub stands-of : (s : List Triangle) (i k : ℕ) (c : Cover) → ListsCover s i k c → (t : Triangle) → t .first < t .third
     → t .third < t .second → Stands s t → In t (triangles i k c)
 stands-of s i k c h t lo hi g =
     let y = listed-of (triangles i k c) s (h .1) (g .0) (g .1) in
@@ -163,7 +163,7 @@ stands-of s i k c h t lo hi g =
     subst (λ (x : Triangle). In x (triangles i k c)) (alike-both (g .0) (y .0) t (n .low) (n .high) lo hi (y .2) (g .2)) (y .1)
 
 -- so a set is one cover at most
-pub is-cover-once : (s : List Triangle) (i k : ℕ) (c d : Cover) → IsCover s i k c → IsCover s i k d → c ≡ d
+pub is-cover-once : (s : List Triangle) (i k : ℕ) (c d : Cover) → ListsCover s i k c → ListsCover s i k d → c ≡ d
 is-cover-once s i k c d p q =
     one-within i k d (q .0) i k c d (p .0) (q .0)
     (λ t g. let n = inside i k c (p .0) t g in stands-of s i k d q t (n .low) (n .high) (listed-in (triangles i k c) s (p .1) t g))

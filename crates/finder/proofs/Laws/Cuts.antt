@@ -14,7 +14,8 @@ use Rattle.finder.specs.declared.Listed.{Listed}
 use Rattle.loops.specs.Loops.{ring}
 use Rattle.finder.specs.Listing.{ringsOf, firstOf, Lists}
 use Rattle.finder.specs.Walking.{part, CutRoom, WasCut}
-use Rattle.loops.proofs.Laws.Kept.{flatten-append, flatten-snoc}
+use Rattle.surface.proofs.Laws.Lists.{flatten-append}
+use Rattle.loops.proofs.Laws.Kept.{flatten-snoc}
 use Rattle.finder.proofs.Laws.Laid.{part-length}
 
 pub rings-append : (corners : List ℕ) (a b : List (List ℕ)) → ringsOf corners (a ++ b) ≡ ringsOf corners a ++ ringsOf corners b

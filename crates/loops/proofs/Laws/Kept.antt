@@ -1,22 +1,18 @@
 -- A walk loses no edge and makes none: counts and lengths, or whatever adds up over lists in a row, come to the same over the listed
 -- loops with the path as over the edges walked, since a cut only parts the path.
 use mathlib.Core.Path.{_≡_, refl, sym, ap, _∙_}
-use mathlib.Core.List.{List, [], _∷_, _++_, flatten, append-assoc, append-nil}
+use mathlib.Core.List.{List, [], _∷_, _++_, flatten, append-nil}
 use Prim.Native.Nat.{ℕ, _+_}
 use native.Mathlib.Omega.{arith}
 use lib.ListN.{length, take, drop, length-append, take-append-drop}
 use Rattle.surface.specs.declared.Found.{Found}
 use Rattle.surface.specs.declared.Found.the-variants.{At, Nothing}
 use Rattle.surface.specs.Edges.{endOf}
+use Rattle.surface.proofs.Laws.Lists.{flatten-append}
 use Rattle.loops.specs.Loops.{Split, startsAt, cut, grow, growAll}
 use Rattle.loops.proofs.Laws.Counts.{count, count-none, count-append, Same}
 use Rattle.loops.proofs.Laws.Linked.{Closed}
 use Rattle.loops.proofs.Laws.Paths.{fresh, closed-empties}
-
-pub flatten-append : (a b : List (List ℕ)) → flatten (a ++ b) ≡ flatten a ++ flatten b
-unfolding flatten
-flatten-append [] b = refl
-flatten-append (l ∷ a) b = ap (λ (z : List ℕ). l ++ z) (flatten-append a b) ∙ sym (append-assoc l (flatten a) (flatten b))
 
 pub flatten-snoc : (a : List (List ℕ)) (l : List ℕ) → flatten (a ++ (l ∷ [])) ≡ flatten a ++ l
 unfolding flatten

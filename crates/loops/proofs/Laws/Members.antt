@@ -11,8 +11,8 @@ use lib.Dec.{eqb}
 use lib.ListN.{length, getD, length-map}
 use borrow.Author.Tests.{eqb-true, eqb-false}
 use Rattle.surface.proofs.Laws.Tests.{lt-or-le}
+use Rattle.surface.proofs.Laws.Lists.{map-at}
 use Rattle.loops.proofs.Laws.Distinct.{Distinct, Bounded, append-at, distinct-bound}
-use Rattle.loops.proofs.Laws.Parts.{map-at}
 use Rattle.loops.proofs.Laws.Counts.{count, Among, Same, among-count, count-among, distinct-count}
 
 -- what stands in two lists in a row stands in one of them
@@ -51,7 +51,7 @@ within-length a b d w =
     let n : length (map (placeOf b) a) ≡ length a = length-map a (placeOf b) in
     let there : (i : ℕ) → i < length a → (placeOf b (getD a i 0) < length b) × (getD b (placeOf b (getD a i 0)) 0 ≡ getD a i 0) =
     λ i l. place-of b (getD a i 0) (w (getD a i 0) (record { place = i; below = l; is = refl })) in
-    let at : (i : ℕ) → i < length a → getD (map (placeOf b) a) i 0 ≡ placeOf b (getD a i 0) = map-at (placeOf b) a in
+    let at : (i : ℕ) → i < length a → getD (map (placeOf b) a) i 0 ≡ placeOf b (getD a i 0) = map-at (placeOf b) 0 0 a in
     let apart : Distinct (map (placeOf b) a) =
     λ i j hi hj e.
     let li : i < length a = omega arith in

@@ -1,10 +1,9 @@
 -- The parts of a list in which nothing stands twice are such lists too, since a part's places are places of the whole.
-use mathlib.Core.Path.{_≡_, refl, sym, ap, _∙_, subst}
+use mathlib.Core.Path.{_≡_, sym, ap, _∙_, subst}
 use mathlib.Core.List.{List, [], _∷_, _++_, map, map-append}
-use Prim.Native.Nat.{ℕ, zero, suc, _+_, _<_}
-use native.Mathlib.Nat.{not-suc-le-zero}
+use Prim.Native.Nat.{ℕ, _+_}
 use native.Mathlib.Omega.{arith}
-use lib.ListN.{length, getD, take, drop, length-append, List·getD-append, take-append-drop}
+use lib.ListN.{length, take, drop, length-append, List·getD-append, take-append-drop}
 use lib.Seq.{getD-append-add}
 use Rattle.loops.proofs.Laws.Distinct.{Distinct}
 
@@ -29,12 +28,6 @@ pub distinct-tail : (x : ℕ) (l : List ℕ) → Distinct (x ∷ l) → Distinct
 distinct-tail x l d = distinct-back (x ∷ []) l d
 
 module _ (f : ℕ → ℕ) where
-  -- what stands at i of a mapped list
-  pub map-at : (l : List ℕ) (i : ℕ) → i < length l → getD (map f l) i 0 ≡ f (getD l i 0)
-  map-at [] i h = absurd (not-suc-le-zero h)
-  map-at (x ∷ l) zero h = refl
-  map-at (x ∷ l) (suc i) h = map-at l i (omega arith)
-
   map-halves : (j : ℕ) (l : List ℕ) → map f l ≡ map f (take j l) ++ map f (drop j l)
   map-halves j l = ap (map f) (sym (take-append-drop j l)) ∙ map-append f (take j l) (drop j l)
 

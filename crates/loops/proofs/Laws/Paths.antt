@@ -11,10 +11,11 @@ use borrow.Author.Tests.{eqb-true, eqb-false, ne-eqb}
 use Rattle.surface.specs.declared.Found.{Found}
 use Rattle.surface.specs.declared.Found.the-variants.{At, Nothing}
 use Rattle.surface.specs.Edges.{startOf, endOf}
+use Rattle.surface.proofs.Laws.Lists.{map-at}
 use Rattle.surface.proofs.Laws.Smallest.{least-sound, least-never, least-first, never-least}
 use Rattle.loops.specs.Loops.{Split, startsAt, cut, grow, growAll, ring}
 use Rattle.loops.proofs.Laws.Distinct.{Distinct, distinct-append, distinct-none}
-use Rattle.loops.proofs.Laws.Parts.{distinct-one, distinct-map-take, distinct-map-drop, map-at}
+use Rattle.loops.proofs.Laws.Parts.{distinct-one, distinct-map-take, distinct-map-drop}
 use Rattle.loops.proofs.Laws.Each.{Each, each-none, each-one, each-append}
 use Rattle.loops.proofs.Laws.Linked.{Linked, Closed, FromTo, from-to-append, from-to-one, from-to-cut, from-to-begins, from-to-closed, closed-from-to, linked-from-to}
 
@@ -63,7 +64,7 @@ module _ (corners : List ℕ) where
       (distinct-append (ring corners p) (startOf corners e ∷ []) (h .apart) (distinct-one (startOf corners e)) hits)
     where
       hits : (i j : ℕ) → i < length (ring corners p) → j < 1 → getD (ring corners p) i 0 ≡ getD (startOf corners e ∷ []) j 0 → ⊥
-      hits i zero l m q = let k : i < length p = subst (λ (n : ℕ). i < n) (length-map p (startOf corners)) l in h .free i k (sym (map-at (startOf corners) p i k) ∙ q)
+      hits i zero l m q = let k : i < length p = subst (λ (n : ℕ). i < n) (length-map p (startOf corners)) l in h .free i k (sym (map-at (startOf corners) 0 0 p i k) ∙ q)
       hits i (suc j) l m q = absurd (omega arith)
 
   pub grow-walked : (s : ℕ) (t : Split) (e : ℕ) → Walked corners s t (startOf corners e) → Walked corners s (grow corners t e) (endOf corners e)
@@ -124,7 +125,7 @@ module _ (corners : List ℕ) where
   unfolding Distinct
   loop-distinct l h i j a b q =
       let n : length (ring corners l) ≡ length l = length-map l (startOf corners) in
-      h .apart i j (omega arith) (omega arith) (map-at (startOf corners) l i a ∙ ap (startOf corners) q ∙ sym (map-at (startOf corners) l j b))
+      h .apart i j (omega arith) (omega arith) (map-at (startOf corners) 0 0 l i a ∙ ap (startOf corners) q ∙ sym (map-at (startOf corners) 0 0 l j b))
 
   -- every loop that a walk lists is one
   pub linked-loops : (es : List ℕ) → Linked corners es → Each (Loop corners) (growAll corners fresh es .listed)

@@ -4,13 +4,14 @@ use mathlib.Core.Path.{_≡_, refl, ap₂, _∙_, sym}
 use mathlib.Core.List.{List, [], _++_, flatten}
 use Prim.Native.Nat.{ℕ, _+_}
 use lib.ListN.{length, length-append}
+use Rattle.surface.proofs.Laws.Lists.{flatten-append}
 use Rattle.loops.specs.Loops.{growAll}
 use Rattle.loops.proofs.Laws.Distinct.{Distinct}
 use Rattle.loops.proofs.Laws.Each.{Each, each-append}
 use Rattle.loops.proofs.Laws.Counts.{Same, same-append}
 use Rattle.loops.proofs.Laws.Linked.{Closed}
 use Rattle.loops.proofs.Laws.Paths.{Loop, fresh, linked-loops}
-use Rattle.loops.proofs.Laws.Kept.{total, total-append, closed-same, closed-total, flatten-append}
+use Rattle.loops.proofs.Laws.Kept.{total, total-append, closed-same, closed-total}
 use Rattle.loops.proofs.Laws.Places.{Parted, same-parted}
 use Rattle.loops.proofs.Laws.Three.{Plain, Threes, threes-append, linked-threes}
 

@@ -1,19 +1,19 @@
 -- From the checks, the finder and the run to what the patcher answers and leaves.
 use mathlib.Core.Path.{_≡_, sym, ap, _∙_, subst}
 use mathlib.Core.Bool.{true, false}
-use mathlib.Core.List.{List, [], _++_, map, flatten}
-use Prim.Native.Nat.{ℕ, _+_, _*_, _/_, _≤_}
+use mathlib.Core.List.{List, [], map, flatten}
+use Prim.Native.Nat.{ℕ, _*_, _/_, _≤_}
 use native.Mathlib.Nat.{le-trans}
 use native.Mathlib.Omega.{arith}
 use lib.IntN.{ℤ}
-use lib.ListN.{length, take, drop, length-append, length-map}
-use lib.Seq.{take-append-seam, length-take-le}
+use lib.ListN.{length, take, length-map}
 use Rattle.limits.specs.Limits as limits
 use Rattle.terms.specs.Answers.{refusing}
 use Rattle.terms.specs.declared.Answer.{Answer}
 use Rattle.terms.specs.declared.Answer.the-variants.{Done}
 use Rattle.surface.specs.Buffers.{over}
 use Rattle.surface.specs.Refusals.{countRefusal, contentRefusal, refusal}
+use Rattle.surface.proofs.Laws.Over.{start-of, front-in}
 use Rattle.surface.proofs.Laws.Thens.{then-refused, then-next, count-plain, content-plain, done-of, Fitting, counts-fit}
 use Rattle.loops.specs.Loops.{loops, ring}
 use Rattle.loops.proofs.Theorems.{vertices-in-all, vertices-few, loops-third}
@@ -29,12 +29,7 @@ use Rattle.run.specs.Run.{ringList}
 use Rattle.rounds.specs.Rings.{Loops}
 use Rattle.rounds.specs.Scratch.{Scratch}
 use Rattle.rounds.proofs.Laws.Rings.{loops-of}
-use Rattle.patcher.specs.Courses.{Lent, RunRoom, RanAll, Runs}
-
--- what stands at the start of a buffer that it was laid over
-start-of : {A : Type 0} (front buffer : List A) (n : ℕ) → n ≡ length front → take n (over front buffer) ≡ front
-unfolding over
-start-of {A} front buffer n e = ap (λ (k : ℕ). take k (front ++ drop (length front) buffer)) e ∙ take-append-seam front (drop (length front) buffer)
+use Rattle.course.specs.Courses.{Lent, RunRoom, RanAll, Runs}
 
 module _ (words corners : List ℕ) (b : Buffers) where
   -- what the table says decides
@@ -162,15 +157,6 @@ module _ (words corners : List ℕ) (b : Buffers) where
             }
 
 -- ---- the parts that the run is lent
-
-pub front-in : {A : Type 0} (front buffer l : List A) (n : ℕ) → n ≡ length front → l ≡ over front buffer → n ≤ length l
-unfolding over
-front-in front buffer l n e f =
-    let a : length l ≡ length front + length (drop (length front) buffer) = ap length f ∙ length-append front (drop (length front) buffer) in
-    omega arith
-
-pub as-long : {A : Type 0} (l : List A) (n : ℕ) → n ≤ length l → n ≡ length (take n l)
-as-long l n h = sym (length-take-le n l h)
 
 pub lengths-in : (corners : List ℕ) (ls : List (List ℕ)) (rings lengths firsts : List ℕ) (at : Listed) (rings′ lengths′ firsts′ : List ℕ) → Lists corners ls rings lengths firsts at rings′ lengths′ firsts′ → at .loops ≤ length lengths′
 lengths-in corners ls rings lengths firsts at rings′ lengths′ firsts′ l = front-in (map length ls) lengths lengths′ (at .loops) (l .count ∙ sym (length-map ls length)) (l .all-lengths)

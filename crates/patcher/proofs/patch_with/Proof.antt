@@ -4,7 +4,9 @@ use lib.ListN.{length-map}
 use lib.Dec.{lit≤}
 use native.Mathlib.Omega.{arith}
 use borrow.Author.Needs.{needs}
-use Rattle.patcher.proofs.Laws.Patching.{corners-few, counted, content-refuse, grid-ready, ready, lent-long, run-room, done-is, front-in, as-long, lengths-in}
+use Rattle.surface.proofs.Laws.Lists.{as-long}
+use Rattle.surface.proofs.Laws.Over.{front-in}
+use Rattle.patcher.proofs.Laws.Patching.{corners-few, counted, content-refuse, grid-ready, ready, lent-long, run-room, done-is, lengths-in}
 use Rattle.patcher.specs.Outcome.{buffers}
 use Rattle.survey.specs.Grid.{wholeOf}
 use Rattle.patcher.proofs.patch_with.Statement.{statement}

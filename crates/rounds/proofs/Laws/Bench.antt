@@ -1,12 +1,15 @@
--- The bench at the start, and the bench that a loop which lays nothing leaves to the next one.
+-- The bench at the start, the room on it for each ring, and the bench that a loop which lays nothing leaves to the next one.
 use mathlib.Core.Path.{_≡_, refl, sym, ap, _∙_, subst}
 use mathlib.Core.List.{List, [], _++_, append-nil}
-use Prim.Native.Nat.{ℕ, zero, suc, _%_, _<_}
+use Prim.Native.Nat.{ℕ, zero, suc, _+_, _*_, _%_, _<_, _≤_}
+use native.Mathlib.Omega.{arith}
 use lib.Ieee.{Float}
-use lib.ListN.{length, getD, replicate}
+use lib.ListN.{length, getD, replicate, length-replicate}
 use Rattle.limits.specs.Limits as limits
-use Rattle.bars.specs.Chains.{Tells}
-use Rattle.rounds.specs.Bench.{Bench}
+use Rattle.bars.specs.Chains.{Tells, InputRoom}
+use Rattle.column.specs.Columns.{Table}
+use Rattle.rounds.specs.Rings.{Input}
+use Rattle.rounds.specs.Bench.{Bench, BenchRoom}
 
 -- an array of zeros
 abbrev pub noughts : ℕ → List ℕ
@@ -16,6 +19,42 @@ pub zeros : (n v : ℕ) → getD (noughts n) v 0 ≡ 0
 zeros zero v = refl
 zeros (suc n) zero = refl
 zeros (suc n) (suc v) = zeros n v
+
+-- how many edges the chains hold at most
+abbrev pub edgesMost : ℕ
+edgesMost = 2 * limits.corners
+
+pub input-room : (input : List ℕ) → Input input → InputRoom input (noughts limits.points) (noughts edgesMost) (noughts edgesMost)
+input-room input i =
+    let a : length input ≤ limits.corners = i .few in
+    let b : length (noughts edgesMost) ≡ edgesMost = length-replicate {A = ℕ} edgesMost 0 in
+    record {
+      triples = i .whole;
+      few = omega arith;
+      inside = i .inside;
+      heads-long = length-replicate {A = ℕ} limits.points 0;
+      none = λ u h. zeros limits.points u;
+      links-room = omega arith;
+      ends-room = omega arith;
+    }
+
+pub bench-begins : (input heads links ends : List ℕ) (table : List Float) → Table table → Tells input [] (length input) heads links ends
+    → Bench input [] (length input) heads links ends (noughts limits.points) 1 (noughts limits.longest) table
+bench-begins input heads links ends table long t = record {
+  tells = t;
+  whole = refl;
+  marks-long = length-replicate {A = ℕ} limits.points 0;
+  below = λ v. let z : getD (noughts limits.points) v 0 ≡ 0 = zeros limits.points v in omega arith;
+  rows-long = length-replicate {A = ℕ} limits.longest 0;
+  table-long = long;
+}
+
+-- behind the diagonals of r ring vertices, which are no more than these
+pub ring-room : (input ring links ends : List ℕ) (r e : ℕ) → Input input → 3 ≤ length ring → r + length ring ≤ limits.corners → e ≤ length input + r
+    → length links ≡ edgesMost → length ends ≡ edgesMost → BenchRoom ring links ends (r + 1) e
+ring-room input ring links ends r e i three few edges ll le =
+    let a : length input ≤ limits.corners = i .few in
+    record { links-room = omega arith; ends-room = omega arith; few-edges = omega arith; few-marks = omega arith }
 
 pub bench-kept : (input before : List ℕ) (e f : ℕ) (heads links ends marks marks′ : List ℕ) (base base′ : ℕ) (rows rows′ : List ℕ) (table table′ : List Float)
     → Bench input before e heads links ends marks base rows table → f ≡ e → length marks′ ≡ limits.points → ((v : ℕ) → getD marks′ v 0 < base′)

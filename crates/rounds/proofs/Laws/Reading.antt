@@ -8,8 +8,10 @@ use native.Mathlib.Omega.{arith}
 use lib.IntN.{ℤ}
 use lib.ListN.{length, getD, take, drop, length-append, length-map, take-append-drop, List·getD-map}
 use lib.Seq.{take-suc, drop-cons, drop-append-add, take-append-seam}
-use Rattle.loops.proofs.Laws.Kept.{flatten-append, flatten-snoc}
-use Rattle.rounds.specs.Rings.{Loops}
+use Rattle.limits.specs.Limits as limits
+use Rattle.surface.proofs.Laws.Lists.{flatten-append}
+use Rattle.loops.proofs.Laws.Kept.{flatten-snoc}
+use Rattle.rounds.specs.Rings.{Loops, RingPlace}
 
 -- behind the first l rings stands the next one
 pub ring-next : (rs : List (List ℕ)) (l : ℕ) → l < length rs → flatten (take (l + 1) rs) ≡ flatten (take l rs) ++ getD rs l []
@@ -57,3 +59,18 @@ module _ (grid : List ℤ) (input : List ℕ) (rs : List (List ℕ)) (rings leng
       let b : length (flatten (take (l + 1) rs)) ≡ length (flatten (take l rs)) + length (getD rs l []) =
       ap length (ring-next rs l h) ∙ length-append (flatten (take l rs)) (getD rs l []) in
       omega arith
+
+  pub places-of : (l r : ℕ) → l < length lengths → r ≡ length (flatten (take l rs)) → RingPlace rings lengths l r
+  places-of l r h e =
+      let a : length lengths ≡ length rs = as-many in
+      let i : l < length rs = omega arith in
+      let f : length rs ≤ limits.triangles = s .few-loops in
+      let n : getD lengths l 0 ≡ length (getD rs l []) = length-at l i in
+      let t : 3 ≤ length (getD rs l []) = s .each l i .three in
+      record {
+        ring-in = end-in l r i e;
+        rings-few = s .few;
+        loop-in = omega arith;
+        three = omega arith;
+        part-long = ap length (ring-at l r i e) ∙ sym n;
+      }

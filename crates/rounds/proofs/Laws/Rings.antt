@@ -4,8 +4,7 @@ use mathlib.Core.Path.{_≡_, refl, sym, _∙_, subst}
 use mathlib.Core.Bool.{Bool, true, false, _&&_, true≢false}
 use mathlib.Core.List.{List, [], _∷_, map}
 use mathlib.Core.Logic.{⊎-elim}
-use Prim.Native.Nat.{ℕ, zero, suc, _-_, _/_, _<_, _≤_}
-use native.Mathlib.Nat.{not-suc-le-zero}
+use Prim.Native.Nat.{ℕ, suc, _-_, _/_, _<_, _≤_}
 use native.Mathlib.Numerals.{add-one}
 use native.Mathlib.Omega.{arith}
 use borrow.Author.Tests.{ltb-false, not-false}
@@ -20,6 +19,7 @@ use Rattle.grid.specs.Places.{whole}
 use Rattle.surface.specs.Edges.{startOf, endOf}
 use Rattle.surface.specs.Refusals.{notFinite, tooFar}
 use Rattle.surface.proofs.Laws.Tests.{lt-or-le}
+use Rattle.surface.proofs.Laws.Lists.{map-at}
 use Rattle.surface.proofs.Laws.Smallest.{least-never, index-any}
 use Rattle.surface.proofs.Laws.Edges.{runs-from}
 use Rattle.loops.specs.Loops.{loops, ring}
@@ -34,13 +34,6 @@ use Rattle.bars.specs.Bars.{edge, between}
 use Rattle.bars.proofs.Laws.Tests.{or-left}
 use Rattle.run.specs.Run.{ringList}
 use Rattle.rounds.specs.Rings.{RingOf, Loops}
-
--- ---- what stands in a list made from another
-
-map-at : {A B : Type 0} (f : A → B) (xs : List A) (j : ℕ) (a : A) (b : B) → j < length xs → getD (map f xs) j b ≡ f (getD xs j a)
-map-at f [] j a b l = absurd (not-suc-le-zero l)
-map-at f (x ∷ xs) zero a b l = refl
-map-at f (x ∷ xs) (suc j) a b l = map-at f xs j a b (omega arith)
 
 -- a ring is as long as its loop
 lengths-kept : (corners : List ℕ) (ls : List (List ℕ)) → map length ls ≡ map length (map (ring corners) ls)
@@ -63,7 +56,7 @@ word-near words on j l =
 
 coordinates-of : (words : List ℕ) → OnGrid words → Coordinates (gridOf words)
 coordinates-of words on j =
-    ⊎-elim (λ l. subst Coordinate (sym (map-at wholeOf words j 0 (pos 0) l)) (word-near words on j l))
+    ⊎-elim (λ l. subst Coordinate (sym (map-at wholeOf 0 (pos 0) words j l)) (word-near words on j l))
     (λ m.
     let n : length (gridOf words) ≤ j = omega (arith, length-map words wholeOf) in
     let z : 0 ≤ limits.greatest = omega arith in
@@ -86,7 +79,7 @@ module _ (words corners table : List ℕ) (woven : Woven corners (length words /
   long = length-map loop (startOf corners)
 
   at : (j : ℕ) → j < length loop → getD (ring corners loop) j 0 ≡ startOf corners (getD loop j 0)
-  at j k = map-at (startOf corners) loop j 0 0 k
+  at j k = map-at (startOf corners) 0 0 loop j k
 
   edge-in : (j : ℕ) → j < length loop → getD loop j 0 < length corners
   edge-in j k = one-loop corners (woven .sound) .nothing-else (getD loop j 0) (record { loop = l; loop-below = below; at = j; at-below = k; is = refl }) .0

@@ -34,6 +34,11 @@ pub following-third : (t : ℕ) → following (3 * t + 2) ≡ 3 * t
 unfolding following
 following-third t = omega arith
 
+-- behind whole triangles they go on as they do alone
+pub following-on : (n k : ℕ) → n % 3 ≡ 0 → following (n + k) ≡ n + following k
+unfolding following
+following-on n k t = omega arith
+
 -- what holds of the three half-edges of every triangle holds of every half-edge
 by-place : (P : ℕ → Type 0) (h : ℕ) → P (3 * (h / 3)) → P (3 * (h / 3) + 1) → P (3 * (h / 3) + 2) → P h
 by-place P h first second third = go (h % 3) refl

@@ -1,10 +1,10 @@
--- What is laid over a buffer's start: one more item goes behind the last, the length stays, and laying the same again changes nothing.
+-- What is laid over a buffer's start: one more item goes behind the last, laying the same again changes nothing, and it is read back from there.
 use mathlib.Core.Path.{_≡_, refl, sym, ap, _∙_}
 use mathlib.Core.List.{List, [], _∷_, _++_, append-assoc, append-nil}
-use Prim.Native.Nat.{ℕ, suc, _+_, _<_}
+use Prim.Native.Nat.{ℕ, suc, _+_, _<_, _≤_}
 use native.Mathlib.Omega.{arith}
-use lib.ListN.{length, getD, drop, set, length-append}
-use lib.Seq.{drop-cons, set-at, drop-append-add, drop-drop}
+use lib.ListN.{length, getD, take, drop, set, length-append}
+use lib.Seq.{drop-cons, set-at, drop-append-add, drop-drop, take-append-seam}
 use Rattle.surface.specs.Buffers.{over}
 
 module _ {A : Type 0} where
@@ -31,3 +31,14 @@ module _ {A : Type 0} where
 
   pub over-self : (a w : List A) → over a (over a w) ≡ over a w
   over-self a w = rw append-nil at (over-twice a [] w)
+
+  -- what stands at the start of a buffer that it was laid over
+  pub start-of : (a w : List A) (n : ℕ) → n ≡ length a → take n (over a w) ≡ a
+  unfolding over
+  start-of a w n e = ap (λ (k : ℕ). take k (a ++ drop (length a) w)) e ∙ take-append-seam a (drop (length a) w)
+
+  pub front-in : (a w l : List A) (n : ℕ) → n ≡ length a → l ≡ over a w → n ≤ length l
+  unfolding over
+  front-in a w l n e f =
+      let m : length l ≡ length a + length (drop (length a) w) = ap length f ∙ length-append a (drop (length a) w) in
+      omega arith

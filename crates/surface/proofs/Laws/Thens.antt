@@ -5,7 +5,7 @@ use mathlib.Core.List.{List}
 use Prim.Native.Nat.{ℕ, _+_, _/_, _%_, _≤_, _<_}
 use native.Mathlib.Omega.{arith}
 use lib.ListN.{length, getD}
-use borrow.Author.Tests.{eqb-true, leb-true, ltb-false}
+use borrow.Author.Tests.{eqb-true, leb-true, ltb-true, ltb-false}
 use Rattle.limits.specs.Limits as limits
 use Rattle.terms.specs.Answers.{refusing}
 use Rattle.terms.specs.Counts.{threes}
@@ -17,7 +17,7 @@ use Rattle.surface.specs.Smallest.{least}
 use Rattle.surface.specs.Edges.{twice, repeats}
 use Rattle.surface.specs.Refusals.{short, unnamed, notFinite, tooFar, thenCheck, refuseAt, refuseIf, countRefusal, bufferRefusal, cornerRefusal, wordRefusal, contentRefusal}
 use Rattle.surface.proofs.Laws.Tests.{both-true}
-use Rattle.surface.proofs.Laws.Smallest.{least-never}
+use Rattle.surface.proofs.Laws.Smallest.{least-never, least-sound}
 
 -- ---- one after the other
 
@@ -124,6 +124,18 @@ buffers-long lent needs d i l = go (least (short lent needs) (length needs)) ref
     go : (f : Found) → least (short lent needs) (length needs) ≡ f → refuseAt (λ i. Buffer (i + 1)) f ≡ Done → getD needs i 0 ≤ getD lent i 0
     go (At j) e d = let z : _≡_ {A = ℕ} 0 1 = cc in absurd (omega arith)
     go Nothing e d = ltb-false (getD lent i 0) (getD needs i 0) (least-never (short lent needs) (length needs) e i l)
+
+-- and buffers that are, are not refused
+pub buffers-enough : (lent needs : List ℕ) → ((i : ℕ) → i < length needs → getD needs i 0 ≤ getD lent i 0) → bufferRefusal lent needs ≡ Done
+unfolding bufferRefusal short
+buffers-enough lent needs h = go (least (short lent needs) (length needs)) refl
+  where
+    go : (f : Found) → least (short lent needs) (length needs) ≡ f → refuseAt (λ (i : ℕ). Buffer (i + 1)) f ≡ Done
+    go Nothing e = refl
+    go (At i) e =
+        let s = least-sound (short lent needs) (length needs) i e in
+        let l : getD lent i 0 < getD needs i 0 = ltb-true (getD lent i 0) (getD needs i 0) (s .1) in
+        absurd (omega (arith, h i (s .0)))
 
 -- words that pass are finite and near
 pub words-pass : (words : List ℕ) → wordRefusal words ≡ Done → (least (notFinite words) (length words) ≡ Nothing) × (least (tooFar words) (length words) ≡ Nothing)

@@ -6,10 +6,11 @@ use Prim.Native.Nat.{ℕ, zero, suc, _+_, _-_, _<_, _≤_}
 use native.Mathlib.Omega.{arith}
 use lib.ListN.{length, take, drop, take-append-drop}
 use lib.Seq.{take-take, length-take-le}
+use Rattle.surface.proofs.Laws.Lists.{flatten-append}
 use Rattle.digits.proofs.Laws.Digit.{lt-or-ge}
 use Rattle.texts.specs.Text.{count, Part, lines}
 use Rattle.texts.specs.Fault.{Starts}
-use Rattle.texts.proofs.Laws.Lists.{flatten-append, all-take}
+use Rattle.texts.proofs.Laws.Lists.{all-take}
 use Rattle.texts.proofs.Laws.Parts.{Begins}
 use Rattle.texts.proofs.Laws.Fill.{fill, fill-length, fill-valid, fill-take}
 use Rattle.texts.proofs.Laws.Lines.{flat-first, flat-second, lines-length, take-first, take-second}

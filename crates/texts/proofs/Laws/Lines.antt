@@ -5,8 +5,9 @@ use Prim.Native.Nat.{ℕ, suc, _+_, _≤_}
 use native.Mathlib.Omega.{arith}
 use lib.ListN.{length, take, length-append, length-map}
 use lib.Seq.{take-append-le, take-append-add}
+use Rattle.surface.proofs.Laws.Lists.{flatten-append}
 use Rattle.texts.specs.Text.{count, Part, lines, text}
-use Rattle.texts.proofs.Laws.Lists.{flatten-append, map-take}
+use Rattle.texts.proofs.Laws.Lists.{map-take}
 
 -- the bytes of a count and lines, and of two counts with lines
 pub flat-first : (c : List ℕ) (l : List (List ℕ)) (rest : List ℕ) → flatten (c ∷ l) ++ rest ≡ c ++ (flatten l ++ rest)

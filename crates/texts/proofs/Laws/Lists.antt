@@ -1,14 +1,9 @@
--- Lists of lines: lines joined, lines of the first few things, and what holds of all things of a list.
-use mathlib.Core.Path.{_≡_, refl, sym, ap, _∙_}
-use mathlib.Core.List.{List, [], _∷_, _++_, map, flatten, append-assoc}
+-- Lists of lines: lines of the first few things, and what holds of all things of a list.
+use mathlib.Core.Path.{_≡_, refl, ap}
+use mathlib.Core.List.{List, [], _∷_, _++_, map}
 use Prim.Native.Nat.{ℕ, zero, suc}
 use lib.ListN.{take, replicate}
 use Rattle.texts.specs.Text.{All}
-
-pub flatten-append : {A : Type 0} (k l : List (List A)) → flatten (k ++ l) ≡ flatten k ++ flatten l
-unfolding flatten
-flatten-append [] l = refl
-flatten-append (x ∷ k) l = ap (λ (r : List _). x ++ r) (flatten-append k l) ∙ sym (append-assoc x (flatten k) (flatten l))
 
 pub map-take : {A B : Type 0} (f : A → B) (n : ℕ) (l : List A) → take n (map f l) ≡ map f (take n l)
 map-take f zero l = refl

@@ -1,0 +1,196 @@
+-- The demand of texts is kept, by every outcome that reading and writing may have.
+use mathlib.Core.Path.{_≡_, refl, sym, ap, ap₂, _∙_, subst}
+use mathlib.Core.Bool.{Bool, true, false, true≢false, _&&_}
+use mathlib.Core.Logic.{_⊎_, inl, inr}
+use mathlib.Core.List.{List, [], _∷_}
+use Prim.Native.Nat.{ℕ, zero, suc, _+_, _*_, _/_, _%_, _<_, _≤_}
+use native.Mathlib.Omega.{arith}
+use lib.ListN.{length, take, getD}
+use borrow.Author.Tests.{eq-eqb, le-leb}
+use Rattle.limits.specs.Limits as limits
+use Rattle.terms.specs.Answers.{refusing}
+use Rattle.terms.specs.Counts as counts
+use Rattle.terms.specs.declared.Answer.{Answer}
+use Rattle.terms.specs.declared.Answer.the-variants.{Done, Buffer, Unnamed, Line}
+use Rattle.surface.specs.declared.Found.{Found}
+use Rattle.surface.specs.declared.Found.the-variants.{At, Nothing}
+use Rattle.surface.specs.Smallest.{least}
+use Rattle.surface.specs.Refusals.{short, unnamed, refuseAt, thenCheck, countRefusal, bufferRefusal, unnamedRefusal}
+use Rattle.surface.proofs.Laws.Thens.{Fitting, counts-fit, buffers-enough}
+use Rattle.surface.proofs.Laws.Over.{start-of}
+use Rattle.surface.proofs.Laws.Sound.{next-of}
+use Rattle.surface.proofs.Laws.Refusing.{counts-done}
+use Rattle.texts.specs.Text.{TextOf}
+use Rattle.texts.specs.Text as texts
+use Rattle.texts.specs.Fault.{Fault}
+use Rattle.texts.proofs.Laws.Cut.{fault-whole}
+use Rattle.sheet.specs.Sheet.{Three, threes, flat, points, triangles, text}
+use Rattle.sheet.proofs.Laws.Texts.{text-once, text-or-fault}
+use Rattle.sheet.proofs.Laws.Threes.{flat-length, flat-threes, threes-flat}
+use Rattle.sheet.proofs.Theorems.{longest, longest-met}
+use Rattle.intake.specs.Outcome.{ReadOutcome, Reads, deliver}
+use Rattle.scribe.specs.Outcome.{writeRefusal, writes}
+use Rattle.scribe.proofs.Theorems.{written-text, checks}
+use Rattle.demands.specs.Texts.{Words, readAll, wroteAll, TextsDemand}
+
+-- ---- buffers that are long enough are not refused
+
+one-long : (m n : ℕ) → n ≤ m → bufferRefusal (m ∷ []) (n ∷ []) ≡ Done
+one-long m n h = buffers-enough (m ∷ []) (n ∷ []) at-each
+  where
+    at-each : (i : ℕ) → i < 1 → getD (n ∷ []) i 0 ≤ getD (m ∷ []) i 0
+    at-each zero l = h
+    at-each (suc i) l = absurd (omega arith)
+
+two-long : (m n k l : ℕ) → k ≤ m → l ≤ n → bufferRefusal (m ∷ n ∷ []) (k ∷ l ∷ []) ≡ Done
+two-long m n k l h g = buffers-enough (m ∷ n ∷ []) (k ∷ l ∷ []) at-each
+  where
+    at-each : (i : ℕ) → i < 2 → getD (k ∷ l ∷ []) i 0 ≤ getD (m ∷ n ∷ []) i 0
+    at-each zero p = h
+    at-each (suc zero) p = g
+    at-each (suc (suc i)) p = absurd (omega arith)
+
+-- ---- handing over
+
+module _ (ws cs words corners : List ℕ) where
+  abbrev room : Answer
+  room = bufferRefusal (length words ∷ length corners ∷ []) (length ws ∷ length cs ∷ [])
+
+  abbrev names : Answer
+  names = unnamedRefusal cs (length ws / 3)
+
+  delivered : room ≡ Done → names ≡ Done → deliver ws cs words corners ≡ readAll ws cs words corners
+  unfolding deliver
+  delivered b u = rw (b, u)
+
+  -- done is said only where neither check refused
+  done-delivers : deliver ws cs words corners .answer ≡ Done → deliver ws cs words corners ≡ readAll ws cs words corners
+  unfolding deliver
+  done-delivers d = go (refusing (thenCheck room names)) refl
+    where
+      go : (t : Bool) → refusing (thenCheck room names) ≡ t → deliver ws cs words corners ≡ readAll ws cs words corners
+      go true e = absurd (true≢false (sym e ∙ ap refusing (rw e at d)))
+      go false e = rw e
+
+  done-names : deliver ws cs words corners .answer ≡ Done → names ≡ Done
+  unfolding deliver
+  done-names d = go (refusing (thenCheck room names)) refl
+    where
+      named : (f : Found) → refusing (refuseAt Unnamed f) ≡ false → refuseAt Unnamed f ≡ Done
+      named Nothing e = refl
+      named (At i) e = absurd (true≢false e)
+
+      go : (t : Bool) → refusing (thenCheck room names) ≡ t → names ≡ Done
+      go true e = absurd (true≢false (sym e ∙ ap refusing (rw e at d)))
+      go false e = named (least (unnamed cs (length ws / 3)) (length cs)) (next-of room names e .second)
+
+-- ---- the two ways back
+
+module _ (ws cs buffer words corners : List ℕ) (w : Words ws) (d : writes ws cs buffer .answer ≡ Done) where
+  back : (o : ReadOutcome) → Reads (take (writes ws cs buffer .count) (writes ws cs buffer .bytes)) words corners o → length ws ≤ length words → length cs ≤ length corners
+      → o ≡ readAll ws cs words corners
+  back o r h g =
+      let c = checks ws cs buffer d in
+      let f : Fitting (length ws) (length cs) = counts-fit (length ws) (length cs) (c .0) in
+      let e : flat (threes ws) ≡ ws = flat-threes (length ws / 3) ws (omega (arith, f .word-threes)) in
+      let k : flat (threes cs) ≡ cs = flat-threes (length cs / 3) cs (omega (arith, f .corner-threes)) in
+      r .of-text (threes ws) (threes cs) (written-text ws cs buffer (writes ws cs buffer) refl d .1 w)
+      ∙ ap₂ (λ (x y : List ℕ). deliver x y words corners) e k
+      ∙ delivered ws cs words corners (two-long (length words) (length corners) (length ws) (length cs) h g) (ap (refuseAt Unnamed) (c .1))
+
+done-line : {l : ℕ} → Line l ≡ Done → ⊥
+done-line e = true≢false (ap refusing e)
+
+whole-count : (most n : ℕ) → 3 * n ≤ most → counts.threes most (3 * n) ≡ true
+whole-count most n h = ap₂ (λ (s t : Bool). s && t) (eq-eqb ((3 * n) % 3) 0 (omega arith)) (le-leb (3 * n) most h)
+
+module _ (bytes buffer : List ℕ) (ps ts : List Three) (t : TextOf points triangles bytes ps ts) (h : length bytes ≤ length buffer) (n : unnamedRefusal (flat ts) (length (flat ps) / 3) ≡ Done) where
+  same-text : text (flat ps) (flat ts) ≡ bytes
+  same-text = ap₂ (texts.text points triangles) (threes-flat ps) (threes-flat ts) ∙ sym (t .is)
+
+  counted : countRefusal (length (flat ps)) (length (flat ts)) ≡ Done
+  counted =
+      ap₂ countRefusal (flat-length ps) (flat-length ts)
+      ∙ sym (
+      counts-done (3 * length ps) (3 * length ts) (whole-count limits.words (length ps) (omega (arith, t .says .first-few)))
+      (whole-count limits.corners (length ts) (omega (arith, t .says .second-few)))
+      )
+
+  unrefused : writeRefusal (flat ps) (flat ts) buffer ≡ Done
+  unfolding writeRefusal
+  unrefused =
+      let b : bufferRefusal (length buffer ∷ []) (length (text (flat ps) (flat ts)) ∷ []) ≡ Done = one-long (length buffer) (length (text (flat ps) (flat ts))) (omega (arith, ap length same-text)) in
+      rw (counted, b, n)
+
+  wrote : writes (flat ps) (flat ts) buffer ≡ wroteAll bytes buffer
+  unfolding writes
+  wrote = rw unrefused (ap (λ (b : List ℕ). wroteAll b buffer) same-text)
+
+module _ (bytes words corners buffer : List ℕ) (o : ReadOutcome) (r : Reads bytes words corners o) (d : o .answer ≡ Done) (h : length bytes ≤ length buffer) where
+  again : writes (take (o .word-count) (o .words)) (take (o .corner-count) (o .corners)) buffer ≡ wroteAll bytes buffer
+  again = go (text-or-fault bytes)
+    where
+      go : ((ps : List Three) × (ts : List Three) × TextOf points triangles bytes ps ts) ⊎ ((line : ℕ) × Fault points triangles bytes line)
+          → writes (take (o .word-count) (o .words)) (take (o .corner-count) (o .corners)) buffer ≡ wroteAll bytes buffer
+      go (inr f) = absurd (done-line (sym (ap (λ (p : ReadOutcome). p .answer) (r .of-fault (f .0) (f .1))) ∙ d))
+      go (inl t) =
+          let ws : List ℕ = flat (t .0) in
+          let cs : List ℕ = flat (t .1) in
+          let e : o ≡ deliver ws cs words corners = r .of-text (t .0) (t .1) (t .2) in
+          let g : deliver ws cs words corners .answer ≡ Done = ap (λ (p : ReadOutcome). p .answer) (sym e) ∙ d in
+          let k : o ≡ readAll ws cs words corners = e ∙ done-delivers ws cs words corners g in
+          ap (λ (p : ReadOutcome). writes (take (p .word-count) (p .words)) (take (p .corner-count) (p .corners)) buffer) k
+          ∙ ap₂ (λ (x y : List ℕ). writes x y buffer) (start-of ws words (length ws) refl) (start-of cs corners (length cs) refl)
+          ∙ wrote bytes buffer (t .0) (t .1) (t .2) h (done-names ws cs words corners g)
+
+-- ---- a wrong line
+
+no-line-at : (F : ℕ → Answer) (l : ℕ) → ((i : ℕ) → F i ≡ Line l → ⊥) → (f : Found) → refuseAt F f ≡ Line l → ⊥
+no-line-at F l h (At i) e = h i e
+no-line-at F l h Nothing e = done-line (sym e)
+
+buffer-line : {i l : ℕ} → Buffer i ≡ Line l → ⊥
+buffer-line e = let z : _≡_ {A = ℕ} 0 1 = cc in omega arith
+
+unnamed-line : {i l : ℕ} → Unnamed i ≡ Line l → ⊥
+unnamed-line e = let z : _≡_ {A = ℕ} 0 1 = cc in omega arith
+
+module _ (ws cs words corners : List ℕ) (l : ℕ) where
+  no-line : thenCheck (room ws cs words corners) (names ws cs words corners) ≡ Line l → ⊥
+  unfolding bufferRefusal
+  no-line e = go (refusing (room ws cs words corners)) refl
+    where
+      go : (t : Bool) → refusing (room ws cs words corners) ≡ t → ⊥
+      go true r = no-line-at (λ (i : ℕ). Buffer (i + 1)) l (λ i k. buffer-line k) (least (short (length words ∷ length corners ∷ []) (length ws ∷ length cs ∷ [])) 2) (rw r at e)
+      go false r = no-line-at Unnamed l (λ i k. unnamed-line k) (least (unnamed cs (length ws / 3)) (length cs)) (rw r at e)
+
+  delivers-no-line : deliver ws cs words corners .answer ≡ Line l → ⊥
+  unfolding deliver
+  delivers-no-line d = go (refusing (thenCheck (room ws cs words corners) (names ws cs words corners))) refl
+    where
+      go : (t : Bool) → refusing (thenCheck (room ws cs words corners) (names ws cs words corners)) ≡ t → ⊥
+      go true e = no-line (rw e at d)
+      go false e = done-line (sym (rw e at d))
+
+module _ (bytes words corners : List ℕ) (o : ReadOutcome) (r : Reads bytes words corners o) (line : ℕ) where
+  told-wrong : o .answer ≡ Line line → Fault points triangles bytes line
+  told-wrong d = go (text-or-fault bytes)
+    where
+      go : ((ps : List Three) × (ts : List Three) × TextOf points triangles bytes ps ts) ⊎ ((k : ℕ) × Fault points triangles bytes k) → Fault points triangles bytes line
+      go (inl t) = absurd (delivers-no-line (flat (t .0)) (flat (t .1)) words corners line (sym (ap (λ (p : ReadOutcome). p .answer) (r .of-text (t .0) (t .1) (t .2))) ∙ d))
+      go (inr f) =
+          let e : Line (f .0) ≡ Line line = sym (ap (λ (p : ReadOutcome). p .answer) (r .of-fault (f .0) (f .1))) ∙ d in
+          let k : f .0 ≡ line = cc in
+          subst (Fault points triangles bytes) k (f .1)
+
+pub texts-demand : TextsDemand
+texts-demand = record {
+  reads-back = λ ws cs buffer words corners o w d r h g. back ws cs buffer words corners w d o r h g;
+  writes-back = λ bytes words corners buffer o r d h. again bytes words corners buffer o r d h;
+  one-sheet = λ bytes ps ps′ ts ts′ t u. text-once t u;
+  longest = λ bytes ps ts t. longest t;
+  longest-met = longest-met;
+  wrong-line = λ bytes words corners o r line d. told-wrong bytes words corners o r line d;
+  line-wrong = λ bytes words corners o r line f. ap (λ (p : ReadOutcome). p .answer) (r .of-fault line f);
+  front-enough = λ bytes m line f. fault-whole points triangles 47131 (λ b ps ts t. longest t) bytes m f;
+}

@@ -1,0 +1,4 @@
+-- The laws of reading a sheet text, each file for one idea.
+pub mod Whole
+pub mod Deliver
+pub mod Within

@@ -1,0 +1,152 @@
+// Reading a sheet text into lent buffers.
+ghost use mathlib.Core.Path.{_≡_};
+ghost use Prim.Native.Nat.{_*_, _<_, _≤_};
+ghost use lib.ListN.{length};
+ghost use Rattle.limits.specs.Limits as limits;
+ghost use Rattle.sheet.specs.Parse.{parse, Room};
+ghost use Rattle.intake.specs.Outcome.{readOutcome, deliver, Reads};
+ghost use Rattle.intake.specs.Scanning.{Scanned};
+use digits::Number;
+use sheet::Pass;
+use surface::Found;
+use terms::Answer;
+use terms::Surface;
+
+// How long a text is that is read with little scratch.
+const SHORT: usize = 256;
+
+// The counts of a whole text, or the line of its fault.
+pub enum Scan {
+    Whole(usize, usize),
+    Wrong(usize),
+}
+
+// What reading answers, with the counts of words and corners.
+pub struct ReadSheet {
+    pub answer: Answer,
+    pub words: usize,
+    pub corners: usize,
+}
+
+// A whole text, its words and corners laid into two buffers from their starts.
+pub fn take_in(text: &[u8], words: &mut [u32], corners: &mut [u16]) -> Scan
+    requires { ⌜ Room 29 limits.points (length (now text)) (length (now words)) × Room 8 limits.triangles (length (now text)) (length (now corners)) ⌝ }
+    ensures { λ r. ⌜ Scanned (parse (now (text .entry))) r (now (words .exit)) (now (corners .exit)) (now (words .entry)) (now (corners .entry)) ⌝ }
+{
+    let Number::Is(n, first) = sheet::count_at(text, 0, b"points=", Surface::POINTS) else {
+        return Scan::Wrong(1);
+    };
+    let points = n as usize;
+    match sheet::read_points(text, first, points, words) {
+        Pass::Stuck(i) => Scan::Wrong(2 + i),
+        Pass::Through(middle) => {
+            let Number::Is(t, second) = sheet::count_at(
+                text,
+                middle,
+                b"triangles=",
+                Surface::TRIANGLES,
+            ) else {
+                return Scan::Wrong(points + 2);
+            };
+            let triangles = t as usize;
+            match sheet::read_triangles(text, second, triangles, corners) {
+                Pass::Stuck(i) => Scan::Wrong(points + 3 + i),
+                Pass::Through(end) => {
+                    if end < text.len() {
+                        Scan::Wrong(points + triangles + 3)
+                    } else {
+                        Scan::Whole(points, triangles)
+                    }
+                }
+            }
+        }
+    }
+}
+
+fn refused(answer: Answer) -> ReadSheet
+    ensures { λ r. ⌜ (r .answer ≡ answer) × (r .words ≡ 0) × (r .corners ≡ 0) ⌝ }
+{
+    ReadSheet {
+        answer,
+        words: 0,
+        corners: 0,
+    }
+}
+
+// Hands a sheet's words and corners over, where there is room and every corner names a point.
+fn hand_over(
+    points: usize,
+    ws: &[u32],
+    cs: &[u16],
+    words: &mut [u32],
+    corners: &mut [u16],
+) -> ReadSheet
+    requires { ⌜ (length (now ws) ≡ 3 * points) × (points < 65536) ⌝ }
+    ensures { λ r. ⌜
+        readOutcome r (now (words .exit)) (now (corners .exit))
+        ≡ deliver (now (ws .entry)) (now (cs .entry)) (now (words .entry)) (now (corners .entry))
+        ⌝ }
+{
+    let short = surface::check_buffers(&[words.len(), corners.len()], &[ws.len(), cs.len()]);
+    if short.refuses() {
+        return refused(short);
+    }
+    if let Found::At(i) = surface::first_unnamed(cs, points as u16) {
+        return refused(Answer::Unnamed(i));
+    }
+    sheet::copy_words(ws, words);
+    sheet::copy_corners(cs, corners);
+    ReadSheet {
+        answer: Answer::Done,
+        words: ws.len(),
+        corners: cs.len(),
+    }
+}
+
+// Reads a text by way of some scratch.
+fn read_by(
+    text: &[u8],
+    ws: &mut [u32],
+    cs: &mut [u16],
+    words: &mut [u32],
+    corners: &mut [u16],
+) -> ReadSheet
+    requires { ⌜ Room 29 limits.points (length (now text)) (length (now ws)) × Room 8 limits.triangles (length (now text)) (length (now cs)) ⌝ }
+    ensures { λ r. ⌜ Reads (now (text .entry)) (now (words .entry)) (now (corners .entry)) (readOutcome r (now (words .exit)) (now (corners .exit))) ⌝ }
+{
+    match take_in(text, ws, cs) {
+        Scan::Wrong(line) => refused(Answer::Line(line)),
+        Scan::Whole(points, triangles) => {
+            let w = 3 * points;
+            let c = 3 * triangles;
+            hand_over(points, &ws[..w], &cs[..c], words, corners)
+        }
+    }
+}
+
+fn read_short(text: &[u8], words: &mut [u32], corners: &mut [u16]) -> ReadSheet
+    requires { do most ← ⟦SHORT⟧; ⌜ length (now text) ≤ most ⌝ }
+    ensures { λ r. ⌜ Reads (now (text .entry)) (now (words .entry)) (now (corners .entry)) (readOutcome r (now (words .exit)) (now (corners .exit))) ⌝ }
+{
+    let mut ws = [0u32; 32];
+    let mut cs = [0u16; 128];
+    read_by(text, &mut ws, &mut cs, words, corners)
+}
+
+fn read_long(text: &[u8], words: &mut [u32], corners: &mut [u16]) -> ReadSheet
+    ensures { λ r. ⌜ Reads (now (text .entry)) (now (words .entry)) (now (corners .entry)) (readOutcome r (now (words .exit)) (now (corners .exit))) ⌝ }
+{
+    let mut ws = [0u32; Surface::WORDS];
+    let mut cs = [0u16; Surface::CORNERS];
+    read_by(text, &mut ws, &mut cs, words, corners)
+}
+
+// Reads a sheet text into lent words and corners. Everything past what is read stays, and a refusal changes nothing.
+pub fn read(text: &[u8], words: &mut [u32], corners: &mut [u16]) -> ReadSheet
+    ensures { λ r. ⌜ Reads (now (text .entry)) (now (words .entry)) (now (corners .entry)) (readOutcome r (now (words .exit)) (now (corners .exit))) ⌝ }
+{
+    if text.len() <= SHORT {
+        return read_short(text, words, corners);
+    }
+    read_long(text, words, corners)
+}

@@ -1,0 +1,52 @@
+-- `main` prints the line that was put.
+use mathlib.Core.Path.{sym}
+use native.Mathlib.Omega.{arith}
+use lib.Seq.{length-take-le}
+use borrow.Author.Needs.{needs}
+use Rattle.judging.proofs.main.Statement.{statement}
+use Rattle.judging.proofs.main.Tie as tie
+
+slice-aggregate-read-full : tie.Need-slice-aggregate-read-full
+slice-aggregate-read-full c = search needs
+
+read-full-requires : tie.Need-read-full-requires
+read-full-requires c κs = search needs
+
+slice-aggregate-hear : tie.Need-slice-aggregate-hear
+slice-aggregate-hear c = search needs
+
+hear-requires : tie.Need-hear-requires
+hear-requires c κs = search needs
+
+slice-aggregate-put-answer : tie.Need-slice-aggregate-put-answer
+slice-aggregate-put-answer c = search needs
+
+put-answer-requires : tie.Need-put-answer-requires
+put-answer-requires c κs = search needs
+
+array-share-prefix-room : tie.Need-array-share-prefix-room
+array-share-prefix-room c = search needs
+
+slice-aggregate-write-all : tie.Need-slice-aggregate-write-all
+slice-aggregate-write-all c = sym (length-take-le _ _ (omega (arith, c .before .before .put-answer .ensures .1)))
+
+write-all-requires : tie.Need-write-all-requires
+write-all-requires c κs = search needs
+
+returns : tie.Need-returns
+returns c = search needs
+
+pub main-spec : {M : Type 1} → statement M
+main-spec =
+    tie.close
+    (tie.spec
+    slice-aggregate-read-full
+    read-full-requires
+    slice-aggregate-hear
+    hear-requires
+    slice-aggregate-put-answer
+    put-answer-requires
+    array-share-prefix-room
+    slice-aggregate-write-all
+    write-all-requires
+    returns)

@@ -1,0 +1,2 @@
+-- What the buffers hold that are listed.
+pub mod Listed

@@ -1,0 +1,10 @@
+-- The laws of what the programs print, each file for one idea.
+pub mod Digits
+pub mod Laying
+pub mod Lines
+pub mod Patches
+pub mod Parts
+pub mod Widths
+pub mod Answering
+pub mod Nexts
+pub mod Loops

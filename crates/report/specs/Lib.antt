@@ -1,0 +1,4 @@
+-- What the programs print.
+pub mod Lines
+pub mod Listing
+pub mod Telling

@@ -1,0 +1,24 @@
+-- What is printed for a text: "reads a text from standard input and prints it written again, or an answer line".
+use mathlib.Core.Path.{_≡_}
+use mathlib.Core.Bool.{cond}
+use mathlib.Core.List.{List}
+use Prim.Native.Nat.{ℕ, _/_}
+use lib.ListN.{length, take}
+use Rattle.terms.specs.Answers.{refusing}
+use Rattle.terms.specs.declared.Answer.the-variants.{Done, Unnamed, Line}
+use Rattle.surface.specs.Refusals.{unnamedRefusal}
+use Rattle.texts.specs.Text.{TextOf}
+use Rattle.texts.specs.Fault.{Fault}
+use Rattle.sheet.specs.Sheet.{Three, flat, points, triangles}
+use Rattle.scribe.specs.Outcome.{WriteOutcome}
+use Rattle.report.specs.Lines.{answerLine}
+
+-- A sheet's text is printed as it is, unless a corner names no point; a text with a fault is answered with the fault's line.
+pub record Rewrites (bytes out : List ℕ) : Type 0 where
+  pub of-sheet : (ps ts : List Three) → TextOf points triangles bytes ps ts → unnamedRefusal (flat ts) (length (flat ps) / 3) ≡ Done → out ≡ bytes
+  pub of-unnamed : (ps ts : List Three) (i : ℕ) → TextOf points triangles bytes ps ts → unnamedRefusal (flat ts) (length (flat ps) / 3) ≡ Unnamed i → out ≡ answerLine (Unnamed i)
+  pub of-fault : (line : ℕ) → Fault points triangles bytes line → out ≡ answerLine (Line line)
+
+-- what is printed once a sheet was written or refused: it serves the code, no promise needs it
+unfoldable pub printed : WriteOutcome → List ℕ
+printed o = cond (refusing (o .answer)) (answerLine (o .answer)) (take (o .count) (o .bytes))

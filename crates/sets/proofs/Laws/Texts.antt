@@ -1,0 +1,48 @@
+-- The theorems on texts of two parts, for the text of a patch set.
+use mathlib.Core.Path.{_≡_}
+use mathlib.Core.Logic.{_⊎_}
+use mathlib.Core.List.{List}
+use Prim.Native.Nat.{ℕ, _+_, _≤_}
+use native.Mathlib.Omega.{arith}
+use Rattle.limits.specs.Limits as limits
+use Rattle.texts.specs.Text.{TextOf}
+use Rattle.texts.specs.Fault.{Fault}
+use Rattle.texts.specs.Parse.{said, fault}
+use Rattle.texts.proofs.Theorems as theorems
+use Rattle.texts.proofs.Laws.Taking.{fault-near}
+use Rattle.sheet.specs.Sheet.{Three, three}
+use Rattle.sheet.specs.Parse.{readTriangle}
+use Rattle.sheet.proofs.Laws.Exactly.{triangle-exact}
+use Rattle.sets.specs.Set.{states, triangles}
+use Rattle.sets.specs.Scanning.{readState, parse}
+use Rattle.sets.proofs.Laws.Exactly.{state-exact}
+
+-- something that can stand in a line of each part
+zeros : Three
+zeros = three 0 0 0
+
+zero-state : states .Valid 0
+zero-state = omega arith
+
+zero-triangle : triangles .Valid zeros
+unfolding zeros
+zero-triangle = record { first-has = omega arith; second-has = omega arith; third-has = omega arith }
+
+pub parse-text : {bytes : List ℕ} {ss : List ℕ} {ts : List Three} → TextOf states triangles bytes ss ts → parse bytes ≡ said ss ts
+parse-text = theorems.parse-text states triangles readState readTriangle state-exact triangle-exact
+
+pub text-parse : {bytes : List ℕ} {ss : List ℕ} {ts : List Three} → parse bytes ≡ said ss ts → TextOf states triangles bytes ss ts
+text-parse = theorems.text-parse states triangles readState readTriangle state-exact triangle-exact
+
+pub text-once : {bytes : List ℕ} {ss ss′ : List ℕ} {ts ts′ : List Three} → TextOf states triangles bytes ss ts → TextOf states triangles bytes ss′ ts′ → (ss ≡ ss′) × (ts ≡ ts′)
+text-once = theorems.text-once states triangles readState readTriangle state-exact triangle-exact
+
+pub fault-only : {bytes : List ℕ} {line : ℕ} → Fault states triangles bytes line → parse bytes ≡ fault line
+fault-only = theorems.fault-only states triangles readState readTriangle state-exact triangle-exact 0 zero-state zeros zero-triangle
+
+pub text-or-fault : (bytes : List ℕ) → ((ss : List ℕ) × (ts : List Three) × TextOf states triangles bytes ss ts) ⊎ ((line : ℕ) × Fault states triangles bytes line)
+text-or-fault = theorems.text-or-fault states triangles readState readTriangle state-exact triangle-exact 0 zero-state zeros zero-triangle
+
+-- no fault is later than the line after the longest text
+pub fault-line : (bytes : List ℕ) (line : ℕ) → parse bytes ≡ fault line → line ≤ limits.states + limits.patches + 3
+fault-line bytes line e = fault-near states triangles (theorems.fault-is states triangles readState readTriangle state-exact triangle-exact 0 zero-state zeros zero-triangle e)

@@ -1,0 +1,80 @@
+-- `read_set` has scratch for the longest text, so the lent buffers change only once the whole text is read.
+use Rattle.sets.proofs.Laws.Deliver.{scratch-room, wrong-line, fault-promised, kept, few-triangles, states-in, corners-in, states-cut, corners-cut, delivered}
+use mathlib.Core.Path.{refl}
+use native.Mathlib.Omega.{arith}
+use borrow.Author.Needs.{needs}
+use Rattle.sets.proofs.read_set.Statement.{statement}
+use Rattle.sets.proofs.read_set.Tie as tie
+
+slice-aggregate-take-in : tie.Need-slice-aggregate-take-in
+slice-aggregate-take-in c = search needs
+
+slice-aggregate-take-in-2 : tie.Need-slice-aggregate-take-in-2
+slice-aggregate-take-in-2 c = search needs
+
+take-in-requires : tie.Need-take-in-requires
+take-in-requires c κs = (omega arith, scratch-room _)
+
+enum-known-line : tie.Need-enum-known-line
+enum-known-line c = search needs
+
+add-t18 : tie.Need-add-t18
+add-t18 c = omega (arith, wrong-line (c .before .before .before .before .before .before .before .before .before .before .before .args .text .now) _ _ _ _ _ _ (c .before .before .before .before .before .take-in .ensures) (c .before .line .given .1))
+
+refused-requires : tie.Need-refused-requires
+refused-requires c κs = search needs
+
+enum-known-loops : tie.Need-enum-known-loops
+enum-known-loops c = search needs
+
+mul-c : tie.Need-mul-c
+mul-c c = omega (arith, few-triangles (kept (c .before .before .before .before .before .before .before .before .before .before .before .args .text .now) _ _ _ _ _ _ _ (c .before .before .before .before .before .take-in .ensures) (c .before .loops .given .1)))
+
+array-share-prefix-ss : tie.Need-array-share-prefix-ss
+array-share-prefix-ss c = states-in (kept (c .before .before .before .before .before .before .before .before .before .before .before .args .text .now) _ _ _ _ _ _ _ (c .before .before .before .before .before .take-in .ensures) (c .before .loops .given .1))
+
+slice-aggregate-hand-over : tie.Need-slice-aggregate-hand-over
+slice-aggregate-hand-over c = states-cut (kept (c .before .before .before .before .before .before .before .before .before .before .before .before .args .text .now) _ _ _ _ _ _ _ (c .before .before .before .before .before .before .take-in .ensures) (c .before .before .loops .given .1))
+
+array-share-prefix-cs : tie.Need-array-share-prefix-cs
+array-share-prefix-cs c = corners-in (kept (c .before .before .before .before .before .before .before .before .before .before .before .before .args .text .now) _ _ _ _ _ _ _ (c .before .before .before .before .before .before .take-in .ensures) (c .before .before .loops .given .1)) _ refl
+
+slice-aggregate-hand-over-2 : tie.Need-slice-aggregate-hand-over-2
+slice-aggregate-hand-over-2 c = corners-cut (kept (c .before .before .before .before .before .before .before .before .before .before .before .before .before .args .text .now) _ _ _ _ _ _ _ (c .before .before .before .before .before .before .before .take-in .ensures) (c .before .before .before .loops .given .1)) _ refl
+
+hand-over-requires : tie.Need-hand-over-requires
+hand-over-requires c κs = search needs
+
+returns : tie.Need-returns
+returns c = fault-promised (c .before .before .before .before .before .before .before .before .before .before .before .before .args .text .now) _ _ _ _ _ _ (c .before .before .before .before .before .before .take-in .ensures) (c .before .before .line .given .1) _ _ _ _ (c .refused .ensures)
+
+same-length : tie.Need-same-length
+same-length c = search needs
+
+same-length-2 : tie.Need-same-length-2
+same-length-2 c = search needs
+
+returns-2 : tie.Need-returns-2
+returns-2 c = delivered (kept (c .before .before .before .before .before .before .before .before .before .before .before .before .before .before .before .before .before .before .before .before .args .text .now) _ _ _ _ _ _ _ (c .before .before .before .before .before .before .before .before .before .before .before .before .before .before .take-in .ensures) (c .before .before .before .before .before .before .before .before .before .before .loops .given .1)) _ _ _ _ _ refl (c .before .before .before .before .hand-over .ensures)
+
+pub read-set-spec : {M : Type 1} → statement M
+read-set-spec =
+    tie.close
+    (tie.spec
+    slice-aggregate-take-in
+    slice-aggregate-take-in-2
+    take-in-requires
+    enum-known-line
+    add-t18
+    refused-requires
+    enum-known-loops
+    mul-c
+    array-share-prefix-ss
+    slice-aggregate-hand-over
+    array-share-prefix-cs
+    slice-aggregate-hand-over-2
+    hand-over-requires
+    returns
+    same-length
+    same-length-2
+    returns-2)

@@ -1,0 +1,181 @@
+// The lines of a sheet text, read one by one or all of a kind.
+ghost use mathlib.Core.Path.{_≡_};
+ghost use Prim.Native.Nat.{_<_, _≤_};
+ghost use lib.ListN.{length, drop};
+ghost use Rattle.surface.specs.Buffers.{over};
+ghost use Rattle.digits.specs.Reading.{seen, UpTo};
+ghost use Rattle.digits.specs.Tables.{Marked};
+ghost use Rattle.texts.specs.Parse.{readCount, rows, outline, values};
+ghost use Rattle.sheet.specs.Sheet.{flat};
+ghost use Rattle.sheet.specs.Parse.{readPoint, readTriangle, seenRow, RowBy, PassBy, passed, Room};
+use digits::Number;
+use digits::Place;
+use terms::Surface;
+
+// The three numbers of a line and the place after it, or a wrong line.
+pub enum Line {
+    Row(u32, u32, u32, usize),
+    Bad,
+}
+
+// The place after some lines, or how many were right before a wrong one.
+pub enum Pass {
+    Through(usize),
+    Stuck(usize),
+}
+
+// A line of a key and a count.
+pub fn count_at(text: &[u8], at: usize, key: &[u8], limit: usize) -> Number
+    requires { ⌜ limit < 100000 ⌝ }
+    ensures { λ r. ⌜ (seen (now (text .entry)) r ≡ readCount (now (key .entry)) limit (drop at (now (text .entry)))) × UpTo (length (now (text .entry))) r ⌝ }
+{
+    let Place::Past(i) = digits::key_at(text, at, key) else {
+        return Number::Wrong;
+    };
+    digits::decimal_at(text, i, b'\n', limit as u32)
+}
+
+// A line `p=`, of 29 bytes.
+fn point_at(text: &[u8], at: usize, values: &[u32]) -> Line
+    requires { ⌜ (at ≤ length (now text)) × Marked 16 (now values) ⌝ }
+    ensures { λ r. ⌜ (seenRow (now (text .entry)) r ≡ readPoint (drop at (now (text .entry)))) × RowBy (length (now (text .entry))) r ⌝ }
+{
+    if text.len() < at + 29 {
+        return Line::Bad;
+    }
+    if text[at] != b'p' {
+        return Line::Bad;
+    }
+    if text[at + 1] != b'=' {
+        return Line::Bad;
+    }
+    let Number::Is(a, j) = digits::hex_at(text, at + 2, b',', values) else {
+        return Line::Bad;
+    };
+    let Number::Is(b, k) = digits::hex_at(text, j, b',', values) else {
+        return Line::Bad;
+    };
+    let Number::Is(c, next) = digits::hex_at(text, k, b'\n', values) else {
+        return Line::Bad;
+    };
+    Line::Row(a, b, c, next)
+}
+
+// A line `t=`.
+pub fn triangle_at(text: &[u8], at: usize) -> Line
+    requires { ⌜ at ≤ length (now text) ⌝ }
+    ensures { λ r. ⌜ (seenRow (now (text .entry)) r ≡ readTriangle (drop at (now (text .entry)))) × RowBy (length (now (text .entry))) r ⌝ }
+{
+    if text.len() < at + 17 {
+        return last_at(text, at);
+    }
+    if text[at] != b't' {
+        return Line::Bad;
+    }
+    if text[at + 1] != b'=' {
+        return Line::Bad;
+    }
+    let most = (Surface::POINTS - 1) as u32;
+    let Number::Is(a, j) = digits::number_at(text, at + 2, b',', most) else {
+        return Line::Bad;
+    };
+    let Number::Is(b, k) = digits::number_at(text, j, b',', most) else {
+        return Line::Bad;
+    };
+    let Number::Is(c, next) = digits::number_at(text, k, b'\n', most) else {
+        return Line::Bad;
+    };
+    Line::Row(a, b, c, next)
+}
+
+// A line `t=` near the end of the text.
+fn last_at(text: &[u8], at: usize) -> Line
+    ensures { λ r. ⌜ (seenRow (now (text .entry)) r ≡ readTriangle (drop at (now (text .entry)))) × RowBy (length (now (text .entry))) r ⌝ }
+{
+    let most = (Surface::POINTS - 1) as u32;
+    let Place::Past(i) = digits::key_at(text, at, b"t=") else {
+        return Line::Bad;
+    };
+    let Number::Is(a, j) = digits::decimal_at(text, i, b',', most) else {
+        return Line::Bad;
+    };
+    let Number::Is(b, k) = digits::decimal_at(text, j, b',', most) else {
+        return Line::Bad;
+    };
+    let Number::Is(c, next) = digits::decimal_at(text, k, b'\n', most) else {
+        return Line::Bad;
+    };
+    Line::Row(a, b, c, next)
+}
+
+// n lines `p=` from a place on, their words laid into a buffer from its start.
+pub fn read_points(text: &[u8], at: usize, n: usize, words: &mut [u32]) -> Pass
+    requires { ⌜ (at ≤ length (now text)) × Room 29 n (length (now text)) (length (now words)) ⌝ }
+    ensures { λ r. ⌜
+        (passed (now (text .entry)) r ≡ outline (rows readPoint n (drop at (now (text .entry)))))
+        × (now (words .exit) ≡ over (flat (values (rows readPoint n (drop at (now (text .entry)))))) (now (words .entry)))
+        × PassBy (length (now (text .entry))) r
+        ⌝ }
+{
+    let mut values = [65536u32; 512];
+    digits::mark_digits(&mut values);
+    let mut i: usize = 0;
+    let mut place = at;
+    while i < n {
+        let Line::Row(a, b, c, next) = point_at(text, place, &values) else {
+            return Pass::Stuck(i);
+        };
+        words[3 * i] = a;
+        words[3 * i + 1] = b;
+        words[3 * i + 2] = c;
+        place = next;
+        i += 1;
+    }
+    Pass::Through(place)
+}
+
+// n lines `t=` from a place on, their corners laid into a buffer from its start.
+pub fn read_triangles(text: &[u8], at: usize, n: usize, corners: &mut [u16]) -> Pass
+    requires { ⌜ (at ≤ length (now text)) × Room 8 n (length (now text)) (length (now corners)) ⌝ }
+    ensures { λ r. ⌜
+        (passed (now (text .entry)) r ≡ outline (rows readTriangle n (drop at (now (text .entry)))))
+        × (now (corners .exit) ≡ over (flat (values (rows readTriangle n (drop at (now (text .entry)))))) (now (corners .entry)))
+        × PassBy (length (now (text .entry))) r
+        ⌝ }
+{
+    let mut i: usize = 0;
+    let mut place = at;
+    while i < n {
+        let Line::Row(a, b, c, next) = triangle_at(text, place) else {
+            return Pass::Stuck(i);
+        };
+        corners[3 * i] = a as u16;
+        corners[3 * i + 1] = b as u16;
+        corners[3 * i + 2] = c as u16;
+        place = next;
+        i += 1;
+    }
+    Pass::Through(place)
+}
+
+pub fn copy_corners(src: &[u16], dst: &mut [u16])
+    requires { ⌜ length (now src) ≤ length (now dst) ⌝ }
+    ensures { λ _. ⌜ now (dst .exit) ≡ over (now (src .entry)) (now (dst .entry)) ⌝ }
+{
+    let mut i = 0;
+    while i < src.len() {
+        dst[i] = src[i];
+        i += 1;
+    }
+}
+
+pub fn copy_words(src: &[u32], dst: &mut [u32])
+    requires { ⌜ length (now src) ≤ length (now dst) ⌝ }
+    ensures { λ _. ⌜ now (dst .exit) ≡ over (now (src .entry)) (now (dst .entry)) ⌝ }
+{
+    let mut i = 0;
+    while i < src.len() {
+        dst[i] = src[i];
+        i += 1;
+    }
+}
