@@ -28,11 +28,11 @@ fewBuckets = 32
 
 -- what is added to a point's number
 abbrev pub spread : ℕ
-spread = 1025
+spread = 1087
 
 -- of so many buckets, that of the half-edges between u and v, either way: any function would do that takes them alike
 unfoldable pub bucketOf : ℕ → ℕ → ℕ → ℕ
-bucketOf size u v = (u + spread) * (v + spread) / 8 % size
+bucketOf size u v = (u + spread) * (v + spread) / 32 % size
 
 -- the bucket of half-edge k
 unfoldable pub home : ℕ → List ℕ → ℕ → ℕ

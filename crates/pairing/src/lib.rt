@@ -238,7 +238,7 @@ fn bucket(u: u16, v: u16, size: usize) -> usize
     requires { ⌜ 0 < size ⌝ }
     ensures { λ r. ⌜ r ≡ bucketOf size u v ⌝ }
 {
-    (u as usize + 1025) * (v as usize + 1025) / 8 % size
+    (u as usize + 1087) * (v as usize + 1087) / 32 % size
 }
 
 // The last half-edge between u and v in the chain from `last` on.

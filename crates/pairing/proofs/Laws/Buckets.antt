@@ -14,11 +14,11 @@ use Rattle.pairing.proofs.Laws.Tops.{top-says, top-never}
 
 pub bucket-small : (size u v : ℕ) → 0 < size → bucketOf size u v < size
 unfolding bucketOf
-bucket-small size u v s = mod-lt ((u + spread) * (v + spread) / 8) s
+bucket-small size u v s = mod-lt ((u + spread) * (v + spread) / 32) s
 
 pub bucket-turned : (size u v : ℕ) → bucketOf size u v ≡ bucketOf size v u
 unfolding bucketOf
-bucket-turned size u v = ap (λ (z : ℕ). z / 8 % size) (mul-comm (u + spread) (v + spread))
+bucket-turned size u v = ap (λ (z : ℕ). z / 32 % size) (mul-comm (u + spread) (v + spread))
 
 -- 16-bit numbers are small enough for the product
 pub product-fits : (u v w : ℕ) → u < w → v < w → (u + spread) * (v + spread) ≤ (w + spread) * (w + spread)

@@ -1,0 +1,231 @@
+/* Fuzzing of the reading of texts. An input is one byte and a text. The byte chooses whether the text is read as a sheet or as a set, and
+   how much is lent; the archive and the plain reference then read it, and their answers and every byte lent, with what lies before and
+   behind it, have to be the same. A sheet that is accepted is written again and has to be the text that was read. Any difference aborts.
+   Made for libFuzzer; with ALONE defined it is a program instead, which takes the inputs from the files given, to try a finding again. */
+#define _GNU_SOURCE
+#include <stdint.h>
+#include <stdio.h>
+#include <stdlib.h>
+#include <string.h>
+#include <sys/mman.h>
+#include <unistd.h>
+
+#include "../tests/reference/reference.h"
+#include "wazelpunt.h"
+
+#define GUARD 16
+#define LONGEST_INPUT ((size_t)1 << 20)
+
+/* What is lent to a reader, each between guards; a set may have more corners than a sheet. */
+struct lent {
+    uint32_t words[REFERENCE_MOST_WORDS + 2 * GUARD];
+    uint16_t states[REFERENCE_MOST_STATES + 2 * GUARD];
+    uint16_t corners[REFERENCE_MOST_PATCH_CORNERS + 2 * GUARD];
+};
+
+/* What is lent to a writer. */
+struct page {
+    uint8_t text[REFERENCE_LONGEST_TEXT + 2 * GUARD];
+};
+
+/* A number, its place, and up to two counts. */
+struct answer {
+    size_t number, place, counts[2];
+};
+
+/* The byte: one bit for the kind of text, two for each of the two lengths lent, and three for the rest. */
+struct choice {
+    int set;
+    unsigned first, second, rest;
+};
+
+static struct lent before, ours, theirs;
+static struct page page_before, our_page, their_page;
+static size_t sheets, sheets_accepted, sets, sets_accepted;
+
+/* ---- Telling ---- */
+
+static void tell(void) {
+    fprintf(stderr, "read: %zu sheets, %zu accepted; %zu sets, %zu accepted\n", sheets, sheets_accepted, sets, sets_accepted);
+}
+
+static void differ(const char *what, const struct answer *said, const struct answer *due) {
+    fprintf(stderr, "%s: answered %zu, %zu, %zu, %zu; due %zu, %zu, %zu, %zu\n", what, said->number, said->place, said->counts[0],
+            said->counts[1], due->number, due->place, due->counts[0], due->counts[1]);
+    abort();
+}
+
+static void compare_answers(const char *what, const struct answer *said, const struct answer *due) {
+    if (memcmp(said, due, sizeof *due) != 0) differ(what, said, due);
+}
+
+/* Both have left the same; and where they refused, what was there before. */
+static void compare_lent(const char *what, const struct answer *said, const struct answer *due) {
+    compare_answers(what, said, due);
+    if (memcmp(&ours, &theirs, sizeof ours) != 0) differ(what, said, due);
+    if (due->number != 0 && memcmp(&ours, &before, sizeof ours) != 0) differ(what, said, due);
+}
+
+/* ---- What is lent ---- */
+
+/* Bytes without a pattern, so that one left out or written over shows. */
+static void fill(void *room, size_t length) {
+    uint8_t *bytes = room;
+    uint64_t state = length;
+    for (size_t i = 0; i < length; i++) {
+        state = state * 6364136223846793005u + 1442695040888963407u;
+        bytes[i] = (uint8_t)(state >> 56);
+    }
+}
+
+/* As much as can be needed, just what is needed, one less, or something between. */
+static size_t lend(unsigned choice, size_t needed, size_t most) {
+    switch (choice) {
+    case 0: return most;
+    case 1: return needed;
+    case 2: return needed > 0 ? needed - 1 : 0;
+    default: return 9;
+    }
+}
+
+/* A copy of the text with a page behind it that cannot be read, so that reading past its end is found too. */
+static const uint8_t *copy_text(const uint8_t *text, size_t length) {
+    static uint8_t *room;
+    size_t unreadable = (size_t)sysconf(_SC_PAGESIZE);
+    if (room == 0) {
+        room = mmap(0, LONGEST_INPUT + unreadable, PROT_READ | PROT_WRITE, MAP_PRIVATE | MAP_ANONYMOUS, -1, 0);
+        if (room == MAP_FAILED || mprotect(room + LONGEST_INPUT, unreadable, PROT_NONE) != 0) {
+            perror("room for the text");
+            exit(2);
+        }
+    }
+    if (length > 0) memcpy(room + LONGEST_INPUT - length, text, length);
+    return room + LONGEST_INPUT - length;
+}
+
+/* ---- Sheets ---- */
+
+static struct answer read_sheet(const uint8_t *text, size_t length, size_t words, size_t corners) {
+    struct reference_read_answer r;
+    theirs = before;
+    reference_read(text, length, theirs.words + GUARD, words, theirs.corners + GUARD, corners, &r);
+    return (struct answer){r.number, r.place, {r.words, r.corners}};
+}
+
+/* Writes what was read, into as much as the text has, one byte less, or as much as can be. */
+static void write_again(const uint8_t *text, size_t length, unsigned choice, const struct answer *read) {
+    const uint32_t *words = ours.words + GUARD;
+    const uint16_t *corners = ours.corners + GUARD;
+    size_t room = choice == 1 ? length - 1 : choice == 2 ? REFERENCE_LONGEST_TEXT : length;
+    struct answer said = {0};
+    struct reference_write_answer r;
+    our_page = their_page = page_before;
+    said.number = wazelpunt_write(words, read->counts[0], corners, read->counts[1], our_page.text + GUARD, room, &said.place,
+                                  &said.counts[0]);
+    reference_write(words, read->counts[0], corners, read->counts[1], their_page.text + GUARD, room, &r);
+    const struct answer due = {r.number, r.place, {r.bytes, 0}};
+    compare_answers("writing", &said, &due);
+    if (memcmp(&our_page, &their_page, sizeof our_page) != 0) differ("writing", &said, &due);
+    if (choice == 1) return;
+    if (said.number != 0 || said.counts[0] != length || memcmp(our_page.text + GUARD, text, length) != 0)
+        differ("the text written again", &said, &due);
+}
+
+static void try_sheet(const uint8_t *text, size_t length, const struct choice *choice) {
+    struct answer needed = read_sheet(text, length, REFERENCE_MOST_WORDS, REFERENCE_MOST_CORNERS), said = {0};
+    size_t words = lend(choice->first, needed.counts[0], REFERENCE_MOST_WORDS);
+    size_t corners = lend(choice->second, needed.counts[1], REFERENCE_MOST_CORNERS);
+    struct answer due = read_sheet(text, length, words, corners);
+    ours = before;
+    said.number = wazelpunt_read(text, length, ours.words + GUARD, words, ours.corners + GUARD, corners, &said.place,
+                                 &said.counts[0], &said.counts[1]);
+    compare_lent("a sheet", &said, &due);
+    sheets++;
+    if (said.number != 0) return;
+    sheets_accepted++;
+    write_again(text, length, choice->rest, &said);
+}
+
+/* ---- Sets ---- */
+
+static struct answer read_set(const uint8_t *text, size_t length, uint16_t lines, size_t states, size_t corners) {
+    struct reference_set_answer r;
+    theirs = before;
+    reference_read_set(text, length, (size_t)lines + 1, theirs.states + GUARD, states, theirs.corners + GUARD, corners, &r);
+    return (struct answer){r.number, r.place, {r.states, r.corners}};
+}
+
+static void try_set(const uint8_t *text, size_t length, const struct choice *choice) {
+    static const uint16_t lines_before[8] = {0, 1, 2, 7, 100, 2050, 65534, 65535};
+    uint16_t lines = lines_before[choice->rest];
+    struct answer needed = read_set(text, length, lines, REFERENCE_MOST_STATES, REFERENCE_MOST_PATCH_CORNERS), said = {0};
+    size_t states = lend(choice->first, needed.counts[0], REFERENCE_MOST_STATES);
+    size_t corners = lend(choice->second, needed.counts[1], REFERENCE_MOST_PATCH_CORNERS);
+    struct answer due = read_set(text, length, lines, states, corners);
+    ours = before;
+    said.number = wazelpunt_read_set(text, length, lines, ours.states + GUARD, states, ours.corners + GUARD, corners, &said.place,
+                                     &said.counts[0], &said.counts[1]);
+    compare_lent("a set", &said, &due);
+    sets++;
+    if (said.number == 0) sets_accepted++;
+}
+
+/* ---- Inputs ---- */
+
+int LLVMFuzzerInitialize(int *argc, char ***argv) {
+    (void)argc;
+    (void)argv;
+    fill(&before, sizeof before);
+    fill(&page_before, sizeof page_before);
+    atexit(tell);
+    return 0;
+}
+
+int LLVMFuzzerTestOneInput(const uint8_t *input, size_t length) {
+    if (length == 0 || length > LONGEST_INPUT) return 0;
+    const struct choice choice = {input[0] & 1, input[0] >> 1 & 3, input[0] >> 3 & 3, input[0] >> 5};
+    const uint8_t *text = copy_text(input + 1, length - 1);
+    (choice.set ? try_set : try_sheet)(text, length - 1, &choice);
+    return 0;
+}
+
+#ifndef ALONE
+size_t LLVMFuzzerMutate(uint8_t *input, size_t length, size_t most);
+
+/* Puts another digit for the one there, if one is: a hexadecimal one in the line of a point, else a decimal one. */
+static void change_digit(uint8_t *input, size_t at, unsigned bits) {
+    const char *digits = "0123456789abcdef";
+    size_t start = at;
+    while (start > 1 && input[start - 1] != '\n') start--;
+    unsigned base = input[start] == 'p' && input[start + 1] == '=' ? 16 : 10;
+    if (memchr(digits, input[at], base) != 0) input[at] = (uint8_t)digits[bits % base];
+}
+
+/* Every second change is of a few digits, which mostly leaves a sound text sound: with changes of any bytes hardly one is accepted. */
+size_t LLVMFuzzerCustomMutator(uint8_t *input, size_t length, size_t most, unsigned seed) {
+    uint64_t bits = seed * 6364136223846793005u + 1442695040888963407u;
+    if (length < 3 || (bits >> 63) == 0) return LLVMFuzzerMutate(input, length, most);
+    for (unsigned times = 1 + (bits >> 60 & 3); times > 0; times--) {
+        bits = bits * 6364136223846793005u + 1442695040888963407u;
+        change_digit(input, 1 + (bits >> 32) % (length - 2), bits >> 20 & 0xfff);
+    }
+    return length;
+}
+#else
+int main(int argc, char **argv) {
+    static uint8_t input[LONGEST_INPUT];
+    LLVMFuzzerInitialize(&argc, &argv);
+    for (int f = 1; f < argc; f++) {
+        FILE *file = fopen(argv[f], "rb");
+        if (file == 0) {
+            perror(argv[f]);
+            return 2;
+        }
+        size_t length = fread(input, 1, sizeof input, file);
+        fclose(file);
+        fprintf(stderr, "%s\n", argv[f]);
+        LLVMFuzzerTestOneInput(input, length);
+    }
+    return 0;
+}
+#endif
