@@ -8,22 +8,21 @@
 #include <string.h>
 
 #include "../reference/generate.h"
+#include "../reference/guarded.h"
 #include "../reference/reference.h"
 #include "../reference/sheets.h"
 #include "wazelpunt.h"
 
-#define ROOM 4096
 #define PATCH_ROOM 9728
-#define GUARD 16
 
 /* the lent buffers 1 to 6, each between guards */
 struct lent {
-    int32_t grid[ROOM + 2 * GUARD];
-    uint16_t rings[ROOM + 2 * GUARD];
-    uint16_t lengths[ROOM + 2 * GUARD];
-    uint16_t states[ROOM + 2 * GUARD];
-    uint64_t weights[ROOM + 2 * GUARD];
-    uint16_t patches[PATCH_ROOM + 2 * GUARD];
+    int32_t grid[GUARDED(ROOM)];
+    uint16_t rings[GUARDED(ROOM)];
+    uint16_t lengths[GUARDED(ROOM)];
+    uint16_t states[GUARDED(ROOM)];
+    uint64_t weights[GUARDED(ROOM)];
+    uint16_t patches[GUARDED(PATCH_ROOM)];
 };
 
 static struct lent before, ours, theirs;
@@ -100,11 +99,6 @@ static int agree(const struct generated_surface *s) {
 
 /* ---- Making ---- */
 
-static void fill(struct lent *room, struct generator *generator) {
-    uint8_t *bytes = (uint8_t *)room;
-    for (size_t i = 0; i < sizeof *room; i++) bytes[i] = (uint8_t)generate_bits(generator);
-}
-
 static size_t compare_made(size_t many, uint64_t seed) {
     static struct generated_surface surface;
     size_t wrong = 0;
@@ -114,7 +108,7 @@ static size_t compare_made(size_t many, uint64_t seed) {
         if (own % 8 == 7) sheet_make_cones(&generator, &surface);
         else if (own % 2 == 0) generate_sound_surface(&generator, &surface);
         else generate_surface(&generator, &surface);
-        if (own % 16 == 0) fill(&before, &generator);
+        if (own % 16 == 0) fill(&before, sizeof before, &generator);
         if (!agree(&surface) && wrong++ < 10) printf("surface of seed %" PRIu64 "\n", own);
         meet();
     }
@@ -129,7 +123,7 @@ static size_t compare_sheets(uint64_t seed, size_t *sheets) {
     const char *name;
     size_t wrong = 0;
     generate_start(&generator, seed);
-    fill(&before, &generator);
+    fill(&before, sizeof before, &generator);
     for (*sheets = 0; (name = sheet_make(&generator, *sheets, &surface)) != 0; ++*sheets) {
         if (!agree(&surface) || due.number != 0) {
             printf("sheet \"%s\", answer %zu\n", name, due.number);

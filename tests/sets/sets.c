@@ -9,20 +9,12 @@
 #include <string.h>
 
 #include "../reference/generate.h"
+#include "../reference/guarded.h"
 #include "../reference/reference.h"
 #include "../reference/sheets.h"
 #include "wazelpunt.h"
 
-#define ROOM 4096
-#define GUARD 16
 #define HIGHEST 15
-
-/* the lent buffers 1 to 3, each between guards */
-struct lent {
-    int32_t grid[ROOM + 2 * GUARD];
-    uint16_t rings[ROOM + 2 * GUARD];
-    uint16_t lengths[ROOM + 2 * GUARD];
-};
 
 /* a set as it is handed over */
 struct set {
@@ -32,7 +24,7 @@ struct set {
     size_t corner_count;
 };
 
-static struct lent before, ours, theirs;
+static struct lent_survey before, ours, theirs;
 static struct reference_answer said, due;
 static size_t cases, wrong;
 
@@ -72,11 +64,6 @@ static void expect(const char *name, const struct generated_surface *s, struct s
     int right = agree(s, t) && said.number == number && said.place == place;
     if (number >= 1 && number <= 9) right = right && said.loops == 0 && said.vertices == 0 && memcmp(&ours, &before, sizeof ours) == 0;
     if (!right) count_wrong(name);
-}
-
-static void fill(struct generator *generator) {
-    uint8_t *bytes = (uint8_t *)&before;
-    for (size_t i = 0; i < sizeof before; i++) bytes[i] = (uint8_t)generate_bits(generator);
 }
 
 /* ---- Examples ---- */
@@ -621,7 +608,7 @@ static void compare_made(size_t many, uint64_t seed) {
     for (uint64_t own = seed; own < seed + many; own++) {
         struct generator generator;
         generate_start(&generator, own);
-        if (own % 16 == 0) fill(&generator);
+        if (own % 16 == 0) fill(&before, sizeof before, &generator);
         if (own % 16 == 7) sheet_make_cones(&generator, &surface);
         else if (own % 4 == 1) generate_surface(&generator, &surface);
         else generate_sound_surface(&generator, &surface);
@@ -636,7 +623,7 @@ int main(int count, char **arguments) {
     uint64_t seed = count > 2 ? strtoull(arguments[2], 0, 10) : 20261115;
     struct generator generator;
     generate_start(&generator, seed);
-    fill(&generator);
+    fill(&before, sizeof before, &generator);
     compare_examples();
     compare_long_lists();
     compare_refusals();

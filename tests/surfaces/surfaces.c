@@ -8,26 +8,12 @@
 #include <string.h>
 
 #include "../reference/generate.h"
+#include "../reference/guarded.h"
 #include "../reference/reference.h"
 #include "wazelpunt.h"
 
-#define ROOM 4096
-#define GUARD 16
-
-/* the lent buffers 1 to 3, each between guards */
-struct lent {
-    int32_t grid[ROOM + 2 * GUARD];
-    uint16_t rings[ROOM + 2 * GUARD];
-    uint16_t lengths[ROOM + 2 * GUARD];
-};
-
-static struct lent before, ours, theirs;
+static struct lent_survey before, ours, theirs;
 static size_t refused[11], loops;
-
-static void fill(struct lent *room, struct generator *generator) {
-    uint8_t *bytes = (uint8_t *)room;
-    for (size_t i = 0; i < sizeof *room; i++) bytes[i] = (uint8_t)generate_bits(generator);
-}
 
 static int agree(const struct generated_surface *surface) {
     struct reference_answer due, said;
@@ -121,7 +107,7 @@ int main(int count, char **arguments) {
     for (size_t i = 0; i < many; i++) {
         struct generator generator;
         generate_start(&generator, seed + i);
-        fill(&before, &generator);
+        fill(&before, sizeof before, &generator);
         if (i % 2 == 0) generate_sound_surface(&generator, &surface);
         else generate_surface(&generator, &surface);
         for (int b = 0; b < 3; b++)

@@ -13,32 +13,24 @@
 #include <sys/mman.h>
 
 #include "../reference/generate.h"
+#include "../reference/guarded.h"
 #include "../reference/reference.h"
 #include "wazelpunt.h"
 
-#define GUARD 16
-#define WORD_ROOM (GENERATE_WORD_ROOM + 2 * GUARD)
-#define SET_ROOM (GENERATE_SET_ROOM + 2 * GUARD)
-#define TEXT_ROOM (GENERATE_TEXT_ROOM + 2 * GUARD)
 #define HIGHEST 10
 
 /* what is lent, each between guards */
 struct lent {
-    uint32_t words[WORD_ROOM];
-    uint16_t corners[SET_ROOM];
-    uint16_t states[SET_ROOM];
-    uint8_t text[TEXT_ROOM];
+    uint32_t words[GUARDED(GENERATE_WORD_ROOM)];
+    uint16_t corners[GUARDED(GENERATE_SET_ROOM)];
+    uint16_t states[GUARDED(GENERATE_SET_ROOM)];
+    uint8_t text[GUARDED(GENERATE_TEXT_ROOM)];
 };
 
 static struct lent before, ours, theirs;
 static size_t cases, wrong;
 static size_t read_met[HIGHEST + 1], set_met[HIGHEST + 1], write_met[HIGHEST + 1];
 static size_t accepted, written_again;
-
-static void fill(struct generator *generator) {
-    uint8_t *bytes = (uint8_t *)&before;
-    for (size_t i = 0; i < sizeof before; i++) bytes[i] = (uint8_t)generate_bits(generator);
-}
 
 static void count_wrong(const char *name, size_t number, size_t place) {
     if (wrong++ < 10) printf("%s: answered %zu, %zu\n", name, number, place);
@@ -387,7 +379,7 @@ int main(int argc, char **argv) {
     size_t count = argc > 1 ? strtoul(argv[1], 0, 10) : 4000;
     uint64_t seed = argc > 2 ? strtoull(argv[2], 0, 10) : 1;
     generate_start(&g, seed);
-    fill(&g);
+    fill(&before, sizeof before, &g);
     run_corpus();
     cut(SHEET, expect_read);
     cut(SET, expect_set);

@@ -20,12 +20,12 @@ use Rattle.grid.specs.declared.Coordinate.the-variants.{Shifted, TooFar}
 use Rattle.grid.proofs.Laws.Only.{only}
 use Rattle.survey.specs.Outcome.{Buffers, Outcome, outcome}
 use Rattle.survey.specs.declared.Surveyed.{Surveyed}
-use Rattle.patcher.specs.Outcome as patcher
-use Rattle.patcher.specs.declared.Patched.{Patched}
-use Rattle.patcher.proofs.Laws.Once.{patches-once}
-use Rattle.checker.specs.Outcome as checker
-use Rattle.checker.specs.declared.Judged.{Judged}
-use Rattle.checker.proofs.Laws.Once.{judges-once}
+use Rattle.patching.specs.Outcome as patcher
+use Rattle.patching.specs.declared.Patched.{Patched}
+use Rattle.patching.proofs.Laws.Once.{patches-once}
+use Rattle.trial.specs.Outcome as checker
+use Rattle.sentence.specs.declared.Judged.{Judged}
+use Rattle.trial.proofs.Laws.Once.{judges-once}
 use Rattle.archive.specs.Plain.{Tells, wholeOf, floatOf, Told, told, surveyed, JudgesTold, PatchTold, patchTold, patched, PatchesTold}
 
 number-no-nan : (x : Float) → T (finite x) → T (not (isNan x))

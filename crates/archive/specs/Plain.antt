@@ -7,8 +7,8 @@ use lib.Ieee.{Float, binary32, toBits}
 use Rattle.terms.specs.Answers.{numberOf, placeOf}
 use Rattle.grid.specs.Places.{Places, answerOf}
 use Rattle.survey.specs.Outcome.{Buffers, Outcome}
-use Rattle.patcher.specs.Outcome as patcher
-use Rattle.checker.specs.Outcome.{Judges}
+use Rattle.patching.specs.Outcome as patcher
+use Rattle.trial.specs.Outcome.{Judges}
 use Rattle.grid.specs.declared.Coordinate.{Coordinate}
 use Rattle.grid.specs.declared.Coordinate.the-variants.{Exact, Shifted, NotFinite, TooFar}
 

@@ -2,7 +2,7 @@
 ghost use mathlib.Core.Path.{_≡_};
 ghost use lib.Ieee.{binary32, ofBits};
 ghost use Rattle.survey.specs.Outcome.{buffers, surveyOf};
-ghost use Rattle.patcher.specs.Outcome as patcher;
+ghost use Rattle.patching.specs.Outcome as patcher;
 ghost use Rattle.scribe.specs.Outcome.{writes};
 ghost use Rattle.archive.specs.Plain.{Tells, told, surveyed, JudgesTold, patchTold, PatchesTold};
 ghost use Rattle.archive.specs.Texts.{textTold, ReadsTold, ReadsSetTold, writeTold, written};

@@ -8,7 +8,7 @@ use lib.Dec.{eqb, ltb}
 use lib.ListN.{length, getD}
 use lib.Seq.{slice}
 use Rattle.limits.specs.Limits as limits
-use Rattle.pairing.specs.Chains.{top}
+use Rattle.twins.specs.Chains.{top}
 use Rattle.covers.specs.Covers.{Cover, Covers, patchOf}
 use Rattle.masks.specs.Masks.{Rows}
 use Rattle.bars.specs.Bars.{follows, between, barred}

@@ -34,7 +34,7 @@ fn run_plain(
             l += 1;
             continue;
         }
-        let done = turns::turn_three(grid, &rings[r..end], patches, p, 0);
+        let done = plain::turn_three(grid, &rings[r..end], patches, p, 0);
         states[l] = done.state;
         weights[l] = done.weight;
         p = done.corners;

@@ -1,22 +1,20 @@
 -- The demand of texts is kept, by every outcome that reading and writing may have.
 use mathlib.Core.Path.{_≡_, refl, sym, ap, ap₂, _∙_, subst}
-use mathlib.Core.Bool.{Bool, true, false, true≢false, _&&_}
+use mathlib.Core.Bool.{Bool, true, false, true≢false}
 use mathlib.Core.Logic.{_⊎_, inl, inr}
 use mathlib.Core.List.{List, [], _∷_}
-use Prim.Native.Nat.{ℕ, zero, suc, _+_, _*_, _/_, _%_, _<_, _≤_}
+use Prim.Native.Nat.{ℕ, _+_, _*_, _/_, _≤_}
 use native.Mathlib.Omega.{arith}
-use lib.ListN.{length, take, getD}
-use borrow.Author.Tests.{eq-eqb, le-leb}
+use lib.ListN.{length, take}
 use Rattle.limits.specs.Limits as limits
 use Rattle.terms.specs.Answers.{refusing}
-use Rattle.terms.specs.Counts as counts
 use Rattle.terms.specs.declared.Answer.{Answer}
 use Rattle.terms.specs.declared.Answer.the-variants.{Done, Buffer, Unnamed, Line}
 use Rattle.surface.specs.declared.Found.{Found}
 use Rattle.surface.specs.declared.Found.the-variants.{At, Nothing}
 use Rattle.surface.specs.Smallest.{least}
 use Rattle.surface.specs.Refusals.{short, unnamed, refuseAt, thenCheck, countRefusal, bufferRefusal, unnamedRefusal}
-use Rattle.surface.proofs.Laws.Thens.{Fitting, counts-fit, buffers-enough}
+use Rattle.surface.proofs.Laws.Thens.{Fitting, whole-count, counts-fit, one-long, two-long}
 use Rattle.surface.proofs.Laws.Over.{start-of}
 use Rattle.surface.proofs.Laws.Sound.{next-of}
 use Rattle.surface.proofs.Laws.Refusing.{counts-done}
@@ -32,23 +30,6 @@ use Rattle.intake.specs.Outcome.{ReadOutcome, Reads, deliver}
 use Rattle.scribe.specs.Outcome.{writeRefusal, writes}
 use Rattle.scribe.proofs.Theorems.{written-text, checks}
 use Rattle.demands.specs.Texts.{Words, readAll, wroteAll, TextsDemand}
-
--- ---- buffers that are long enough are not refused
-
-one-long : (m n : ℕ) → n ≤ m → bufferRefusal (m ∷ []) (n ∷ []) ≡ Done
-one-long m n h = buffers-enough (m ∷ []) (n ∷ []) at-each
-  where
-    at-each : (i : ℕ) → i < 1 → getD (n ∷ []) i 0 ≤ getD (m ∷ []) i 0
-    at-each zero l = h
-    at-each (suc i) l = absurd (omega arith)
-
-two-long : (m n k l : ℕ) → k ≤ m → l ≤ n → bufferRefusal (m ∷ n ∷ []) (k ∷ l ∷ []) ≡ Done
-two-long m n k l h g = buffers-enough (m ∷ n ∷ []) (k ∷ l ∷ []) at-each
-  where
-    at-each : (i : ℕ) → i < 2 → getD (k ∷ l ∷ []) i 0 ≤ getD (m ∷ n ∷ []) i 0
-    at-each zero p = h
-    at-each (suc zero) p = g
-    at-each (suc (suc i)) p = absurd (omega arith)
 
 -- ---- handing over
 
@@ -100,9 +81,6 @@ module _ (ws cs buffer words corners : List ℕ) (w : Words ws) (d : writes ws c
 
 done-line : {l : ℕ} → Line l ≡ Done → ⊥
 done-line e = true≢false (ap refusing e)
-
-whole-count : (most n : ℕ) → 3 * n ≤ most → counts.threes most (3 * n) ≡ true
-whole-count most n h = ap₂ (λ (s t : Bool). s && t) (eq-eqb ((3 * n) % 3) 0 (omega arith)) (le-leb (3 * n) most h)
 
 module _ (bytes buffer : List ℕ) (ps ts : List Three) (t : TextOf points triangles bytes ps ts) (h : length bytes ≤ length buffer) (n : unnamedRefusal (flat ts) (length (flat ps) / 3) ≡ Done) where
   same-text : text (flat ps) (flat ts) ≡ bytes

@@ -1,3 +1,4 @@
+pub mod Answers
 pub mod Loops
 pub mod Closing
 pub mod Sets

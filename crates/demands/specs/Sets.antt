@@ -15,8 +15,8 @@ use Rattle.survey.specs.Outcome as survey
 use Rattle.run.specs.Run.{ringList}
 use Rattle.verdicts.specs.Faults.{Right}
 use Rattle.verdicts.specs.Verdicts.{taken, parts}
-use Rattle.patcher.specs.Outcome as patcher
-use Rattle.checker.specs.Outcome.{Judges}
+use Rattle.patching.specs.Outcome as patcher
+use Rattle.trial.specs.Outcome.{Judges}
 use Rattle.demands.specs.Closing.{ClosingDemand, laidIn}
 
 -- ---- demand 3's condition

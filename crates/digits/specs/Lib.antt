@@ -1,4 +1,3 @@
--- What a number looks like in a text, what reading one means, and the tables by which both go fast.
+-- What a number looks like in a text, and what reading one means.
 pub mod Numeral
 pub mod Reading
-pub mod Tables

@@ -1,6 +1,2 @@
--- The laws of one loop's judgement, each file for one idea.
-pub mod Findings
-pub mod Begun
-pub mod Threes
-pub mod Weighed
+-- The laws of one loop's judgement.
 pub mod Turning

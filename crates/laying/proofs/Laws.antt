@@ -1,8 +1,2 @@
--- The laws of listing a patch, each file for one idea.
-pub mod Ways
-pub mod Middles
-pub mod Tries
-pub mod Lists
-pub mod Once
+-- The laws of laying a patch.
 pub mod Patches
-pub mod Fours

@@ -1,3 +1,1 @@
-pub mod Ways
-pub mod Lists
 pub mod Patches

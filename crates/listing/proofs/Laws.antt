@@ -1,4 +1,2 @@
--- The laws of the listing, each file for one idea.
-pub mod Shows
-pub mod Left
-pub mod Going
+-- The laws of the listing program.
+pub mod Ends

@@ -1,10 +1,9 @@
 // Reads a sheet text from standard input and prints its loops and their patches, or an answer line.
 ghost use Prim.Native.Nat.{_≤_};
 ghost use lib.ListN.{length};
-ghost use Rattle.listing.specs.Listed.{Listed};
+ghost use Rattle.roll.specs.Listed.{Listed};
 use libc::STDIN_FILENO;
 use libc::STDOUT_FILENO;
-use report::Mark;
 use terms::Answer;
 use terms::PatchSet;
 use terms::Surface;
@@ -18,31 +17,10 @@ fn main() {
     list(&mut room, n);
 }
 
-fn print_answer(room: &mut [u8], answer: Answer)
-    requires { do most ← ⟦ROOM⟧; ⌜ most ≤ length (now room) ⌝ }
-{
-    let n = report::put_answer(room, answer);
-    io::write_all(STDOUT_FILENO, &room[..n]);
-}
-
 // Lists the sheet whose text is in the first n bytes.
 fn list(room: &mut [u8], n: usize)
     requires { do most ← ⟦ROOM⟧; ⌜ most ≤ length (now room) ⌝ }
     requires { ⌜ n ≤ length (now room) ⌝ }
-{
-    let mut words = [0u32; Surface::WORDS];
-    let mut corners = [0u16; Surface::CORNERS];
-    let read = intake::read(&room[..n], &mut words, &mut corners);
-    let answer = read.answer;
-    if answer.refuses() {
-        print_answer(room, answer);
-        return;
-    }
-    patch(room, &words[..read.words], &corners[..read.corners]);
-}
-
-fn patch(room: &mut [u8], words: &[u32], corners: &[u16])
-    requires { do most ← ⟦ROOM⟧; ⌜ most ≤ length (now room) ⌝ }
 {
     let mut grid = [0i32; Surface::WORDS];
     let mut rings = [0u16; Surface::CORNERS];
@@ -50,9 +28,8 @@ fn patch(room: &mut [u8], words: &[u32], corners: &[u16])
     let mut states = [0u16; Surface::TRIANGLES];
     let mut weights = [0u64; Surface::TRIANGLES];
     let mut patches = [0u16; PatchSet::CORNERS];
-    let patched = patcher::patch(
-        words,
-        corners,
+    let listed = lister::list(
+        &room[..n],
         &mut grid,
         &mut rings,
         &mut lengths,
@@ -60,25 +37,23 @@ fn patch(room: &mut [u8], words: &[u32], corners: &[u16])
         &mut weights,
         &mut patches,
     );
-    let answer = patched.answer;
-    if answer.refuses() {
-        print_answer(room, answer);
-        return;
-    }
-    print_loops(
+    let answer = listed.answer;
+    print(
         room,
-        patched.loops,
-        &rings[..patched.vertices],
-        &lengths[..patched.loops],
-        &states[..patched.loops],
-        &weights[..patched.loops],
-        &patches[..patched.corners],
+        answer,
+        listed.loops,
+        &rings[..listed.vertices],
+        &lengths[..listed.loops],
+        &states[..listed.loops],
+        &weights[..listed.loops],
+        &patches[..listed.corners],
     );
 }
 
-// Prints the loops, as many at once as there is room for.
-fn print_loops(
+// Prints the answer and the loops, piece by piece.
+fn print(
     room: &mut [u8],
+    answer: Answer,
     loops: usize,
     rings: &[u16],
     lengths: &[u16],
@@ -89,24 +64,12 @@ fn print_loops(
     requires { do most ← ⟦ROOM⟧; ⌜ most ≤ length (now room) ⌝ }
     requires { ⌜ Listed (now rings) (now lengths) (now states) (now weights) (now patches) loops ⌝ }
 {
-    let i = report::put_answer(room, Answer::Done);
-    let j = report::put_count(room, i, loops);
-    let mut mark = Mark {
-        loops: 0,
-        vertices: 0,
-        corners: 0,
-        bytes: j,
-    };
-    while mark.loops < loops {
-        if room.len() < mark.bytes + report::WIDEST {
-            let n = mark.bytes;
-            if !io::write_all(STDOUT_FILENO, &room[..n]) {
-                return;
-            }
-            mark.bytes = 0;
-        }
-        mark = report::put_next(room, mark, rings, lengths, states, weights, patches);
+    let mut mark = roll::begin(room, answer, loops);
+    let mut going = true;
+    while going {
+        mark = roll::fill(room, mark, loops, rings, lengths, states, weights, patches);
+        let n = mark.bytes;
+        going = io::write_all(STDOUT_FILENO, &room[..n]) && mark.loops < loops;
+        mark.bytes = 0;
     }
-    let n = mark.bytes;
-    io::write_all(STDOUT_FILENO, &room[..n]);
 }

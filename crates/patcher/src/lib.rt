@@ -4,20 +4,11 @@ ghost use Prim.Native.Nat.{_/_, _≤_};
 ghost use lib.ListN.{length};
 ghost use Rattle.terms.specs.declared.Answer.the-variants.{Done};
 ghost use Rattle.surface.specs.Refusals.{countRefusal};
-ghost use Rattle.rounds.specs.Scratch.{few, Scratch};
-ghost use Rattle.patcher.specs.Outcome.{outcome, buffers, Patches};
+ghost use Rattle.rounds.specs.Scratch.{few};
+ghost use Rattle.patching.specs.Outcome.{outcome, buffers, Patches};
+use patching::Patched;
 use rounds::FEW;
-use terms::Answer;
 use terms::Surface;
-
-// What the patcher answers: done or a refusal, how many loops there are, how many vertices their rings have, and how many corners
-// were laid.
-pub struct Patched {
-    pub answer: Answer,
-    pub loops: usize,
-    pub vertices: usize,
-    pub corners: usize,
-}
 
 // Finds the loops of the surface with these words and corners and patches them: leaves the grid, the ring vertices and lengths, the
 // states and weights, and the patch corners; or refuses and leaves everything as it was.
@@ -36,7 +27,7 @@ pub fn patch(
 {
     let counted = surface::check_counts(words.len(), corners.len());
     if counted.refuses() {
-        return refused(counted);
+        return patching::refused(counted);
     }
     if words.len() / 3 <= FEW {
         if corners.len() <= FEW {
@@ -82,7 +73,7 @@ fn patch_few(
     let mut turns = [0u16; FEW];
     let mut path = [0u16; FEW];
     let mut places = [0u16; FEW];
-    patch_with(
+    patching::patch_with(
         words,
         corners,
         &mut turns,
@@ -115,7 +106,7 @@ fn patch_many(
     let mut turns = [0u16; Surface::CORNERS];
     let mut path = [0u16; Surface::CORNERS];
     let mut places = [0u16; Surface::POINTS];
-    patch_with(
+    patching::patch_with(
         words,
         corners,
         &mut turns,
@@ -128,67 +119,4 @@ fn patch_many(
         weights,
         patches,
     )
-}
-
-// Refusals 3 to 8, and the patching, with a table of turns, a path and places that are long enough.
-fn patch_with(
-    words: &[u32],
-    corners: &[u16],
-    turns: &mut [u16],
-    path: &mut [u16],
-    places: &mut [u16],
-    grid: &mut [i32],
-    rings: &mut [u16],
-    lengths: &mut [u16],
-    states: &mut [u16],
-    weights: &mut [u64],
-    patches: &mut [u16],
-) -> Patched
-    requires { ⌜ Scratch (now words) (now corners) (now turns) (now path) (now places) ⌝ }
-    ensures { λ r. ⌜ Patches (now (words .entry)) (now (corners .entry)) (buffers (now (grid .entry)) (now (rings .entry)) (now (lengths .entry)) (now (states .entry)) (now (weights .entry)) (now (patches .entry)))
-        (outcome r (buffers (now (grid .exit)) (now (rings .exit)) (now (lengths .exit)) (now (states .exit)) (now (weights .exit)) (now (patches .exit)))) ⌝ }
-{
-    let n = corners.len();
-    let lent = [
-        grid.len(),
-        rings.len(),
-        lengths.len(),
-        states.len(),
-        weights.len(),
-        patches.len(),
-    ];
-    let needs = [words.len(), n, n / 3, n / 3, n / 3, 3 * n];
-    let checked = survey::check_with(words, corners, &lent, &needs, turns);
-    if checked.refuses() {
-        return refused(checked);
-    }
-    let mut firsts = [0u16; Surface::TRIANGLES];
-    survey::lay_grid(words, grid);
-    let listed = finder::list_with(corners, turns, path, places, rings, lengths, &mut firsts);
-    let laid = course::run(
-        &grid[..words.len()],
-        corners,
-        &rings[..listed.vertices],
-        &lengths[..listed.loops],
-        states,
-        weights,
-        patches,
-    );
-    Patched {
-        answer: Answer::Done,
-        loops: listed.loops,
-        vertices: listed.vertices,
-        corners: laid,
-    }
-}
-
-fn refused(answer: Answer) -> Patched
-    ensures { λ r. ⌜ (r .answer ≡ answer) × (r .loops ≡ 0) × (r .vertices ≡ 0) × (r .corners ≡ 0) ⌝ }
-{
-    Patched {
-        answer,
-        loops: 0,
-        vertices: 0,
-        corners: 0,
-    }
 }

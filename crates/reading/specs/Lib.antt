@@ -1,4 +1,2 @@
 pub mod Reading
-pub mod Weighing
-pub mod Keys
-pub mod Chaining
+pub mod Rows

@@ -5,14 +5,10 @@ use mathlib.Core.Bool.{Bool, true}
 use mathlib.Core.List.{List}
 use lib.ListN.{length}
 use Rattle.covers.specs.Covers as covers
-use Rattle.covers.specs.Covers.{Cover, Triangle, Uses, vertexOf}
-use Rattle.covers.specs.Sets.{Covered}
+use Rattle.covers.specs.Covers.{Cover, Triangle, Uses}
+use Rattle.keys.specs.Covering.{Covering}
 use Rattle.reading.specs.declared.Reading.{Reading}
 use Rattle.reading.specs.declared.Reading.the-variants.{NoCover, Barred, Allowed}
-
--- the set s of triangles, by their vertices, is the cover c of the ring
-abbrev pub Covering : List ℕ → List Triangle → Cover → Type 0
-Covering ring s c = Covered (length ring) (vertexOf ring) s c
 
 -- what the set s is of the ring, where these pairs of positions are barred
 abbrev pub Reads : List ℕ → (ℕ → ℕ → Bool) → List Triangle → Reading → Type 0

@@ -74,7 +74,7 @@ fn put_one(out: &mut [u8], at: usize, key: &[u8], a: u64) -> usize
         × (r ≡ at + length (line (now (key .entry)) (a ∷ [])))
         ⌝ }
 {
-    digits::put_bytes(out, at, key);
+    figures::put_bytes(out, at, key);
     put_number(out, at + key.len(), a, b'\n')
 }
 
@@ -86,7 +86,7 @@ fn put_two(out: &mut [u8], at: usize, key: &[u8], a: u64, b: u64) -> usize
         × (r ≡ at + length (line (now (key .entry)) (a ∷ b ∷ [])))
         ⌝ }
 {
-    digits::put_bytes(out, at, key);
+    figures::put_bytes(out, at, key);
     let i = put_number(out, at + key.len(), a, b',');
     put_number(out, i, b, b'\n')
 }
@@ -99,7 +99,7 @@ fn put_three(out: &mut [u8], at: usize, key: &[u8], a: u64, b: u64, c: u64) -> u
         × (r ≡ at + length (line (now (key .entry)) (a ∷ b ∷ c ∷ [])))
         ⌝ }
 {
-    digits::put_bytes(out, at, key);
+    figures::put_bytes(out, at, key);
     let i = put_number(out, at + key.len(), a, b',');
     let j = put_number(out, i, b, b',');
     put_number(out, j, c, b'\n')
@@ -136,7 +136,7 @@ fn put_ring(out: &mut [u8], at: usize, ring: &[u16]) -> usize
         × (r ≡ at + length (line ring= (now (ring .entry))))
         ⌝ }
 {
-    digits::put_bytes(out, at, b"ring=");
+    figures::put_bytes(out, at, b"ring=");
     let mut place = at + 5;
     let mut i: usize = 0;
     while i < ring.len() {

@@ -10,7 +10,7 @@ use Rattle.surface.specs.declared.Found.the-variants.{Nothing}
 use Rattle.surface.specs.Smallest.{least}
 use Rattle.surface.specs.Refusals.{countRefusal, unnamed}
 use Rattle.digits.specs.Numeral.{size, decimal}
-use Rattle.digits.specs.Tables.{fourOf}
+use Rattle.figures.specs.Tables.{fourOf}
 use Rattle.sheet.specs.Sheet.{threes, points, triangles, text}
 
 -- a table has the digits of a number that has at most four

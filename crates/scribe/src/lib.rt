@@ -6,7 +6,7 @@ ghost use lib.Dec.{leb};
 ghost use lib.ListN.{length};
 ghost use Rattle.surface.specs.Buffers.{laid, over};
 ghost use Rattle.digits.specs.Numeral.{size, decimal};
-ghost use Rattle.digits.specs.Tables.{Spelled};
+ghost use Rattle.figures.specs.Tables.{Spelled};
 ghost use Rattle.texts.specs.Text.{count};
 ghost use Rattle.sheet.specs.Sheet.{three, points, triangles, text};
 ghost use Rattle.scribe.specs.Outcome.{writeOutcome, writes};
@@ -32,12 +32,12 @@ fn put_count(buffer: &mut [u8], at: usize, key: &[u8], n: usize) -> usize
         × (r ≡ at + length (count (now (key .entry)) n))
         ⌝ }
 {
-    digits::put_bytes(buffer, at, key);
-    digits::put_decimal_ended(
+    figures::put_bytes(buffer, at, key);
+    figures::put_decimal_ended(
         buffer,
         at + key.len(),
         n as u16,
-        digits::four_of(n as u16),
+        figures::four_of(n as u16),
         b'\n',
     )
 }
@@ -49,9 +49,9 @@ fn put_point(buffer: &mut [u8], at: usize, a: u32, b: u32, c: u32, pairs: &[u16]
 {
     buffer[at] = b'p';
     buffer[at + 1] = b'=';
-    digits::put_hex_ended(buffer, at + 2, a, b',', pairs);
-    digits::put_hex_ended(buffer, at + 11, b, b',', pairs);
-    digits::put_hex_ended(buffer, at + 20, c, b'\n', pairs);
+    figures::put_hex_ended(buffer, at + 2, a, b',', pairs);
+    figures::put_hex_ended(buffer, at + 11, b, b',', pairs);
+    figures::put_hex_ended(buffer, at + 20, c, b'\n', pairs);
 }
 
 // Writes a line `t=`, and answers the place after it.
@@ -65,9 +65,9 @@ fn put_triangle(buffer: &mut [u8], at: usize, a: u16, b: u16, c: u16, fours: &[u
 {
     buffer[at] = b't';
     buffer[at + 1] = b'=';
-    let i = digits::put_decimal_ended(buffer, at + 2, a, fours[a as usize], b',');
-    let j = digits::put_decimal_ended(buffer, i, b, fours[b as usize], b',');
-    digits::put_decimal_ended(buffer, j, c, fours[c as usize], b'\n')
+    let i = figures::put_decimal_ended(buffer, at + 2, a, fours[a as usize], b',');
+    let j = figures::put_decimal_ended(buffer, i, b, fours[b as usize], b',');
+    figures::put_decimal_ended(buffer, j, c, fours[c as usize], b'\n')
 }
 
 // Writes the lines `p=`, and answers the place after them.
@@ -79,7 +79,7 @@ fn put_points(buffer: &mut [u8], at: usize, words: &[u32], n: usize) -> usize
         ⌝ }
 {
     let mut pairs = [0u16; 256];
-    digits::spell_bytes(&mut pairs);
+    figures::spell_bytes(&mut pairs);
     let mut place = at;
     let mut k: usize = 0;
     while k < n {
@@ -129,7 +129,7 @@ fn number_points(points: usize, fours: &mut [u32])
 {
     let mut i: usize = 0;
     while i < points {
-        fours[i] = digits::four_of(i as u16);
+        fours[i] = figures::four_of(i as u16);
         i += 1;
     }
 }

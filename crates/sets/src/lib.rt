@@ -35,7 +35,7 @@ fn state_at(text: &[u8], at: usize) -> Number
     let Place::Past(i) = digits::key_at(text, at, b"s=") else {
         return Number::Wrong;
     };
-    digits::decimal_at(text, i, b'\n', 9)
+    decimals::decimal_at(text, i, b'\n', 9)
 }
 
 // n lines `s=` from a place on, their states laid into a buffer from its start.

@@ -10,8 +10,7 @@ use Rattle.terms.specs.declared.Answer.the-variants.{Done}
 use Rattle.surface.specs.Refusals.{countRefusal}
 use Rattle.surface.proofs.Laws.Thens.{Fitting, counts-fit}
 use Rattle.digits.specs.Numeral.{size}
-use Rattle.digits.proofs.Laws.Leads.{size-below}
-use Rattle.digits.proofs.Laws.Sizes.{size-four}
+use Rattle.digits.proofs.Laws.Sizes.{size-four, size-below}
 use Rattle.texts.specs.Text.{All, TextOf}
 use Rattle.texts.specs.Text as texts
 use Rattle.texts.proofs.Laws.Lists.{all-replicate}

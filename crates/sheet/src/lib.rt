@@ -4,7 +4,7 @@ ghost use Prim.Native.Nat.{_<_, _≤_};
 ghost use lib.ListN.{length, drop};
 ghost use Rattle.surface.specs.Buffers.{over};
 ghost use Rattle.digits.specs.Reading.{seen, UpTo};
-ghost use Rattle.digits.specs.Tables.{Marked};
+ghost use Rattle.nibbles.specs.Tables.{Marked};
 ghost use Rattle.texts.specs.Parse.{readCount, rows, outline, values};
 ghost use Rattle.sheet.specs.Sheet.{flat};
 ghost use Rattle.sheet.specs.Parse.{readPoint, readTriangle, seenRow, RowBy, PassBy, passed, Room};
@@ -32,7 +32,7 @@ pub fn count_at(text: &[u8], at: usize, key: &[u8], limit: usize) -> Number
     let Place::Past(i) = digits::key_at(text, at, key) else {
         return Number::Wrong;
     };
-    digits::decimal_at(text, i, b'\n', limit as u32)
+    decimals::decimal_at(text, i, b'\n', limit as u32)
 }
 
 // A line `p=`, of 29 bytes.
@@ -49,13 +49,13 @@ fn point_at(text: &[u8], at: usize, values: &[u32]) -> Line
     if text[at + 1] != b'=' {
         return Line::Bad;
     }
-    let Number::Is(a, j) = digits::hex_at(text, at + 2, b',', values) else {
+    let Number::Is(a, j) = nibbles::hex_at(text, at + 2, b',', values) else {
         return Line::Bad;
     };
-    let Number::Is(b, k) = digits::hex_at(text, j, b',', values) else {
+    let Number::Is(b, k) = nibbles::hex_at(text, j, b',', values) else {
         return Line::Bad;
     };
-    let Number::Is(c, next) = digits::hex_at(text, k, b'\n', values) else {
+    let Number::Is(c, next) = nibbles::hex_at(text, k, b'\n', values) else {
         return Line::Bad;
     };
     Line::Row(a, b, c, next)
@@ -76,13 +76,13 @@ pub fn triangle_at(text: &[u8], at: usize) -> Line
         return Line::Bad;
     }
     let most = (Surface::POINTS - 1) as u32;
-    let Number::Is(a, j) = digits::number_at(text, at + 2, b',', most) else {
+    let Number::Is(a, j) = decimals::number_at(text, at + 2, b',', most) else {
         return Line::Bad;
     };
-    let Number::Is(b, k) = digits::number_at(text, j, b',', most) else {
+    let Number::Is(b, k) = decimals::number_at(text, j, b',', most) else {
         return Line::Bad;
     };
-    let Number::Is(c, next) = digits::number_at(text, k, b'\n', most) else {
+    let Number::Is(c, next) = decimals::number_at(text, k, b'\n', most) else {
         return Line::Bad;
     };
     Line::Row(a, b, c, next)
@@ -96,13 +96,13 @@ fn last_at(text: &[u8], at: usize) -> Line
     let Place::Past(i) = digits::key_at(text, at, b"t=") else {
         return Line::Bad;
     };
-    let Number::Is(a, j) = digits::decimal_at(text, i, b',', most) else {
+    let Number::Is(a, j) = decimals::decimal_at(text, i, b',', most) else {
         return Line::Bad;
     };
-    let Number::Is(b, k) = digits::decimal_at(text, j, b',', most) else {
+    let Number::Is(b, k) = decimals::decimal_at(text, j, b',', most) else {
         return Line::Bad;
     };
-    let Number::Is(c, next) = digits::decimal_at(text, k, b'\n', most) else {
+    let Number::Is(c, next) = decimals::decimal_at(text, k, b'\n', most) else {
         return Line::Bad;
     };
     Line::Row(a, b, c, next)
@@ -118,7 +118,7 @@ pub fn read_points(text: &[u8], at: usize, n: usize, words: &mut [u32]) -> Pass
         ⌝ }
 {
     let mut values = [65536u32; 512];
-    digits::mark_digits(&mut values);
+    nibbles::mark_digits(&mut values);
     let mut i: usize = 0;
     let mut place = at;
     while i < n {

@@ -8,7 +8,7 @@ use Rattle.terms.specs.declared.Answer.{Answer}
 use Rattle.terms.specs.declared.Answer.the-variants.{Done}
 use Rattle.surface.specs.Edges.{Sound}
 use Rattle.surface.specs.Refusals.{countRefusal, cornerRefusal, contentRefusal}
-use Rattle.pairing.specs.Turns.{Turns}
+use Rattle.twins.specs.Turns.{Turns}
 use Rattle.survey.specs.Grid.{OnGrid}
 
 -- the corners passed 4, 5 and 6: each names a point, and the table has every half-edge's turn

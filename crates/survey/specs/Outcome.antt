@@ -10,7 +10,7 @@ use Rattle.terms.specs.declared.Answer.the-variants.{Done}
 use Rattle.surface.specs.Buffers.{over}
 use Rattle.surface.specs.Refusals.{refusal}
 use Rattle.loops.specs.Loops.{loops}
-use Rattle.finder.specs.Listing.{ringsOf}
+use Rattle.cutting.specs.Listing.{ringsOf}
 use Rattle.survey.specs.Grid.{gridOf}
 use Rattle.survey.specs.declared.Surveyed.{Surveyed}
 

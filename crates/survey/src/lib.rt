@@ -3,7 +3,7 @@ ghost use mathlib.Core.Path.{_≡_};
 ghost use Prim.Native.Nat.{_<_, _≤_};
 ghost use lib.ListN.{length, getD};
 ghost use Rattle.surface.specs.Buffers.{over};
-ghost use Rattle.pairing.specs.Turns.{Room};
+ghost use Rattle.twins.specs.Turns.{Room};
 ghost use Rattle.survey.specs.Checks.{Counted, Fitted, Checked, CornersChecked};
 ghost use Rattle.survey.specs.Outcome.{outcome, buffers, surveyOf};
 ghost use Rattle.survey.specs.Grid.{wholeOf, gridOf, OnGrid};

@@ -12,8 +12,8 @@ use borrow.Author.Count.{below-more}
 use borrow.Author.Tests.{eq-eqb, ne-eqb}
 use Rattle.limits.specs.Limits as limits
 use Rattle.surface.proofs.Laws.Tests.{eq-or-not}
-use Rattle.pairing.specs.Chains.{top}
-use Rattle.pairing.proofs.Laws.Tops.{top-none, top-hit, top-miss}
+use Rattle.twins.specs.Chains.{top}
+use Rattle.twins.proofs.Laws.Tops.{top-none, top-hit, top-miss}
 use Rattle.bars.specs.Chains.{Edge, edgeOf, leaves, Chained, ChainRoom, ChainDone}
 
 -- two properties that agree below n have the same top

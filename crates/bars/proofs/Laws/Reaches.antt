@@ -7,8 +7,8 @@ use native.Mathlib.Omega.{arith}
 use lib.Dec.{eqb}
 use lib.ListN.{length, getD, drop}
 use lib.Seq.{drop-cons, drop-length}
-use Rattle.pairing.specs.Chains.{top}
-use Rattle.pairing.proofs.Laws.Tops.{top-le, top-never}
+use Rattle.twins.specs.Chains.{top}
+use Rattle.twins.proofs.Laws.Tops.{top-le, top-never}
 use Rattle.bars.specs.Chains.{Edge, edgeOf, joins, reaches, leaves}
 use Rattle.bars.proofs.Laws.Tests.{exchanged}
 

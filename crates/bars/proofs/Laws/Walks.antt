@@ -12,8 +12,8 @@ use lib.ListN.{length, getD, set, drop, length-set}
 use borrow.Author.Tests.{eq-eqb, ne-eqb, lt-ltb, le-ltb, eqb-true}
 use Rattle.limits.specs.Limits as limits
 use Rattle.masks.specs.Masks.{Rows}
-use Rattle.pairing.specs.Chains.{top}
-use Rattle.pairing.proofs.Laws.Tops.{top-le, top-says}
+use Rattle.twins.specs.Chains.{top}
+use Rattle.twins.proofs.Laws.Tops.{top-le, top-says}
 use Rattle.surface.proofs.Laws.Tests.{eq-or-not, lt-or-le}
 use Rattle.bars.specs.Chains.{Edge, edgeOf, reaches, leaves, Chained, Marked, leads, withFrom, RowsRoom, FromDone}
 use Rattle.bars.proofs.Laws.Reaches.{reaches-none, met-here, reaches-top}

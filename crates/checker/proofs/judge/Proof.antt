@@ -2,7 +2,7 @@
 use mathlib.Core.Path.{sym, _∙_}
 use borrow.Author.Needs.{needs}
 use Rattle.survey.specs.Outcome.{buffers}
-use Rattle.checker.proofs.Laws.Judging.{counts-refuse, counts-done}
+use Rattle.trial.proofs.Laws.Judging.{counts-refuse, counts-done}
 use Rattle.checker.proofs.judge.Statement.{statement}
 use Rattle.checker.proofs.judge.Tie as tie
 

@@ -11,8 +11,8 @@ use Rattle.bars.specs.Chains.{Tells}
 use Rattle.column.specs.Columns.{Table}
 use Rattle.run.specs.Fates.{lays}
 use Rattle.run.specs.Run.{laidBy}
-use Rattle.turns.specs.declared.Became.{Became}
-use Rattle.turns.specs.Turns.{TurnRoom, Took, Takes}
+use Rattle.plain.specs.declared.Became.{Became}
+use Rattle.middling.specs.Turns.{TurnRoom, Took, Takes}
 use Rattle.rounds.specs.Rings.{RingOf, Loops, RingPlace}
 use Rattle.rounds.specs.Bench.{Bench}
 use Rattle.rounds.proofs.Laws.Reading.{as-many, length-at, ring-at, places-of}

@@ -10,8 +10,8 @@ use lib.ListN.{length, getD, take, drop, set, length-set}
 use Rattle.limits.specs.Limits as limits
 use Rattle.surface.proofs.Laws.Laid.{laid-none}
 use Rattle.run.specs.Fates.{long}
-use Rattle.turns.specs.declared.Became.{Became}
-use Rattle.turns.specs.Turns.{ThreeRoom, ThreeTook}
+use Rattle.plain.specs.declared.Became.{Became}
+use Rattle.plain.specs.Threes.{ThreeRoom, ThreeTook}
 use Rattle.rounds.specs.Rings.{RingOf, Loops, RingPlace, Plain}
 use Rattle.rounds.proofs.Laws.Reading.{as-many, length-at, ring-at, places-of}
 use Rattle.course.specs.Courses.{Lent, RunRoom, Ran, RanAll}

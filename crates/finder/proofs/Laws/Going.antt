@@ -11,12 +11,14 @@ use lib.Seq.{getD-take, take-all, length-take-le}
 use Rattle.surface.specs.declared.Found.the-variants.{At}
 use Rattle.surface.specs.Edges.{Sound, following, startOf, endOf, isOpen}
 use Rattle.surface.proofs.Laws.Edges.{below-after}
-use Rattle.pairing.specs.Turns.{openMark}
-use Rattle.finder.specs.declared.Listed.{Listed}
+use Rattle.twins.specs.Turns.{openMark}
+use Rattle.cutting.specs.declared.Listed.{Listed}
 use Rattle.loops.specs.Next.{next}
 use Rattle.loops.specs.Loops.{Split, startsAt, grow, cycle, loopsOf, loopsBelow}
-use Rattle.finder.specs.Listing.{Lists, ringsOf}
-use Rattle.finder.specs.Walking.{walkedMark, Turned, Landing, Landed, Path, Stands, GrowRoom, Grew, CycleRoom, CycleListed}
+use Rattle.cutting.specs.Listing.{Lists, ringsOf}
+use Rattle.leaders.specs.Leading.{walkedMark, Landing, Landed}
+use Rattle.cutting.specs.Growing.{Path, Stands, GrowRoom, Grew}
+use Rattle.finder.specs.Walking.{Turned, CycleRoom, CycleListed}
 use Rattle.loops.proofs.Laws.Distinct.{Distinct}
 use Rattle.loops.proofs.Laws.Counts.{Among}
 use Rattle.loops.proofs.Laws.Places.{among-back}

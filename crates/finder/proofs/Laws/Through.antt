@@ -6,13 +6,15 @@ use Prim.Native.Nat.{ℕ, suc, _+_, _-_, _<_, _≤_}
 use native.Mathlib.Numerals.{add-one}
 use native.Mathlib.Omega.{arith}
 use lib.ListN.{length, getD}
-use Rattle.pairing.specs.Turns.{openMark}
-use Rattle.finder.specs.declared.Listed.{Listed}
+use Rattle.twins.specs.Turns.{openMark}
+use Rattle.cutting.specs.declared.Listed.{Listed}
 use Rattle.loops.specs.Loops.{leads, loops, loopsOf, loopsBelow}
-use Rattle.finder.specs.Listing.{Ready, Lent, Lists}
-use Rattle.finder.specs.Walking.{Turned, Quiet, CycleRoom, CycleListed}
+use Rattle.cutting.specs.Listing.{Lists}
+use Rattle.finder.specs.Asked.{Ready, Lent}
+use Rattle.leaders.specs.Leading.{Quiet}
+use Rattle.finder.specs.Walking.{Turned, CycleRoom, CycleListed}
 use Rattle.loops.proofs.Laws.Surfaces.{edgesBelow, loops-leader}
-use Rattle.finder.proofs.Laws.Cuts.{lists-none, lists-self, lists-on}
+use Rattle.cutting.proofs.Laws.Cuts.{lists-none, lists-self, lists-on}
 use Rattle.finder.proofs.Laws.Marks.{turned-begins}
 use Rattle.finder.proofs.Laws.Below.{marked-leads, quiet-same}
 

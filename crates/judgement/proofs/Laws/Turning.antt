@@ -19,21 +19,31 @@ use Rattle.bars.proofs.Laws.Barring.{tells-walkable}
 use Rattle.table.specs.declared.Least.{Least}
 use Rattle.table.specs.declared.Least.the-variants.{Weight, Nothing}
 use Rattle.table.specs.Loops.{OnGrid, Barring, LoopRoom, LeastIs}
-use Rattle.laying.specs.Patches.{FindsLeast}
-use Rattle.reading.specs.Keys.{Ringed}
-use Rattle.reading.specs.Chaining as chaining
+use Rattle.tracing.specs.Patches.{FindsLeast}
+use Rattle.keys.specs.Keys.{Ringed}
+use Rattle.linking.specs.Chaining as chaining
 use Rattle.run.proofs.Laws.Three.{sides-free}
 use Rattle.rounds.specs.Rings.{RingOf}
 use Rattle.rounds.specs.Bench.{Bench}
 use Rattle.rounds.proofs.Laws.Bench.{bench-kept}
-use Rattle.verdicts.specs.Faults.{share, Right, patched, long, open-left, no-state, two-on-a-short, three-with-a-cover}
+use Rattle.verdicts.specs.Faults.{share, Right, Fault, patched, long, open-left, no-state, two-on-a-short, three-with-a-cover}
 use Rattle.verdicts.specs.Verdicts.{taken}
 use Rattle.verdicts.proofs.Laws.Filled.{taken-patched, part-none}
 use Rattle.verdicts.proofs.Laws.Once.{right-patched}
-use Rattle.judgement.specs.Turns.{right, PlainRoom, FindsPlain, PartRoom, FindsCover, LoopTurn, FindsLoop, FindsPatched, OpenTurn, FindsOpen}
-use Rattle.judgement.proofs.Laws.Findings.{declared-patched, done-right, judging-fault}
-use Rattle.judgement.proofs.Laws.Threes.{three-told}
-use Rattle.judgement.proofs.Laws.Weighed.{cover-part}
+use Rattle.sight.specs.Findings.{right, fault, PlainRoom, FindsPlain}
+use Rattle.sight.proofs.Laws.Findings.{declared-patched, done-right}
+use Rattle.sight.proofs.Laws.Threes.{three-told}
+use Rattle.appraisal.specs.Parts.{PartRoom, FindsCover}
+use Rattle.appraisal.proofs.Laws.Weighed.{cover-part}
+use Rattle.judgement.specs.Turns.{LoopTurn, Judging, FindsLoop, FindsPatched, OpenTurn, FindsOpen}
+
+-- ---- after a fault no bench is asked for
+
+module _ (grid : List ℤ) (input laid ring : List ℕ) (state : ℕ) (set : List ℕ) (l : ℕ) (a : Answer) where
+  judging-fault : Fault grid input laid l ring state set a → (base e f : ℕ) → f ≤ e + (length ring - 2)
+      → (heads links ends marks rows : List ℕ) (table : List Float) → Judging grid input laid ring state set l base e a f heads links ends marks rows table
+  judging-fault h base e f few heads links ends marks rows table =
+      record { finds = fault h; few = few; bench = λ d. absurd (subst (Fault grid input laid l ring state set) d h) }
 
 -- ---- the bench after a loop
 

@@ -1,6 +1,6 @@
 -- `judge_patched` finds the bars, and by them what the part is; a right one is chained.
 use borrow.Author.Needs.{needs}
-use Rattle.judgement.proofs.Laws.Findings.{not-done}
+use Rattle.sight.proofs.Laws.Findings.{not-done}
 use Rattle.judgement.proofs.Laws.Turning.{bars-room, cover-room, chain-room, patched-faulty, patched-right}
 use Rattle.judgement.proofs.judge_patched.Statement.{statement}
 use Rattle.judgement.proofs.judge_patched.Tie as tie

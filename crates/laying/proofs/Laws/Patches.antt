@@ -22,9 +22,12 @@ use Rattle.table.specs.declared.Least.the-variants.{Weight, Nothing}
 use Rattle.table.specs.Table.{OnLoop}
 use Rattle.table.specs.Loops.{OnGrid, Barring, LeastIs, Found}
 use Rattle.table.proofs.Laws.Once.{least-once}
-use Rattle.laying.specs.Ways.{Weighed}
-use Rattle.laying.specs.Lists.{ListRoom, Lists}
-use Rattle.laying.specs.Patches.{PatchRoom, LaysIf, LaysPatch, ThreeRoom, LaysThree}
+use Rattle.tracing.specs.Ways.{Weighed}
+use Rattle.tracing.specs.Lists.{ListRoom, Lists}
+use Rattle.tracing.specs.Patches.{LaysIf, LaysPatch, FindsLeast}
+use Rattle.fours.specs.Fours.{FourRoom}
+use Rattle.fours.proofs.Laws.Fours.{four-there}
+use Rattle.laying.specs.Patches.{PatchRoom, ThreeRoom, LaysThree}
 
 -- ---- the patch of a loop
 
@@ -111,6 +114,19 @@ module _ (grid : List ℤ) (ring bars : List ℕ) (table : List Float) (buffer :
 
       same : x ≡ y
       same = least-once grid ring barred x y (lays-least barred x b h′) (lays-least barred y c g′)
+
+-- ---- the least weight alone
+
+pub found-least : (grid : List ℤ) (ring bars : List ℕ) (r : Least) (table : List Float) → Found grid ring bars r table → FindsLeast grid ring bars r
+found-least grid ring bars r table f barred k = f barred k .0
+
+-- ---- the patch of four
+
+pub four-room : (grid : List ℤ) (ring bars : List ℕ) (table : List Float) (buffer : List ℕ) (p : ℕ) → PatchRoom grid ring bars table buffer p → length ring ≡ 4 → FourRoom grid ring bars buffer p
+four-room grid ring bars table buffer p r e = record {
+  there = four-there grid ring bars table (r .loop) e;
+  room = let h : p + 3 * (length ring - 2) ≤ length buffer = r .room in omega arith;
+}
 
 -- ---- the patch of three
 

@@ -1,7 +1,6 @@
 -- `lay_patch` lists the whole loop as one stretch, if a least weight was found; of four it knows both covers.
 use borrow.Author.Needs.{needs}
-use Rattle.laying.proofs.Laws.Patches.{list-room, lays-some, lays-none}
-use Rattle.laying.proofs.Laws.Fours.{four-room}
+use Rattle.laying.proofs.Laws.Patches.{list-room, lays-some, lays-none, four-room}
 use Rattle.laying.proofs.lay_patch.Statement.{statement}
 use Rattle.laying.proofs.lay_patch.Tie as tie
 

@@ -1,6 +1,7 @@
-use Rattle.laying.proofs.Laws.Fours.{found-least, four-there}
 -- `least` knows both covers of four, and the table tells of every other loop.
 use borrow.Author.Needs.{needs}
+use Rattle.fours.proofs.Laws.Fours.{four-there}
+use Rattle.laying.proofs.Laws.Patches.{found-least}
 use Rattle.laying.proofs.least.Statement.{statement}
 use Rattle.laying.proofs.least.Tie as tie
 

@@ -1,30 +1,82 @@
--- `list`: what reading counts lies within its buffers.
+-- `list`: what is left, cut to what is used, is listed.
 use borrow.Author.Needs.{needs}
+use lib.IntN.{pos}
+use lib.ListN.{replicate, take}
+use Rattle.limits.specs.Limits as limits
 use Rattle.surface.proofs.Laws.Lists.{as-long}
-use Rattle.intake.proofs.Laws.Within.{read-within}
+use Rattle.patching.specs.Outcome.{Buffers, buffers, outcome}
+use Rattle.lister.proofs.Laws.Left.{LeftListed, lists-listed}
 use Rattle.listing.proofs.list.Statement.{statement}
 use Rattle.listing.proofs.list.Tie as tie
 
-slice-reshare-prefix-read : tie.Need-slice-reshare-prefix-read
-slice-reshare-prefix-read c = search needs
+-- the buffers as they are lent
+abbrev zeros : Buffers
+zeros =
+    buffers (replicate limits.words (pos 0)) (replicate limits.corners 0) (replicate limits.triangles 0) (replicate limits.triangles 0)
+    (replicate limits.triangles 0) (replicate limits.set-corners 0)
 
-slice-aggregate-read : tie.Need-slice-aggregate-read
-slice-aggregate-read c = as-long _ _ (slice-reshare-prefix-read (c .before))
+left : (c : tie.After-print-arg) → LeftListed (outcome (c .before .before .before .before .before .before .before .list .result) (buffers (c .before .before .before .before .before .before .before .list .last .1 .0) (c .before .before .before .before .before .before .before .list .last .1 .1 .0) (c .before .before .before .before .before .before .before .list .last .1 .1 .1 .0) (c .before .before .before .before .before .before .before .list .last .1 .1 .1 .1 .0) (c .before .before .before .before .before .before .before .list .last .1 .1 .1 .1 .1 .0) (c .before .before .before .before .before .before .before .list .last .1 .1 .1 .1 .1 .1 .0)))
+left c = lists-listed (take (c .before .before .before .before .before .before .before .before .before .before .before .before .before .before .before .before .args .n) (c .before .before .before .before .before .before .before .before .before .before .before .before .before .before .before .before .args .room .now)) zeros _ (c .before .before .before .before .before .before .before .list .ensures)
 
-slice-aggregate-read-2 : tie.Need-slice-aggregate-read-2
-slice-aggregate-read-2 c = search needs
+slice-reshare-prefix-list : tie.Need-slice-reshare-prefix-list
+slice-reshare-prefix-list c = search needs
 
-slice-aggregate-read-3 : tie.Need-slice-aggregate-read-3
-slice-aggregate-read-3 c = search needs
+slice-aggregate-list : tie.Need-slice-aggregate-list
+slice-aggregate-list c = as-long _ _ (slice-reshare-prefix-list (c .before))
 
-read-requires : tie.Need-read-requires
-read-requires c κs = search needs
+slice-aggregate-list-2 : tie.Need-slice-aggregate-list-2
+slice-aggregate-list-2 c = search needs
 
-refuses-requires : tie.Need-refuses-requires
-refuses-requires c κs = search needs
+slice-aggregate-list-3 : tie.Need-slice-aggregate-list-3
+slice-aggregate-list-3 c = search needs
 
-print-answer-requires : tie.Need-print-answer-requires
-print-answer-requires c κs = search needs
+slice-aggregate-list-4 : tie.Need-slice-aggregate-list-4
+slice-aggregate-list-4 c = search needs
+
+slice-aggregate-list-5 : tie.Need-slice-aggregate-list-5
+slice-aggregate-list-5 c = search needs
+
+slice-aggregate-list-6 : tie.Need-slice-aggregate-list-6
+slice-aggregate-list-6 c = search needs
+
+slice-aggregate-list-7 : tie.Need-slice-aggregate-list-7
+slice-aggregate-list-7 c = search needs
+
+list-requires : tie.Need-list-requires
+list-requires c κs = search needs
+
+array-share-prefix-rings : tie.Need-array-share-prefix-rings
+array-share-prefix-rings c = left c .rings-in
+
+slice-aggregate-print : tie.Need-slice-aggregate-print
+slice-aggregate-print c = as-long _ _ (array-share-prefix-rings (c .before))
+
+array-share-prefix-lengths : tie.Need-array-share-prefix-lengths
+array-share-prefix-lengths c = left (c .before) .lengths-in
+
+slice-aggregate-print-2 : tie.Need-slice-aggregate-print-2
+slice-aggregate-print-2 c = as-long _ _ (array-share-prefix-lengths (c .before))
+
+array-share-prefix-states : tie.Need-array-share-prefix-states
+array-share-prefix-states c = left (c .before .before) .states-in
+
+slice-aggregate-print-3 : tie.Need-slice-aggregate-print-3
+slice-aggregate-print-3 c = as-long _ _ (array-share-prefix-states (c .before))
+
+array-share-prefix-weights : tie.Need-array-share-prefix-weights
+array-share-prefix-weights c = left (c .before .before .before) .weights-in
+
+slice-aggregate-print-4 : tie.Need-slice-aggregate-print-4
+slice-aggregate-print-4 c = as-long _ _ (array-share-prefix-weights (c .before))
+
+array-share-prefix-patches : tie.Need-array-share-prefix-patches
+array-share-prefix-patches c = left (c .before .before .before .before) .patches-in
+
+slice-aggregate-print-5 : tie.Need-slice-aggregate-print-5
+slice-aggregate-print-5 c = as-long _ _ (array-share-prefix-patches (c .before))
+
+print-requires : tie.Need-print-requires
+print-requires c κs = (c .before .before .before .before .before .before .before .before .before .before .before .before .before .before .before .before .before .before .before .before .before .pre .0, left (c .before .before .before .before .before) .listed)
 
 same-length : tie.Need-same-length
 same-length c = search needs
@@ -32,44 +84,29 @@ same-length c = search needs
 returns : tie.Need-returns
 returns c = search needs
 
-array-share-prefix-words : tie.Need-array-share-prefix-words
-array-share-prefix-words c = read-within _ _ _ _ (c .before .before .before .before .before .read .ensures) .words-in
-
-slice-aggregate-patch : tie.Need-slice-aggregate-patch
-slice-aggregate-patch c = as-long _ _ (array-share-prefix-words (c .before))
-
-array-share-prefix-corners : tie.Need-array-share-prefix-corners
-array-share-prefix-corners c = read-within _ _ _ _ (c .before .before .before .before .before .before .read .ensures) .corners-in
-
-slice-aggregate-patch-2 : tie.Need-slice-aggregate-patch-2
-slice-aggregate-patch-2 c = as-long _ _ (array-share-prefix-corners (c .before))
-
-patch-requires : tie.Need-patch-requires
-patch-requires c κs = search needs
-
-same-length-2 : tie.Need-same-length-2
-same-length-2 c = search needs
-
-returns-2 : tie.Need-returns-2
-returns-2 c = search needs
-
 pub list-spec : {M : Type 1} → statement M
 list-spec =
     tie.close
     (tie.spec
-    slice-reshare-prefix-read
-    slice-aggregate-read
-    slice-aggregate-read-2
-    slice-aggregate-read-3
-    read-requires
-    refuses-requires
-    print-answer-requires
+    slice-reshare-prefix-list
+    slice-aggregate-list
+    slice-aggregate-list-2
+    slice-aggregate-list-3
+    slice-aggregate-list-4
+    slice-aggregate-list-5
+    slice-aggregate-list-6
+    slice-aggregate-list-7
+    list-requires
+    array-share-prefix-rings
+    slice-aggregate-print
+    array-share-prefix-lengths
+    slice-aggregate-print-2
+    array-share-prefix-states
+    slice-aggregate-print-3
+    array-share-prefix-weights
+    slice-aggregate-print-4
+    array-share-prefix-patches
+    slice-aggregate-print-5
+    print-requires
     same-length
-    returns
-    array-share-prefix-words
-    slice-aggregate-patch
-    array-share-prefix-corners
-    slice-aggregate-patch-2
-    patch-requires
-    same-length-2
-    returns-2)
+    returns)

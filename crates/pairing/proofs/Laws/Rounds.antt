@@ -10,10 +10,12 @@ use Rattle.surface.specs.declared.Found.the-variants.{At, Nothing}
 use Rattle.surface.specs.Smallest.{least}
 use Rattle.surface.specs.Edges.{twin}
 use Rattle.surface.proofs.Laws.Smallest.{At-not-Nothing, least-none}
-use Rattle.pairing.specs.Turns.{stops, Room, Turns, Paired}
-use Rattle.pairing.specs.Chains.{TurnsBelow, Going, TriangleRoom, TriangleDone}
-use Rattle.pairing.proofs.Laws.Searches.{least-keeps}
-use Rattle.pairing.proofs.Laws.Chaining.{chained-begins}
+use Rattle.twins.specs.Turns.{stops, Room, Turns}
+use Rattle.pairing.specs.Outcome.{Paired}
+use Rattle.twins.specs.Chains.{TurnsBelow, Going}
+use Rattle.pairing.specs.Triangles.{TriangleRoom, TriangleDone}
+use Rattle.twins.proofs.Laws.Searches.{least-keeps}
+use Rattle.twins.proofs.Laws.Chaining.{chained-begins}
 
 -- the triangle whose first half-edge is i is next, if there is one
 pub record Round (size : ℕ) (corners : List ℕ) (i : ℕ) (heads links ends table : List ℕ) : Type 0 where

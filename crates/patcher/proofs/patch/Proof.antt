@@ -1,8 +1,8 @@
 -- `patch` refuses by the counts, or hands on what they let pass.
 use mathlib.Core.Path.{sym, _∙_}
 use borrow.Author.Needs.{needs}
-use Rattle.patcher.proofs.Laws.Patching.{counts-refuse, counts-done}
-use Rattle.patcher.specs.Outcome.{buffers}
+use Rattle.patching.proofs.Laws.Patching.{counts-refuse, counts-done}
+use Rattle.patching.specs.Outcome.{buffers}
 use Rattle.patcher.proofs.patch.Statement.{statement}
 use Rattle.patcher.proofs.patch.Tie as tie
 

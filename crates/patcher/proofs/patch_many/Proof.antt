@@ -2,8 +2,8 @@
 use lib.Dec.{lit≤}
 use mathlib.Core.Path.{refl, sym}
 use borrow.Author.Needs.{needs}
-use Rattle.patcher.proofs.Laws.Patching.{scratch-most}
-use Rattle.patcher.specs.Outcome.{buffers}
+use Rattle.patching.proofs.Laws.Patching.{scratch-most}
+use Rattle.patching.specs.Outcome.{buffers}
 use Rattle.patcher.proofs.patch_many.Statement.{statement}
 use Rattle.patcher.proofs.patch_many.Tie as tie
 

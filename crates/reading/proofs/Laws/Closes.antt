@@ -14,12 +14,13 @@ use Rattle.covers.specs.Reading.{In, Parted}
 use Rattle.covers.proofs.Laws.Listed.{in-cases}
 use Rattle.covers.proofs.Laws.Closed.{covered-parts}
 use Rattle.masks.specs.Masks.{bit}
-use Rattle.reading.specs.declared.Key.the-variants.{Of, Not}
-use Rattle.reading.specs.Keys.{Ringed, Threes, Found, Held, Closes, tripleAt}
+use Rattle.keys.specs.declared.Key.the-variants.{Of, Not}
+use Rattle.keys.specs.Keys.{Ringed, Threes, Found, tripleAt}
+use Rattle.reading.specs.Rows.{Held, Closes}
 use Rattle.reading.proofs.Laws.Tests.{and-both}
-use Rattle.reading.proofs.Laws.Places.{different}
-use Rattle.reading.proofs.Laws.Passed.{Passed, passed-none, passed-room, passed-all, passed-in, passed-more}
-use Rattle.reading.proofs.Laws.Collects.{keyless}
+use Rattle.keys.proofs.Laws.Places.{different}
+use Rattle.keys.proofs.Laws.Passed.{Passed, passed-none, passed-room, passed-all, passed-in, passed-more}
+use Rattle.keys.proofs.Laws.Keyed.{keyless}
 
 -- the triangles before q have both their parts
 pub record Closing (corners marks : List ℕ) (base : ℕ) (rows : List ℕ) (q : ℕ) : Type 0 where

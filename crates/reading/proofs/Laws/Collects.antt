@@ -1,4 +1,4 @@
--- Collecting the stretches of a set, triangle by triangle; a triangle without a key stands in no cover.
+-- Collecting the stretches of a set, triangle by triangle.
 use Prim.Native.Nat.{ℕ, _+_, _<_, _≤_}
 use mathlib.Core.Path.{_≡_, sym, _∙_, subst}
 use mathlib.Core.Bool.{true, false, _||_}
@@ -6,25 +6,15 @@ use mathlib.Core.List.{List, [], _∷_, _++_}
 use lib.Dec.{eqb}
 use lib.ListN.{length, getD, set, length-set}
 use Rattle.limits.specs.Limits as limits
-use Rattle.covers.specs.Covers.{Cover, Triangle, vertexOf}
-use Rattle.covers.specs.Sets.{triples}
-use Rattle.covers.proofs.Laws.Closed.{covered-key, cover-keyed}
+use Rattle.covers.specs.Covers.{Triangle, vertexOf}
 use Rattle.masks.specs.Masks.{bit}
-use Rattle.reading.specs.declared.Key.the-variants.{Of, Not}
-use Rattle.reading.specs.Reading.{Covering}
-use Rattle.reading.specs.Keys.{Ringed, Threes, Found, Held, Collects, tripleAt}
-use Rattle.reading.proofs.Laws.Places.{different}
+use Rattle.keys.specs.declared.Key.the-variants.{Of, Not}
+use Rattle.keys.specs.Keys.{Ringed, Threes, Found, tripleAt}
+use Rattle.reading.specs.Rows.{Held, Collects}
+use Rattle.keys.proofs.Laws.Places.{different}
+use Rattle.keys.proofs.Laws.Keyed.{keyless}
 use Rattle.reading.proofs.Laws.Rows.{held-more}
-use Rattle.reading.proofs.Laws.Passed.{Passed, passed-none, passed-room, passed-all, passed-in, passed-more}
-
--- a triangle of the set that has no key
-pub keyless : (corners marks : List ℕ) (base q : ℕ) (front : List Triangle) → Passed corners q front → q < length corners
-    → Found corners q marks base Not → (ring : List ℕ) → Ringed ring base marks → (c : Cover) → Covering ring (triples corners) c → ⊥
-keyless corners marks base q front p l f ring h c v =
-    let t = tripleAt corners q in
-    let d = different ring base marks h in
-    let x = covered-key (length ring) (vertexOf ring) d (triples corners) c v t (passed-in corners q front p l) in
-    f .key ring h (x .0) (cover-keyed (length ring) c (v .0) (x .0) (x .1)) (x .2)
+use Rattle.keys.proofs.Laws.Passed.{Passed, passed-none, passed-room, passed-all, passed-more}
 
 -- the stretches of the triangles before q were added to the rows
 pub record Collecting (corners marks : List ℕ) (base : ℕ) (rows₀ : List ℕ) (q : ℕ) (rows : List ℕ) : Type 0 where

@@ -18,7 +18,7 @@ use Rattle.surface.proofs.Laws.Tests.{not-so, both-true}
 use Rattle.bars.proofs.Laws.Tests.{either-true, or-left, or-right}
 use Rattle.masks.specs.Masks.{bit}
 use Rattle.masks.proofs.Laws.Masks.{or-bit, and-bit, bit-zero, zero-bits}
-use Rattle.reading.specs.Keys.{Clashes}
+use Rattle.reading.specs.Rows.{Clashes}
 use Rattle.reading.proofs.Laws.Tests.{and-both}
 
 pub meet-is : (both row bar : ℕ) → Fits w64 both → Fits w64 row → Fits w64 bar

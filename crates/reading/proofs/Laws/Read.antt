@@ -17,10 +17,12 @@ use Rattle.covers.proofs.Laws.Closed.{Different, covered-once, covered-whole, u
 use Rattle.masks.specs.Masks.{bit, Rows}
 use Rattle.reading.specs.declared.Reading.{Reading}
 use Rattle.reading.specs.declared.Reading.the-variants.{NoCover, Barred, Allowed}
-use Rattle.reading.specs.Reading.{Covering, Reads}
-use Rattle.reading.specs.Keys.{Readable, SidesFree, Threes, Held, Collects, Closes, Clashes}
-use Rattle.reading.proofs.Laws.Places.{different}
-use Rattle.reading.proofs.Laws.Passed.{triples-length}
+use Rattle.keys.specs.Covering.{Covering}
+use Rattle.reading.specs.Reading.{Reads}
+use Rattle.keys.specs.Keys.{Threes}
+use Rattle.reading.specs.Rows.{Readable, SidesFree, Held, Collects, Closes, Clashes}
+use Rattle.keys.proofs.Laws.Places.{different}
+use Rattle.keys.proofs.Laws.Passed.{triples-length}
 
 -- ---- one reading
 

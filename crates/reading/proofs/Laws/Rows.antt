@@ -20,7 +20,7 @@ use Rattle.covers.proofs.Laws.Closed.{Different, one-key}
 use Rattle.bars.proofs.Laws.Tests.{either-true, or-left, or-right}
 use Rattle.masks.specs.Masks.{bit}
 use Rattle.masks.proofs.Laws.Masks.{bit-zero}
-use Rattle.reading.specs.Keys.{Held}
+use Rattle.reading.specs.Rows.{Held}
 
 -- ---- sides
 

@@ -9,7 +9,7 @@ use mir.Syntax.{w32, w64}
 use Rattle.terms.specs.Answers.{numberOf, placeOf}
 use Rattle.terms.specs.declared.Answer.{Answer}
 use Rattle.surface.specs.Buffers.{over, laid}
-use Rattle.digits.proofs.Laws.Leads.{size-below}
+use Rattle.digits.proofs.Laws.Sizes.{size-below}
 use Rattle.sheet.proofs.Laws.Going.{over-laid}
 use Rattle.report.specs.Lines.{line, answer=, loops=, answerLine}
 use Rattle.report.proofs.Laws.Digits.{size-word}

@@ -14,8 +14,8 @@ use Rattle.surface.specs.Buffers.{laid}
 use Rattle.surface.proofs.Laws.Laid.{laid-none}
 use Rattle.digits.specs.Numeral.{byteOf, size, sizeIn, places, decimal}
 use Rattle.digits.proofs.Laws.Digit.{lt-or-ge, byte-ten, size-one}
-use Rattle.digits.proofs.Laws.Leads.{size-below}
-use Rattle.digits.proofs.Laws.Parts.{part-div, part-mod}
+use Rattle.digits.proofs.Laws.Sizes.{size-below}
+use Rattle.figures.proofs.Laws.Parts.{part-div, part-mod}
 use Rattle.digits.proofs.Laws.Exactly.{length-places}
 use Rattle.digits.proofs.Laws.Lay.{lay-byte}
 

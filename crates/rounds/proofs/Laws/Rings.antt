@@ -26,7 +26,7 @@ use Rattle.loops.specs.Loops.{loops, ring}
 use Rattle.loops.proofs.Laws.Distinct.{Distinct}
 use Rattle.loops.proofs.Laws.Linked.{Linked, Closed}
 use Rattle.loops.proofs.Theorems.{three-or-more, no-vertex-twice, loop-closes, one-loop, vertices-in-all, vertices-few, loops-third}
-use Rattle.finder.specs.Listing.{ringsOf}
+use Rattle.cutting.specs.Listing.{ringsOf}
 use Rattle.survey.specs.Grid.{wholeOf, gridOf, OnGrid}
 use Rattle.survey.specs.Checks.{Woven}
 use Rattle.weight.specs.Weight.{Coordinate, Coordinates}

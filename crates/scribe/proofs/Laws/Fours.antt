@@ -11,7 +11,7 @@ use Rattle.surface.specs.declared.Found.the-variants.{Nothing}
 use Rattle.surface.specs.Smallest.{least}
 use Rattle.surface.specs.Refusals.{unnamed}
 use Rattle.surface.proofs.Laws.Smallest.{least-never}
-use Rattle.digits.specs.Tables.{fourOf}
+use Rattle.figures.specs.Tables.{fourOf}
 use Rattle.digits.proofs.Laws.Digit.{lt-or-ge}
 use Rattle.scribe.specs.Means.{Has, Numbered, Serves}
 

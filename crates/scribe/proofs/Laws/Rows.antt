@@ -9,7 +9,7 @@ use Rattle.surface.proofs.Laws.Laid.{laid-length}
 use Rattle.digits.specs.Numeral.{size, hex, decimal}
 use Rattle.digits.proofs.Laws.Exactly.{length-places}
 use Rattle.digits.proofs.Laws.Lay.{lay-two}
-use Rattle.digits.proofs.Laws.Spelling.{lay-pair}
+use Rattle.figures.proofs.Laws.Spelling.{lay-pair}
 use Rattle.texts.specs.Text.{feed, count}
 use Rattle.sheet.specs.Sheet.{three, comma, p=, t=, points, triangles}
 use Rattle.sheet.proofs.Laws.Sizes.{row-ended, ended-length, triangle-size}

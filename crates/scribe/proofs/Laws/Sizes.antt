@@ -14,8 +14,7 @@ use lib.Seq.{drop-cons}
 use borrow.Author.Tests.{le-leb}
 use Rattle.digits.specs.Numeral.{size}
 use Rattle.digits.proofs.Laws.Digit.{size-one}
-use Rattle.digits.proofs.Laws.Leads.{size-below}
-use Rattle.digits.proofs.Laws.Sizes.{size-two, size-three, size-four, size-five, size-most}
+use Rattle.digits.proofs.Laws.Sizes.{size-two, size-three, size-four, size-five, size-most, size-below}
 use Rattle.sheet.specs.Sheet.{text}
 use Rattle.sheet.proofs.Laws.Sizes.{digitsOf, digits-more, digits-most, text-length}
 use Rattle.scribe.specs.Means.{Counted, needed}

@@ -3,7 +3,7 @@ use Prim.Native.Nat.{ℕ, _-_, _+_, _*_}
 use native.Mathlib.Omega.{arith}
 use lib.ListN.{getD, length-replicate}
 use borrow.Author.Needs.{needs}
-use Rattle.digits.proofs.Laws.Spelling.{spell-none}
+use Rattle.figures.proofs.Laws.Spelling.{spell-none}
 use Rattle.sheet.proofs.Laws.Exactly.{point-length}
 use Rattle.sheet.specs.Sheet.{three, points}
 use Rattle.scribe.proofs.Laws.Putting.{Putting, putting-begins, putting-room, putting-more, putting-ends}

@@ -4,7 +4,7 @@ use Rattle.sheet.proofs.count_at.Statement.{statement}
 use Rattle.sheet.proofs.count_at.Tie as tie
 use Rattle.sheet.proofs.count_at.Reads as reads
 use Rattle.sheet.proofs.count_at.Lts as lts
-use Rattle.digits.proofs.decimal_at.Reads as decimal-at-reads
+use Rattle.decimals.proofs.decimal_at.Reads as decimal-at-reads
 use Rattle.digits.proofs.key_at.Reads as key-at-reads
 
 -- src/lib.rt:58:26

@@ -9,7 +9,7 @@ use Rattle.sheet.proofs.point_at.Statement.{statement}
 use Rattle.sheet.proofs.point_at.Tie as tie
 use Rattle.sheet.proofs.point_at.Reads as reads
 use Rattle.sheet.proofs.point_at.Lts as lts
-use Rattle.digits.proofs.hex_at.Reads as hex-at-reads
+use Rattle.nibbles.proofs.hex_at.Reads as hex-at-reads
 
 -- src/lib.rt:69:21
 add-if1 : tie.Need-add-if1

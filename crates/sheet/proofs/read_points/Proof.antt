@@ -1,4 +1,4 @@
-use Rattle.digits.proofs.Laws.Marks.{mark-none}
+use Rattle.nibbles.proofs.Laws.Marks.{mark-none}
 use Prim.Native.Nat.{_≤_, _-_}
 use lib.ListN.{length, drop, length-set}
 use Rattle.sheet.specs.Parse.{readPoint}
@@ -11,7 +11,7 @@ use Rattle.sheet.proofs.read_points.Statement.{statement}
 use Rattle.sheet.proofs.read_points.Tie as tie
 use Rattle.sheet.proofs.read_points.Reads as reads
 use Rattle.sheet.proofs.read_points.Lts as lts
-use Rattle.digits.proofs.mark_digits.Reads as mark-digits-reads
+use Rattle.nibbles.proofs.mark_digits.Reads as mark-digits-reads
 use Rattle.sheet.proofs.point_at.Reads as point-at-reads
 
 abbrev Inv-loop : tie.InvT-loop

@@ -11,7 +11,7 @@ use Rattle.sheet.proofs.triangle_at.Statement.{statement}
 use Rattle.sheet.proofs.triangle_at.Tie as tie
 use Rattle.sheet.proofs.triangle_at.Reads as reads
 use Rattle.sheet.proofs.triangle_at.Lts as lts
-use Rattle.digits.proofs.number_at.Reads as number-at-reads
+use Rattle.decimals.proofs.number_at.Reads as number-at-reads
 use Rattle.sheet.proofs.last_at.Reads as last-at-reads
 
 -- src/lib.rt:95:21

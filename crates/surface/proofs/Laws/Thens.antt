@@ -1,11 +1,11 @@
 -- Checks one after the other: a refusal decides, and where none is given the next check does. What is no refusal in the table is `Done`.
-use mathlib.Core.Path.{_≡_, refl, sym, _∙_}
-use mathlib.Core.Bool.{Bool, true, false, not, true≢false}
-use mathlib.Core.List.{List}
-use Prim.Native.Nat.{ℕ, _+_, _/_, _%_, _≤_, _<_}
+use mathlib.Core.Path.{_≡_, refl, sym, ap₂, _∙_}
+use mathlib.Core.Bool.{Bool, true, false, not, true≢false, _&&_}
+use mathlib.Core.List.{List, [], _∷_}
+use Prim.Native.Nat.{ℕ, zero, suc, _+_, _*_, _/_, _%_, _≤_, _<_}
 use native.Mathlib.Omega.{arith}
 use lib.ListN.{length, getD}
-use borrow.Author.Tests.{eqb-true, leb-true, ltb-true, ltb-false}
+use borrow.Author.Tests.{eq-eqb, eqb-true, le-leb, leb-true, ltb-true, ltb-false}
 use Rattle.limits.specs.Limits as limits
 use Rattle.terms.specs.Answers.{refusing}
 use Rattle.terms.specs.Counts.{threes}
@@ -97,6 +97,9 @@ done-of a p e = p e
 pub threes-say : (most n : ℕ) → threes most n ≡ true → (n % 3 ≡ 0) × (n ≤ most)
 threes-say most n e = let b = both-true _ _ e in (eqb-true (n % 3) 0 (b .0), leb-true n most (b .1))
 
+pub whole-count : (most n : ℕ) → 3 * n ≤ most → threes most (3 * n) ≡ true
+whole-count most n h = ap₂ (λ (s t : Bool). s && t) (eq-eqb ((3 * n) % 3) 0 (omega arith)) (le-leb (3 * n) most h)
+
 -- counts that pass are multiples of three, and not too many
 pub record Fitting (words corners : ℕ) : Type 0 where
   pub word-threes : words % 3 ≡ 0
@@ -136,6 +139,31 @@ buffers-enough lent needs h = go (least (short lent needs) (length needs)) refl
         let s = least-sound (short lent needs) (length needs) i e in
         let l : getD lent i 0 < getD needs i 0 = ltb-true (getD lent i 0) (getD needs i 0) (s .1) in
         absurd (omega (arith, h i (s .0)))
+
+-- so of one buffer, of two and of three
+pub one-long : (m n : ℕ) → n ≤ m → bufferRefusal (m ∷ []) (n ∷ []) ≡ Done
+one-long m n h = buffers-enough (m ∷ []) (n ∷ []) at-each
+  where
+    at-each : (i : ℕ) → i < 1 → getD (n ∷ []) i 0 ≤ getD (m ∷ []) i 0
+    at-each zero l = h
+    at-each (suc i) l = absurd (omega arith)
+
+pub two-long : (m n k l : ℕ) → k ≤ m → l ≤ n → bufferRefusal (m ∷ n ∷ []) (k ∷ l ∷ []) ≡ Done
+two-long m n k l h g = buffers-enough (m ∷ n ∷ []) (k ∷ l ∷ []) at-each
+  where
+    at-each : (i : ℕ) → i < 2 → getD (k ∷ l ∷ []) i 0 ≤ getD (m ∷ n ∷ []) i 0
+    at-each zero p = h
+    at-each (suc zero) p = g
+    at-each (suc (suc i)) p = absurd (omega arith)
+
+pub three-long : (a b c k l m : ℕ) → k ≤ a → l ≤ b → m ≤ c → bufferRefusal (a ∷ b ∷ c ∷ []) (k ∷ l ∷ m ∷ []) ≡ Done
+three-long a b c k l m f g h = buffers-enough (a ∷ b ∷ c ∷ []) (k ∷ l ∷ m ∷ []) at-each
+  where
+    at-each : (i : ℕ) → i < 3 → getD (k ∷ l ∷ m ∷ []) i 0 ≤ getD (a ∷ b ∷ c ∷ []) i 0
+    at-each zero p = f
+    at-each (suc zero) p = g
+    at-each (suc (suc zero)) p = h
+    at-each (suc (suc (suc i))) p = absurd (omega arith)
 
 -- words that pass are finite and near
 pub words-pass : (words : List ℕ) → wordRefusal words ≡ Done → (least (notFinite words) (length words) ≡ Nothing) × (least (tooFar words) (length words) ≡ Nothing)

@@ -14,7 +14,7 @@ use Rattle.terms.specs.declared.Answer.{Answer}
 use Rattle.terms.specs.declared.Answer.the-variants.{Done}
 use Rattle.surface.specs.Refusals.{thenCheck, bufferRefusal, cornerRefusal, wordRefusal, contentRefusal}
 use Rattle.surface.proofs.Laws.Thens.{then-refused, then-next, buffer-plain, corner-plain, done-of, Fitting, counts-fit, buffers-long, words-pass}
-use Rattle.pairing.specs.Turns.{Room}
+use Rattle.twins.specs.Turns.{Room}
 use Rattle.survey.specs.Checks.{Counted, Fitted, CornersChecked, Checked}
 
 module _ (words corners : List ℕ) where

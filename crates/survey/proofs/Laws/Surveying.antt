@@ -15,8 +15,9 @@ use Rattle.surface.specs.Buffers.{over}
 use Rattle.surface.specs.Refusals.{countRefusal, contentRefusal, refusal}
 use Rattle.surface.proofs.Laws.Thens.{then-refused, then-next, count-plain, content-plain, done-of, Fitting, counts-fit}
 use Rattle.loops.specs.Loops.{loops}
-use Rattle.finder.specs.Listing.{Ready, Lists}
-use Rattle.finder.specs.declared.Listed.{Listed}
+use Rattle.cutting.specs.Listing.{Lists}
+use Rattle.finder.specs.Asked.{Ready}
+use Rattle.cutting.specs.declared.Listed.{Listed}
 use Rattle.survey.specs.Grid.{gridOf, OnGrid}
 use Rattle.survey.specs.Checks.{Counted, Passed, Checked}
 use Rattle.survey.specs.Outcome.{Buffers, outcome, buffers, refused, done, needs, lent, surveyOf}

@@ -12,7 +12,8 @@ use Rattle.surface.specs.Smallest.{least}
 use Rattle.surface.specs.Edges.{twice, repeats}
 use Rattle.surface.specs.Refusals.{unnamed, cornerRefusal}
 use Rattle.surface.proofs.Laws.Smallest.{least-never}
-use Rattle.pairing.specs.Turns.{Room, Paired, stops}
+use Rattle.twins.specs.Turns.{Room, stops}
+use Rattle.pairing.specs.Outcome.{Paired}
 use Rattle.survey.specs.Checks.{CornersChecked}
 use Rattle.survey.proofs.Laws.Stops.{no-stop-single, no-stop-plain, stop-single}
 

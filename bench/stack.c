@@ -1,0 +1,135 @@
+/* How much stack each exported function takes at most: it is called on a stack that was painted before, and what is no longer painted was
+   used. The stack that an empty call takes is taken off.
+   stack COUNT SEED: on the full sheets, on rims that are closed by a fan, and on that many made surfaces, sets and texts. */
+#include <inttypes.h>
+#include <stdint.h>
+#include <stdio.h>
+#include <stdlib.h>
+#include <string.h>
+#include <ucontext.h>
+
+#include "../tests/reference/generate.h"
+#include "../tests/reference/sheets.h"
+#include "wazelpunt.h"
+
+#define PAINT 0xa5
+
+static struct generated_surface surface;
+static struct generated_set set;
+static uint8_t text[GENERATE_TEXT_ROOM], set_text[GENERATE_TEXT_ROOM], out[GENERATE_TEXT_ROOM];
+static size_t text_length, set_text_length;
+
+/* what is lent */
+static int32_t grid[GENERATE_WORD_ROOM];
+static uint32_t words[GENERATE_WORD_ROOM];
+static uint16_t rings[GENERATE_CORNER_ROOM], lengths[GENERATE_CORNER_ROOM], states[GENERATE_CORNER_ROOM], corners[GENERATE_SET_ROOM];
+static uint64_t weights[GENERATE_CORNER_ROOM];
+static uint16_t patches[3 * GENERATE_CORNER_ROOM];
+static size_t place, first, second, third;
+
+#define SURFACE surface.words, surface.word_count, surface.corners, surface.corner_count
+#define SURVEYED grid, GENERATE_WORD_ROOM, rings, GENERATE_CORNER_ROOM, lengths, GENERATE_CORNER_ROOM
+
+static void work_none(void) {}
+
+static void work_coordinate(void) {
+    int32_t whole;
+    uint32_t rest;
+    for (size_t w = 0; w < surface.word_count; w++) wazelpunt_coordinate(surface.words[w], &whole, &rest);
+}
+
+static void work_survey(void) {
+    wazelpunt_survey(SURFACE, SURVEYED, &place, &first, &second);
+}
+
+static void work_patch(void) {
+    wazelpunt_patch(SURFACE, SURVEYED, states, GENERATE_CORNER_ROOM, weights, GENERATE_CORNER_ROOM, patches, 3 * GENERATE_CORNER_ROOM, &place, &first, &second, &third);
+}
+
+static void work_judge(void) {
+    wazelpunt_judge(SURFACE, set.states, set.state_count, set.corners, set.corner_count, SURVEYED, &place, &first, &second);
+}
+
+static void work_read(void) {
+    wazelpunt_read(text, text_length, words, GENERATE_WORD_ROOM, corners, GENERATE_SET_ROOM, &place, &first, &second);
+}
+
+static void work_write(void) {
+    wazelpunt_write(SURFACE, out, sizeof out, &place, &first);
+}
+
+static void work_read_set(void) {
+    wazelpunt_read_set(set_text, set_text_length, 0, states, GENERATE_CORNER_ROOM, corners, GENERATE_SET_ROOM, &place, &first, &second);
+}
+
+static struct work {
+    const char *name;
+    void (*work)(void);
+    size_t most;
+} works[] = {
+    {"nothing", work_none, 0},     {"wazelpunt_coordinate", work_coordinate, 0}, {"wazelpunt_survey", work_survey, 0}, {"wazelpunt_patch", work_patch, 0},
+    {"wazelpunt_judge", work_judge, 0}, {"wazelpunt_read", work_read, 0},        {"wazelpunt_write", work_write, 0},   {"wazelpunt_read_set", work_read_set, 0},
+};
+
+#define WORKS (sizeof works / sizeof *works)
+
+static ucontext_t here, there;
+static uint8_t stack[1 << 20];
+
+static void measure(struct work *w) {
+    memset(stack, PAINT, sizeof stack);
+    getcontext(&there);
+    there.uc_stack.ss_sp = stack;
+    there.uc_stack.ss_size = sizeof stack;
+    there.uc_link = &here;
+    makecontext(&there, w->work, 0);
+    swapcontext(&here, &there);
+    size_t unused = 0;
+    while (unused < sizeof stack && stack[unused] == PAINT) unused++;
+    if (w->most < sizeof stack - unused) w->most = sizeof stack - unused;
+}
+
+static void measure_all(struct generator *generator) {
+    generate_set(generator, &surface, &set);
+    text_length = generate_sheet_text(&surface, text);
+    set_text_length = generate_set_text(&set, set_text);
+    for (size_t w = 0; w < WORKS; w++) measure(&works[w]);
+}
+
+/* A rim of so many edges that only a fan about one of its vertices closes best, which stands at that place of it. The patch of such a rim is
+   listed with the deepest recursion. */
+static void make_fan(size_t length, size_t apex) {
+    uint16_t rim[64];
+    memset(&surface, 0, sizeof surface);
+    for (size_t v = 0; v <= length; v++) {
+        int32_t x = (int32_t)((v + length - apex) % length), y = 1000 + (x - 32) * (x - 32);
+        if (v == apex) x = 32, y = 0;
+        if (v == length) x = 32, y = 500;
+        surface.words[3 * v] = sheet_word(x);
+        surface.words[3 * v + 1] = sheet_word(y);
+        surface.words[3 * v + 2] = sheet_word(0);
+        if (v < length) rim[v] = (uint16_t)v;
+    }
+    surface.word_count = 3 * (length + 1);
+    sheet_add_cone(&surface, rim, length, (uint16_t)length);
+    generate_lend_exactly(&surface);
+}
+
+int main(int argc, char **argv) {
+    size_t count = argc > 1 ? strtoul(argv[1], 0, 10) : 200;
+    uint64_t seed = argc > 2 ? strtoull(argv[2], 0, 10) : 1;
+    struct generator generator;
+    generate_start(&generator, seed);
+    for (size_t sheet = 0; sheet_make(&generator, sheet, &surface) != 0; sheet++) measure_all(&generator);
+    for (size_t apex = 0; apex < 64; apex++) {
+        make_fan(64, apex);
+        measure_all(&generator);
+    }
+    for (size_t made = 0; made < count; made++) {
+        if (made % 4 == 0) sheet_make_cones(&generator, &surface);
+        else generate_surface(&generator, &surface);
+        measure_all(&generator);
+    }
+    for (size_t w = 1; w < WORKS; w++) printf("%-22s %8zu bytes\n", works[w].name, works[w].most - works[0].most);
+    return 0;
+}

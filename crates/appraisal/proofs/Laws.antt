@@ -1,0 +1,2 @@
+-- The laws of the part of a set that a loop takes.
+pub mod Weighed

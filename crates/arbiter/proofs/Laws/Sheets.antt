@@ -1,0 +1,96 @@
+-- From what a sheet was taken in from to what is answered on its text.
+use mathlib.Core.Path.{_≡_, sym, ap, _∙_}
+use mathlib.Core.List.{List}
+use Prim.Native.Nat.{ℕ, _+_, _*_, _/_, _≤_}
+use native.Mathlib.Omega.{arith}
+use lib.ListN.{length, take}
+use lib.Seq.{length-take-le}
+use Rattle.limits.specs.Limits as limits
+use Rattle.terms.specs.declared.Answer.{Answer}
+use Rattle.terms.specs.declared.Answer.the-variants.{Line}
+use Rattle.surface.specs.Buffers.{over}
+use Rattle.surface.proofs.Laws.Over.{start-of, front-in}
+use Rattle.texts.specs.Text.{lines}
+use Rattle.texts.specs.Parse.{said}
+use Rattle.texts.proofs.Laws.Lines.{lines-length}
+use Rattle.sheet.specs.Sheet.{Three, flat, points, triangles}
+use Rattle.sheet.proofs.Laws.Threes.{flat-length}
+use Rattle.sheet.proofs.Laws.Texts.{parse-text, fault-only}
+use Rattle.intake.specs.declared.Scan.{Scan}
+use Rattle.intake.specs.declared.Scan.the-variants.{Whole, Wrong}
+use Rattle.intake.specs.Scanning.{Scanned}
+use Rattle.intake.proofs.Laws.Deliver.{Kept, kept, few-points, few-triangles}
+use Rattle.arbiter.specs.Taken.{Taken, HearsTaken, HearsSet}
+
+whole-wrong : {n t l : ℕ} → Whole n t ≡ Wrong l → ⊥
+whole-wrong h = let z : _≡_ {A = ℕ} 0 1 = cc in omega arith
+
+-- a text with a fault
+pub wrong-hears : (scan : Scan) (words corners patches : List ℕ) (line : ℕ) → scan ≡ Wrong line → HearsTaken scan words corners patches (Line line)
+unfolding HearsTaken Scanned
+wrong-hears scan words corners patches line e t =
+    record {
+      of-fault = λ l f. let h : scan ≡ Wrong l = rw (fault-only f) at (t .scanned) in let d : line ≡ l = cc in ap Line d;
+      of-set-fault = λ ps ts x l f. absurd (none ps ts (rw (parse-text x) at (t .scanned)));
+      of-set = λ ps ts x ss us y. absurd (none ps ts (rw (parse-text x) at (t .scanned)));
+    }
+  where
+    none : (ps ts : List Three) → Scanned (said ps ts) scan words corners (t .words-before) (t .corners-before) → ⊥
+    none ps ts h = whole-wrong (sym (h .0) ∙ e)
+
+-- threes that were laid over a buffer's start
+module _ (ts : List Three) (a before : List ℕ) (n : ℕ) (h : a ≡ over (flat ts) before) (e : n ≡ length ts) where
+  front-of : take (3 * n) a ≡ flat ts
+  front-of = ap (take (3 * n)) h ∙ start-of (flat ts) before (3 * n) (omega (arith, flat-length ts))
+
+  front-within : 3 * n ≤ length a
+  front-within = front-in (flat ts) before a (3 * n) (omega (arith, flat-length ts)) h
+
+-- a whole text of n points and m triangles
+module _ (scan : Scan) (words corners : List ℕ) (n m : ℕ) (e : scan ≡ Whole n m) where
+  module _ (t : Taken scan words corners) where
+    here : Kept (t .text) n m words corners (t .words-before) (t .corners-before)
+    here = kept (t .text) scan n m words corners (t .words-before) (t .corners-before) (t .scanned) e
+
+    pub points-few : n ≤ limits.points
+    points-few = few-points here
+
+    pub triangles-few : m ≤ limits.triangles
+    triangles-few = few-triangles here
+
+    -- the buffers hold all of them
+    pub words-within : 3 * n ≤ length words
+    words-within = front-within (here .ps) words (t .words-before) n (here .words-are) (here .points-are)
+
+    pub corners-within : 3 * m ≤ length corners
+    corners-within = front-within (here .ts) corners (t .corners-before) m (here .corners-are) (here .triangles-are)
+
+    pub words-cut : 3 * n ≡ length (take (3 * n) words)
+    words-cut = sym (length-take-le (3 * n) words words-within)
+
+    pub corners-cut : 3 * m ≡ length (take (3 * m) corners)
+    corners-cut = sym (length-take-le (3 * m) corners corners-within)
+
+    pub cut-few : (length (take (3 * n) words) ≤ limits.words) × (length (take (3 * m) corners) ≤ limits.corners)
+    cut-few = (omega (arith, words-cut, points-few), omega (arith, corners-cut, triangles-few))
+
+  -- as many lines as are counted
+  lines-counted : (ps ts : List Three) → length (flat ps) / 3 + length (flat ts) / 3 + 2 ≡ length (lines points triangles ps ts)
+  lines-counted ps ts = omega (arith, flat-length ps, flat-length ts, lines-length points triangles ps ts)
+
+  pub whole-hears : (patches : List ℕ) (a : Answer) → HearsSet (take (3 * n) words) (take (3 * m) corners) patches a → HearsTaken scan words corners patches a
+  unfolding HearsTaken Scanned
+  whole-hears patches a h t =
+      record {
+        of-fault = λ l f. absurd (whole-wrong (sym e ∙ rw (fault-only f) at (t .scanned)));
+        of-set-fault = λ ps ts x l f.
+            on ps ts (rw (parse-text x) at (t .scanned)) .of-set-fault l f ∙ ap (λ (k : ℕ). Line (k + l)) (lines-counted ps ts);
+        of-set = λ ps ts x ss us y. on ps ts (rw (parse-text x) at (t .scanned)) .of-set ss us y;
+      }
+    where
+      on : (ps ts : List Three) → Scanned (said ps ts) scan words corners (t .words-before) (t .corners-before) → HearsSet (flat ps) (flat ts) patches a
+      on ps ts s =
+          let d : Whole n m ≡ Whole (length ps) (length ts) = sym e ∙ s .0 in
+          let f : take (3 * n) words ≡ flat ps = front-of ps words (t .words-before) n (s .1) cc in
+          let g : take (3 * m) corners ≡ flat ts = front-of ts corners (t .corners-before) m (s .2) cc in
+          rw (f, g) at h

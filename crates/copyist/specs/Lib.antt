@@ -1,0 +1,2 @@
+-- What is printed for a text.
+pub mod Rewriting

@@ -1,0 +1,135 @@
+-- Demand 1: "Every input gets an answer. Each entry point checks for itself; each refusal has a number and a place, is given exactly when"
+-- the table "says, and changes nothing in lent storage."
+use mathlib.Core.Path.{_≡_}
+use mathlib.Core.Bool.{Bool, true, false, not}
+use mathlib.Core.Logic.{_⊎_}
+use mathlib.Core.List.{List, [], _∷_, _++_}
+use Prim.Native.Nat.{ℕ, _+_, _/_, _<_}
+use lib.Dec.{eqb}
+use lib.ListN.{length}
+use Rattle.limits.specs.Limits as limits
+use Rattle.terms.specs.Counts.{threes}
+use Rattle.terms.specs.Answers.{refusing}
+use Rattle.terms.specs.declared.Answer.{Answer}
+use Rattle.terms.specs.declared.Answer.the-variants.{Words, Corners, Buffer, Unnamed, Twice, Repeated, NotFinite, TooFar, States, Line}
+use Rattle.surface.specs.Edges.{twice, repeats}
+use Rattle.surface.specs.Refusals.{short, unnamed, notFinite, tooFar}
+use Rattle.loops.specs.Loops.{loops}
+use Rattle.survey.specs.Outcome as survey
+use Rattle.patching.specs.Outcome as patcher
+use Rattle.trial.specs.Outcome.{Judges}
+use Rattle.texts.specs.Text.{TextOf}
+use Rattle.texts.specs.Fault.{Fault}
+use Rattle.sheet.specs.Sheet.{Three, flat, points, triangles, text}
+use Rattle.intake.specs.Outcome as intake
+use Rattle.scribe.specs.Outcome.{writes}
+use Rattle.sets.specs.Set as set
+use Rattle.sets.specs.Outcome as sets
+
+-- ---- the table
+
+-- a check: how many places it looks at, what it looks for, and what it answers where it finds that
+pub record Check : Type 0 where
+  pub places : ℕ
+  pub finds : ℕ → Bool
+  pub gives : ℕ → Answer
+
+-- it finds nothing
+abbrev pub Clear : Check → Type 0
+Clear c = (j : ℕ) → j < c .places → c .finds j ≡ false
+
+-- it finds something, and a is its answer for the smallest place
+pub record Finds (c : Check) (a : Answer) : Type 0 where
+  pub at : ℕ
+  pub there : at < c .places
+  pub finds-it : c .finds at ≡ true
+  pub smallest : (j : ℕ) → j < at → c .finds j ≡ false
+  pub gives-it : a ≡ c .gives at
+
+-- "each over the whole input before the next, the smallest index reported": what is answered
+abbrev pub Due : List Check → Answer → Type 0
+Due [] a = ⊥
+Due (c ∷ after) a = Finds c a ⊎ (Clear c × Due after a)
+
+-- a check without a place
+abbrev pub once : Bool → Answer → Check
+once t a = record { places = 1; finds = λ i. t; gives = λ i. a }
+
+-- 1 and 2: a count "isn't a multiple of 3, or" is too high
+abbrev pub wordCount : List ℕ → Check
+wordCount words = once (not (threes limits.words (length words))) Words
+
+abbrev pub cornerCount : List ℕ → Check
+cornerCount corners = once (not (threes limits.corners (length corners))) Corners
+
+-- 3: "a lent buffer is too short", "its number, lowest first"
+abbrev pub shortBuffer : List ℕ → List ℕ → Check
+shortBuffer lent needs = record { places = length needs; finds = short lent needs; gives = λ i. Buffer (i + 1) }
+
+-- 4: "a corner of the surface names no point"
+abbrev pub unnamedCorner : List ℕ → List ℕ → Check
+unnamedCorner words corners = record { places = length corners; finds = unnamed corners (length words / 3); gives = Unnamed }
+
+-- 5: "a triangle names a point twice"
+abbrev pub pointTwice : List ℕ → Check
+pointTwice corners = record { places = length corners / 3; finds = twice corners; gives = Twice }
+
+-- 6: "a half-edge has the same two ends in the same order as an earlier one"
+abbrev pub edgeRepeated : List ℕ → Check
+edgeRepeated corners = record { places = length corners; finds = repeats corners; gives = Repeated }
+
+-- 7 and 8: "a coordinate isn't finite", "a coordinate is too far"
+abbrev pub noNumber : List ℕ → Check
+noNumber words = record { places = length words; finds = notFinite words; gives = NotFinite }
+
+abbrev pub farAway : List ℕ → Check
+farAway words = record { places = length words; finds = tooFar words; gives = TooFar }
+
+-- 9: "state count differs from loop count", and its place is the "loop count"
+abbrev pub stateCount : List ℕ → List ℕ → Check
+stateCount corners states = once (not (eqb (length (loops corners)) (length states))) (States (length (loops corners)))
+
+-- 1 to 8, for buffers of these lengths where these are needed
+abbrev pub table : List ℕ → List ℕ → List ℕ → List ℕ → List Check
+table words corners lent needs =
+    wordCount words
+    ∷ cornerCount corners
+    ∷ shortBuffer lent needs
+    ∷ unnamedCorner words corners
+    ∷ pointTwice corners
+    ∷ edgeRepeated corners
+    ∷ noNumber words
+    ∷ farAway words
+    ∷ []
+
+-- ---- what is demanded
+
+-- What is due is given, and leaves everything as it was; and nothing else is refused.
+pub record Answered {O : Type 0} (checks : List Check) (refused : Answer → O) (answer : O → Answer) (o : O) : Type 0 where
+  pub given : (a : Answer) → Due checks a → o ≡ refused a
+  pub only : refusing (answer o) ≡ true → Due checks (answer o)
+
+pub record AnswersDemand : Type 0 where
+  pub surveying : (words corners : List ℕ) (b : survey.Buffers)
+      → Answered (table words corners (survey.lent b) (survey.needs words corners)) (λ a. survey.refused a b) (λ o. o .answer) (survey.surveyOf words corners b)
+  pub patching : (words corners : List ℕ) (b : patcher.Buffers) (o : patcher.Outcome) → patcher.Patches words corners b o
+      → Answered (table words corners (patcher.lent b) (patcher.needs words corners)) (λ a. patcher.refused a b) (λ p. p .answer) o
+  pub judging : (words corners states patches : List ℕ) (b : survey.Buffers) (o : survey.Outcome) → Judges words corners states patches b o
+      → Answered (table words corners (survey.lent b) (survey.needs words corners) ++ (stateCount corners states ∷ [])) (λ a. survey.refused a b) (λ p. p .answer) o
+  -- "Reading may give, in this order, 10, 3 (words 1, corners 2) and 4"
+  pub reading-wrong : (bytes words corners : List ℕ) (o : intake.ReadOutcome) → intake.Reads bytes words corners o
+      → (line : ℕ) → Fault points triangles bytes line → o ≡ intake.notRead (Line line) words corners
+  pub reading : (bytes words corners : List ℕ) (o : intake.ReadOutcome) → intake.Reads bytes words corners o
+      → (ps ts : List Three) → TextOf points triangles bytes ps ts
+      → Answered (shortBuffer (length words ∷ length corners ∷ []) (length (flat ps) ∷ length (flat ts) ∷ []) ∷ unnamedCorner (flat ps) (flat ts) ∷ [])
+      (λ a. intake.notRead a words corners) (λ p. p .answer) o
+  -- "writing gives 1, 2, 3 (text buffer too short for this text ...; number 1) and 4"
+  pub writing : (words corners buffer : List ℕ)
+      → Answered (wordCount words ∷ cornerCount corners ∷ shortBuffer (length buffer ∷ []) (length (text words corners) ∷ []) ∷ unnamedCorner words corners ∷ [])
+      (λ a. record { answer = a; count = 0; bytes = buffer }) (λ p. p .answer) (writes words corners buffer)
+  -- a patch set's text: 10, counted on after the lines before it, and 3 (states 1, corners 2)
+  pub reading-set-wrong : (bytes : List ℕ) (before : ℕ) (states corners : List ℕ) (o : sets.SetOutcome) → sets.ReadsSet bytes before states corners o
+      → (line : ℕ) → Fault set.states set.triangles bytes line → o ≡ sets.notRead (Line (before + line)) states corners
+  pub reading-set : (bytes : List ℕ) (before : ℕ) (states corners : List ℕ) (o : sets.SetOutcome) → sets.ReadsSet bytes before states corners o
+      → (ss : List ℕ) (ts : List Three) → TextOf set.states set.triangles bytes ss ts
+      → Answered (shortBuffer (length states ∷ length corners ∷ []) (length ss ∷ length (flat ts) ∷ []) ∷ []) (λ a. sets.notRead a states corners) (λ p. p .answer) o

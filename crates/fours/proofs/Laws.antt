@@ -1,0 +1,2 @@
+-- The laws of loops of four edges.
+pub mod Fours

@@ -1,0 +1,102 @@
+-- What is printed of a text, by what was left of it in buffers that are long enough for every surface.
+use mathlib.Core.Path.{_≡_, refl, sym, ap, subst, _∙_}
+use mathlib.Core.Bool.{Bool, true, false, true≢false}
+use mathlib.Core.List.{List, []}
+use Prim.Native.Nat.{ℕ, zero, suc, _<_, _≤_}
+use native.Mathlib.Omega.{arith}
+use lib.ListN.{length, getD}
+use Rattle.limits.specs.Limits as limits
+use Rattle.terms.specs.Answers.{refusing}
+use Rattle.terms.specs.declared.Answer.{Answer}
+use Rattle.terms.specs.declared.Answer.the-variants.{Done, Line}
+use Rattle.surface.specs.Refusals.{bufferRefusal, contentRefusal, refusal}
+use Rattle.surface.proofs.Laws.Thens.{buffers-enough}
+use Rattle.survey.specs.Grid.{gridOf}
+use Rattle.run.specs.Fates.{Fate}
+use Rattle.run.specs.Run.{Run, ringList}
+use Rattle.patching.specs.Outcome.{Buffers, Outcome, lent, needs, PatchesIf, Patches}
+use Rattle.texts.specs.Text.{TextOf}
+use Rattle.texts.specs.Fault.{Fault}
+use Rattle.sheet.specs.Sheet.{Three, flat, points, triangles}
+use Rattle.sheet.proofs.Laws.Threes.{flat-length}
+use Rattle.sheet.proofs.Laws.Texts.{parse-text, fault-only, text-once}
+use Rattle.report.specs.Lines.{answerLine}
+use Rattle.report.specs.Listing.{listing}
+use Rattle.lister.specs.Lists.{PrintsIf, Prints}
+use Rattle.lister.specs.Printed.{Full, Printed}
+use Rattle.lister.proofs.Laws.Taken.{never}
+use Rattle.lister.proofs.Laws.Left.{run-listed, run-loops}
+
+-- a buffer that is long enough is not refused, so lending it is as lending none
+enough-same : (words corners lent needs : List ℕ) → ((i : ℕ) → i < length needs → getD needs i 0 ≤ getD lent i 0) → refusal words corners lent needs ≡ refusal words corners [] []
+unfolding refusal contentRefusal
+enough-same words corners lent needs h =
+    let a : bufferRefusal lent needs ≡ Done = buffers-enough lent needs h in
+    let b : bufferRefusal [] [] ≡ Done = buffers-enough [] [] (λ i l. absurd (omega (arith, l))) in
+    rw (a, b)
+
+module _ {bytes : List ℕ} {ps ts : List Three} (t : TextOf points triangles bytes ps ts) (b : Buffers) (full : Full b) where
+  abbrev answers : Answer
+  answers = refusal (flat ps) (flat ts) (lent b) (needs (flat ps) (flat ts))
+
+  none-lent : answers ≡ refusal (flat ps) (flat ts) [] []
+  none-lent = enough-same (flat ps) (flat ts) (lent b) (needs (flat ps) (flat ts)) at-each
+    where
+      few-words : length (flat ps) ≤ limits.words
+      few-words = omega (arith, flat-length ps, t .says .first-few)
+
+      few-corners : length (flat ts) ≤ limits.corners
+      few-corners = omega (arith, flat-length ts, t .says .second-few)
+
+      at-each : (i : ℕ) → i < 6 → getD (needs (flat ps) (flat ts)) i 0 ≤ getD (lent b) i 0
+      at-each zero l = omega (arith, few-words, full .grid-full)
+      at-each (suc zero) l = omega (arith, few-corners, full .rings-full)
+      at-each (suc (suc zero)) l = omega (arith, few-corners, full .lengths-full)
+      at-each (suc (suc (suc zero))) l = omega (arith, few-corners, full .states-full)
+      at-each (suc (suc (suc (suc zero)))) l = omega (arith, few-corners, full .weights-full)
+      at-each (suc (suc (suc (suc (suc zero))))) l = omega (arith, few-corners, full .patches-full)
+      at-each (suc (suc (suc (suc (suc (suc i)))))) l = absurd (omega (arith, l))
+
+  -- what is printed of what it says
+  text-prints : (out : List ℕ) → PrintsIf (refusing answers) answers (flat ps) (flat ts) out → Prints bytes out
+  text-prints out h =
+      record {
+        of-fault = λ line f. never (sym (parse-text t) ∙ fault-only f);
+        of-text = λ us vs s. other us vs (text-once t s);
+      }
+    where
+      other : (us vs : List Three) → (ps ≡ us) × (ts ≡ vs) → PrintsIf (refusing (refusal (flat us) (flat vs) [] [])) (refusal (flat us) (flat vs) [] []) (flat us) (flat vs) out
+      other us vs e =
+          subst (λ (us : List Three). PrintsIf (refusing (refusal (flat us) (flat vs) [] [])) (refusal (flat us) (flat vs) [] []) (flat us) (flat vs) out) (e .0)
+          (subst (λ (vs : List Three). PrintsIf (refusing (refusal (flat ps) (flat vs) [] [])) (refusal (flat ps) (flat vs) [] []) (flat ps) (flat vs) out) (e .1)
+          (subst (λ (a : Answer). PrintsIf (refusing a) a (flat ps) (flat ts) out) none-lent h))
+
+  module _ (o : Outcome) (h : Patches (flat ps) (flat ts) b o) where
+    pub text-refused : refusing (o .answer) ≡ true → Printed true bytes o
+    text-refused r = text-prints (answerLine (o .answer)) (go (refusing answers) refl h)
+      where
+        go : (x : Bool) → refusing answers ≡ x → PatchesIf x answers (flat ps) (flat ts) b o → PrintsIf x answers (flat ps) (flat ts) (answerLine (o .answer))
+        go true e p = ap answerLine (ap (λ (q : Outcome). q .answer) p)
+        go false e (fates, run, p) = absurd (true≢false (sym r ∙ ap (λ (q : Outcome). refusing (q .answer)) p))
+
+    told : (fates : List Fate) (e : refusing answers ≡ false) (run : Run (gridOf (flat ps)) (flat ts) [] (ringList (flat ts)) fates)
+        → PrintsIf (refusing answers) answers (flat ps) (flat ts) (listing (run-listed (flat ps) (flat ts) b fates e run .listed .loops))
+    told fates e run =
+        subst (λ (x : Bool). PrintsIf x answers (flat ps) (flat ts) (listing (run-listed (flat ps) (flat ts) b fates e run .listed .loops))) (sym e)
+        (fates, run, ap listing (run-loops (flat ps) (flat ts) b fates e run))
+
+    pub text-done : refusing (o .answer) ≡ false → Printed false bytes o
+    text-done r = go (refusing answers) refl h
+      where
+        go : (x : Bool) → refusing answers ≡ x → PatchesIf x answers (flat ps) (flat ts) b o → Printed false bytes o
+        go true e p = absurd (true≢false (sym e ∙ ap (λ (q : Outcome). refusing (q .answer)) (sym p) ∙ r))
+        go false e (fates, run, p) =
+            subst (Printed false bytes) (sym p)
+            (run-listed (flat ps) (flat ts) b fates e run .listed, text-prints (listing (run-listed (flat ps) (flat ts) b fates e run .listed .loops)) (told fates e run))
+
+pub fault-prints : {bytes : List ℕ} {line : ℕ} → Fault points triangles bytes line → Prints bytes (answerLine (Line line))
+fault-prints {line = line} f =
+    record {
+      of-fault = λ l g. (let z = sym (fault-only f) ∙ fault-only g in let w : line ≡ l = cc in ap (λ (x : ℕ). answerLine (Line x)) w);
+      of-text = λ ps ts t. never (sym (parse-text t) ∙ fault-only f);
+    }

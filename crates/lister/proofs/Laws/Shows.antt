@@ -1,0 +1,73 @@
+-- The loops that a run leaves, as they are told: what they have, one after the other, and that their lines are not too wide.
+use mathlib.Core.Path.{_≡_, refl, ap}
+use mathlib.Core.List.{List, [], _∷_, _++_, map, flatten}
+use Prim.Native.Nat.{ℕ, zero, suc, _+_, _<_, _≤_}
+use native.Mathlib.Nat.{not-suc-le-zero}
+use native.Mathlib.Omega.{arith}
+use lib.IntN.{ℤ}
+use lib.ListN.{length, getD, length-append}
+use Rattle.limits.specs.Limits as limits
+use Rattle.covers.proofs.Laws.Corners.{patch-length}
+use Rattle.run.specs.Fates.{Fate, patched, long, uncovered, stateOf, weighs, lays, Meets}
+use Rattle.run.specs.Run.{Run, statesOf, weightsOf, laidBy}
+use Rattle.report.specs.Listing.{Shown}
+use Rattle.report.specs.Telling.{Fits, shown, nothing}
+use Rattle.lister.specs.Lists.{loopsOf}
+
+abbrev pub showOf : List ℤ → List ℕ → Fate → Shown
+showOf grid ring f = shown ring (stateOf f) (weighs grid ring f) (lays ring f)
+
+-- ---- what they have
+
+module _ (grid : List ℤ) where
+  pub loops-many : (rings : List (List ℕ)) (fates : List Fate) → length fates ≡ length rings → length (loopsOf grid rings fates) ≡ length rings
+  loops-many [] fates e = refl
+  loops-many (r ∷ rings) [] e = absurd (omega arith)
+  loops-many (r ∷ rings) (f ∷ fates) e = ap suc (loops-many rings fates (omega arith))
+
+  pub rings-shown : (rings : List (List ℕ)) (fates : List Fate) → length fates ≡ length rings → map (λ (s : Shown). s .ring) (loopsOf grid rings fates) ≡ rings
+  rings-shown [] fates e = refl
+  rings-shown (r ∷ rings) [] e = absurd (omega arith)
+  rings-shown (r ∷ rings) (f ∷ fates) e = ap (λ (l : List (List ℕ)). r ∷ l) (rings-shown rings fates (omega arith))
+
+  pub lengths-shown : (rings : List (List ℕ)) (fates : List Fate) → length fates ≡ length rings → map (λ (s : Shown). length (s .ring)) (loopsOf grid rings fates) ≡ map length rings
+  lengths-shown [] fates e = refl
+  lengths-shown (r ∷ rings) [] e = absurd (omega arith)
+  lengths-shown (r ∷ rings) (f ∷ fates) e = ap (λ (l : List ℕ). length r ∷ l) (lengths-shown rings fates (omega arith))
+
+  pub states-shown : (rings : List (List ℕ)) (fates : List Fate) → length fates ≡ length rings → map (λ (s : Shown). s .state) (loopsOf grid rings fates) ≡ statesOf fates
+  states-shown [] [] e = refl
+  states-shown [] (f ∷ fates) e = absurd (omega arith)
+  states-shown (r ∷ rings) [] e = absurd (omega arith)
+  states-shown (r ∷ rings) (f ∷ fates) e = ap (λ (l : List ℕ). stateOf f ∷ l) (states-shown rings fates (omega arith))
+
+  pub weights-shown : (rings : List (List ℕ)) (fates : List Fate) → map (λ (s : Shown). s .weight) (loopsOf grid rings fates) ≡ weightsOf grid rings fates
+  weights-shown [] fates = refl
+  weights-shown (r ∷ rings) [] = refl
+  weights-shown (r ∷ rings) (f ∷ fates) = ap (λ (l : List ℕ). weighs grid r f ∷ l) (weights-shown rings fates)
+
+  pub patches-shown : (rings : List (List ℕ)) (fates : List Fate) → flatten (map (λ (s : Shown). s .patch) (loopsOf grid rings fates)) ≡ laidBy rings fates
+  unfolding flatten
+  patches-shown [] fates = refl
+  patches-shown (r ∷ rings) [] = refl
+  patches-shown (r ∷ rings) (f ∷ fates) = ap (λ (l : List ℕ). lays r f ++ l) (patches-shown rings fates)
+
+  -- ---- how wide they are
+
+  module _ (input : List ℕ) where
+    fits-one : (laid ring : List ℕ) (f : Fate) → 3 ≤ length ring → length ring ≤ limits.corners → Meets grid input laid ring f → Fits (showOf grid ring f)
+    fits-one laid ring (patched c) t few m = record { three = t; few = few; patched = λ e. m .0; share = patch-length ring c (m .1 .among .covers) }
+    fits-one laid ring long t few m = record { three = t; few = few; patched = λ e. absurd (omega arith); share = refl }
+    fits-one laid ring uncovered t few m = record { three = t; few = few; patched = λ e. absurd (omega arith); share = refl }
+
+    pub loops-fit : (laid : List ℕ) (rings : List (List ℕ)) (fates : List Fate) → Run grid input laid rings fates → ((l : ℕ) → l < length rings → 3 ≤ length (getD rings l [])) → length (flatten rings) ≤ limits.corners
+        → (l : ℕ) → l < length (loopsOf grid rings fates) → Fits (getD (loopsOf grid rings fates) l nothing)
+    unfolding flatten
+    loops-fit laid [] fates run threes few l k = absurd (not-suc-le-zero k)
+    loops-fit laid (r ∷ rings) [] run threes few l k = absurd (not-suc-le-zero k)
+    loops-fit laid (r ∷ rings) (f ∷ fates) run threes few zero k =
+        let e : length (r ++ flatten rings) ≡ length r + length (flatten rings) = length-append r (flatten rings) in
+        fits-one laid r f (threes zero (omega arith)) (omega arith) (run .0)
+    loops-fit laid (r ∷ rings) (f ∷ fates) run threes few (suc l) k =
+        let e : length (r ++ flatten rings) ≡ length r + length (flatten rings) = length-append r (flatten rings) in
+        loops-fit (laid ++ lays r f) rings fates (run .1) (λ i h. threes (suc i) (omega arith)) (omega arith) l (omega arith)

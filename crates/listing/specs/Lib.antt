@@ -1,2 +1,0 @@
--- What the buffers hold that are listed.
-pub mod Listed

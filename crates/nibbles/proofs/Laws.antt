@@ -1,0 +1,2 @@
+-- The laws of words read.
+pub mod Marks

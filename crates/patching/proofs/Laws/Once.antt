@@ -1,0 +1,23 @@
+-- The patcher's promise has one outcome: a refusal is determined by the table, and the run by the covers.
+use mathlib.Core.Path.{_≡_, sym, ap, _∙_}
+use mathlib.Core.Bool.{Bool, true, false}
+use mathlib.Core.List.{List, []}
+use Prim.Native.Nat.{ℕ}
+use Rattle.terms.specs.Answers.{refusing}
+use Rattle.terms.specs.declared.Answer.{Answer}
+use Rattle.surface.specs.Refusals.{refusal}
+use Rattle.survey.specs.Grid.{gridOf}
+use Rattle.run.specs.Fates.{Fate}
+use Rattle.run.specs.Run.{ringList}
+use Rattle.run.proofs.Laws.Once.{run-once}
+use Rattle.patching.specs.Outcome.{Buffers, Outcome, done, lent, needs, PatchesIf, Patches}
+
+pub patches-once : (words corners : List ℕ) (b : Buffers) (o p : Outcome) → Patches words corners b o → Patches words corners b p → o ≡ p
+patches-once words corners b o p = go (refusing a) a
+  where
+    a : Answer
+    a = refusal words corners (lent b) (needs words corners)
+
+    go : (t : Bool) (a : Answer) → PatchesIf t a words corners b o → PatchesIf t a words corners b p → o ≡ p
+    go true a x y = x ∙ sym y
+    go false a x y = x .2 ∙ ap (λ (fs : List Fate). done words corners fs b) (run-once (gridOf words) corners [] (ringList corners) (x .0) (y .0) (x .1) (y .1)) ∙ sym (y .2)

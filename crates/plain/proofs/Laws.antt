@@ -1,0 +1,2 @@
+-- The laws of loops that need neither bars nor the table.
+pub mod Threes

@@ -1,0 +1,37 @@
+// What becomes of a loop that needs neither bars nor the table: a triangle, and one that lays nothing.
+ghost use mathlib.Core.Path.{_≡_};
+ghost use Rattle.plain.specs.Threes.{ThreeRoom, ThreeTook};
+
+// What became of the loop: its state and weight, how many corners are laid and how many edges chained after it.
+pub struct Became {
+    pub state: u16,
+    pub weight: u64,
+    pub corners: usize,
+    pub edges: usize,
+}
+
+// The loop of three has one cover and no diagonal: it needs neither bars nor the table, and its edges are the input's.
+pub fn turn_three(grid: &[i32], ring: &[u16], patches: &mut [u16], p: usize, e: usize) -> Became
+    requires { ⌜ ThreeRoom (now grid) (now ring) (now patches) p ⌝ }
+    ensures { λ r. ⌜ ThreeTook (now (grid .entry)) (now (ring .entry)) (now (patches .entry)) p e r (now (patches .exit)) ⌝ }
+{
+    let weight = laying::lay_three(grid, ring, patches, p);
+    Became {
+        state: 1,
+        weight,
+        corners: p + 3,
+        edges: e,
+    }
+}
+
+// The loop that lays nothing, with its state: it weighs nothing.
+pub fn unpatched(state: u16, p: usize, e: usize) -> Became
+    ensures { λ r. ⌜ (r .state ≡ state) × (r .weight ≡ 0) × (r .corners ≡ p) × (r .edges ≡ e) ⌝ }
+{
+    Became {
+        state,
+        weight: 0,
+        corners: p,
+        edges: e,
+    }
+}

@@ -1,0 +1,3 @@
+-- The starred examples of the bench, proved.
+pub mod Small
+pub mod Rows

@@ -1,0 +1,142 @@
+-- The starred examples of the bench, and the one of two equal weights, a row each, in the scope's order.
+use mathlib.Core.Path.{_≡_}
+use mathlib.Core.Bool.{true}
+use mathlib.Core.List.{List, [], _∷_, map}
+use Prim.Native.Nat.{ℕ, _-_}
+use lib.IntN.{ℤ, pos, negsuc}
+use lib.Ieee.{binary32, ofBits}
+use lib.ListN.{length}
+use Rattle.terms.specs.declared.Answer.{Answer}
+use Rattle.terms.specs.declared.Answer.the-variants.{Done, Repeated, Barred, Heavy}
+use Rattle.grid.specs.Places.{Places}
+use Rattle.grid.specs.declared.Coordinate.the-variants.{Shifted, TooFar}
+use Rattle.surface.specs.Refusals.{cornerRefusal}
+use Rattle.loops.specs.Loops.{cycle, ring}
+use Rattle.covers.specs.Covers.{Cover, empty, apex, Patch}
+use Rattle.weight.specs.Edition.{naturals, triOf, along}
+use Rattle.bars.specs.Bars.{barred}
+use Rattle.run.specs.Fates.{Fate}
+use Rattle.run.specs.Run.{Run, ringList, statesOf, weightsOf, laidBy}
+use Rattle.verdicts.specs.Faults.{AllowedHere, NoneHere, weightHere}
+use Rattle.verdicts.specs.Verdicts.{Verdict}
+
+-- (0,1,2),(0,1,3)
+abbrev pub repeating : List ℕ
+repeating = 0 ∷ 1 ∷ 2 ∷ 0 ∷ 1 ∷ 3 ∷ []
+
+-- (0,1,2),(0,3,4)
+abbrev pub bowTie : List ℕ
+bowTie = 0 ∷ 1 ∷ 2 ∷ 0 ∷ 3 ∷ 4 ∷ []
+
+-- (0,1,2),(2,1,3),(2,3,4),(4,3,0)
+abbrev pub pinchedStrip : List ℕ
+pinchedStrip = 0 ∷ 1 ∷ 2 ∷ 2 ∷ 1 ∷ 3 ∷ 2 ∷ 3 ∷ 4 ∷ 4 ∷ 3 ∷ 0 ∷ []
+
+-- (0,1,2),(0,2,3)
+abbrev pub folded : List ℕ
+folded = 0 ∷ 1 ∷ 2 ∷ 0 ∷ 2 ∷ 3 ∷ []
+
+-- (0,1,4),(1,2,4),(2,3,4),(3,0,4)
+abbrev pub cone : List ℕ
+cone = 0 ∷ 1 ∷ 4 ∷ 1 ∷ 2 ∷ 4 ∷ 2 ∷ 3 ∷ 4 ∷ 3 ∷ 0 ∷ 4 ∷ []
+
+-- (0,1,2),(0,2,3),(1,3,4)
+abbrev pub crossed : List ℕ
+crossed = 0 ∷ 1 ∷ 2 ∷ 0 ∷ 2 ∷ 3 ∷ 1 ∷ 3 ∷ 4 ∷ []
+
+-- (0,0,0),(10,0,0),(10,10,0),(0,10,4)
+abbrev pub lifted : List ℤ
+lifted = map pos (0 ∷ 0 ∷ 0 ∷ 10 ∷ 0 ∷ 0 ∷ 10 ∷ 10 ∷ 0 ∷ 0 ∷ 10 ∷ 4 ∷ [])
+
+-- the same, and (4,4,9)
+abbrev pub liftedTop : List ℤ
+liftedTop = map pos (0 ∷ 0 ∷ 0 ∷ 10 ∷ 0 ∷ 0 ∷ 10 ∷ 10 ∷ 0 ∷ 0 ∷ 10 ∷ 4 ∷ 4 ∷ 4 ∷ 9 ∷ [])
+
+-- (0,0,0),(10,0,0),(3,3,0),(0,10,0),(4,4,9)
+abbrev pub dentedTop : List ℤ
+dentedTop = map pos (0 ∷ 0 ∷ 0 ∷ 10 ∷ 0 ∷ 0 ∷ 3 ∷ 3 ∷ 0 ∷ 0 ∷ 10 ∷ 0 ∷ 4 ∷ 4 ∷ 9 ∷ [])
+
+-- a loop of four and one of three, by their rings
+abbrev pub rim : List ℕ
+rim = 0 ∷ 1 ∷ 2 ∷ 3 ∷ []
+
+abbrev pub side : List ℕ
+side = 1 ∷ 3 ∷ 4 ∷ []
+
+-- the two covers of a loop of four, and the one of a loop of three
+abbrev pub overOne : Cover
+overOne = apex 1 empty (apex 2 empty empty)
+
+abbrev pub overTwo : Cover
+overTwo = apex 2 (apex 1 empty empty) empty
+
+abbrev pub alone : Cover
+alone = apex 1 empty empty
+
+-- where no patch is laid yet: the cover has no barred diagonal, the loop has no such cover, and the cover is the one to take
+abbrev pub Free : List ℕ → List ℕ → Cover → Type 0
+Free corners = AllowedHere corners []
+
+abbrev pub Open : List ℕ → List ℕ → Type 0
+Open corners = NoneHere corners []
+
+abbrev pub Taken : List ℕ → List ℤ → List ℕ → Cover → Type 0
+Taken corners grid ring = Patch naturals (triOf (along grid ring)) (barred corners [] ring) 0 (length ring - 1)
+
+-- the run over the surface gives its loops these states and weights and lays these corners
+pub record Leaves (grid : List ℤ) (corners states weights laid : List ℕ) : Type 0 where
+  pub fates : List Fate
+  pub run : Run grid corners [] (ringList corners) fates
+  pub its-states : statesOf fates ≡ states
+  pub its-weights : weightsOf grid (ringList corners) fates ≡ weights
+  pub its-laid : laidBy (ringList corners) fates ≡ laid
+
+-- the set of these states and corners gets this verdict
+abbrev pub Gets : List ℤ → List ℕ → List ℕ → List ℕ → Answer → Type 0
+Gets grid corners states set = Verdict grid corners [] 0 0 (ringList corners) states set
+
+pub record Table : Type 0 where
+  -- 0.5 gives 0 rest 0.5
+  pub half : Places 1 (ofBits binary32 0x3f000000) (Shifted (pos 0) (ofBits binary32 0x3f000000))
+  -- 1.5 gives 2 rest -0.5
+  pub half-up : Places 1 (ofBits binary32 0x3fc00000) (Shifted (pos 2) (ofBits binary32 0xbf000000))
+  -- -1.5 gives -2 rest 0.5
+  pub half-down : Places 1 (ofBits binary32 0xbfc00000) (Shifted (negsuc 1) (ofBits binary32 0x3f000000))
+  -- 32767.498046875 gives 32,767, and its rest is 0.498046875
+  pub last : Places 1 (ofBits binary32 0x46fffeff) (Shifted (pos 32767) (ofBits binary32 0x3eff0000))
+  -- 32767.5 is too far
+  pub past : Places 1 (ofBits binary32 0x46ffff00) (TooFar (ofBits binary32 0x46ffff00))
+  -- no triangles: no loops
+  pub no-triangles : ringList [] ≡ []
+  -- (0,1,2),(0,1,3): refusal 6 at 3
+  pub repeated : cornerRefusal repeating 4 ≡ Repeated 3
+  -- (0,1,2),(0,3,4): rings 0,1,2 and 0,3,4
+  pub bow-tie : ringList bowTie ≡ (0 ∷ 1 ∷ 2 ∷ []) ∷ (0 ∷ 3 ∷ 4 ∷ []) ∷ []
+  -- the pinched strip: one cycle 0,1,3,0,4,2; rings 0,1,3 and 0,4,2
+  pub strip-cycle : ring pinchedStrip (cycle pinchedStrip 0) ≡ 0 ∷ 1 ∷ 3 ∷ 0 ∷ 4 ∷ 2 ∷ []
+  pub strip-rings : ringList pinchedStrip ≡ (0 ∷ 1 ∷ 3 ∷ []) ∷ (0 ∷ 4 ∷ 2 ∷ []) ∷ []
+  -- (0,1,2),(0,2,3): diagonal 0-2 barred; patch (0,3,1),(1,3,2), weight 280, and (0,3,2),(0,2,1) has the barred diagonal: it gets 13
+  pub folded-rings : ringList folded ≡ rim ∷ []
+  pub folded-bar : barred folded [] rim 0 2 ≡ true
+  pub folded-taken : Taken folded lifted rim overOne
+  pub folded-run : Leaves lifted folded (1 ∷ []) (280 ∷ []) (0 ∷ 3 ∷ 1 ∷ 1 ∷ 3 ∷ 2 ∷ [])
+  pub folded-barred : Free folded rim overTwo → ⊥
+  pub folded-judged : Gets lifted folded (1 ∷ []) (0 ∷ 3 ∷ 2 ∷ 0 ∷ 2 ∷ 1 ∷ []) (Barred 0)
+  -- the cone with a dent: patch (0,3,2),(0,2,1), weight 60; (0,3,1),(1,3,2) weightHere 140 and gets 14;
+  -- (3,2,0),(2,1,0) passes
+  pub cone-rings : ringList cone ≡ rim ∷ []
+  pub cone-taken : Taken cone dentedTop rim overTwo
+  pub cone-run : Leaves dentedTop cone (1 ∷ []) (60 ∷ []) (0 ∷ 3 ∷ 2 ∷ 0 ∷ 2 ∷ 1 ∷ [])
+  pub cone-other : Free cone rim overOne
+  pub cone-heavier : weightHere dentedTop rim overOne ≡ 140
+  pub cone-judged : Gets dentedTop cone (1 ∷ []) (0 ∷ 3 ∷ 1 ∷ 1 ∷ 3 ∷ 2 ∷ []) (Heavy 0)
+  pub cone-passed : Gets dentedTop cone (1 ∷ []) (3 ∷ 2 ∷ 0 ∷ 2 ∷ 1 ∷ 0 ∷ []) Done
+  -- the cone with the points of (0,1,2),(0,2,3): both covers weigh 280, so m = 1: (0,3,1),(1,3,2)
+  pub equal-one : weightHere liftedTop rim overOne ≡ 280
+  pub equal-two : weightHere liftedTop rim overTwo ≡ 280
+  pub equal-taken : Taken cone liftedTop rim overOne
+  -- (0,1,2),(0,2,3),(1,3,4): ring 0,1,2,3 has no cover, ring 1,3,4 is patched by (1,4,3) wherever the points lie
+  pub crossed-rings : ringList crossed ≡ rim ∷ side ∷ []
+  pub crossed-open : Open crossed rim
+  pub crossed-taken : (grid : List ℤ) → Taken crossed grid side alone
+  pub crossed-run : (grid : List ℤ) → Leaves grid crossed (3 ∷ 1 ∷ []) (0 ∷ weightHere grid side alone ∷ []) (1 ∷ 4 ∷ 3 ∷ [])

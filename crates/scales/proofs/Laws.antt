@@ -1,0 +1,2 @@
+-- The laws of what a patch set weighs.
+pub mod Weighing

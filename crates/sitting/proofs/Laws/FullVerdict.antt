@@ -1,0 +1,118 @@
+-- The verdict over all loops, with the bench from one turn to the next.
+use mathlib.Core.Path.{_≡_, sym, _∙_, subst}
+use mathlib.Core.List.{List, [], _++_}
+use Prim.Native.Nat.{ℕ, _+_, _-_, _≤_, _<_}
+use native.Mathlib.Omega.{arith}
+use lib.IntN.{ℤ}
+use lib.ListN.{length, getD, take, drop}
+use lib.Seq.{take-add}
+use lib.Ieee.{Float}
+use Rattle.limits.specs.Limits as limits
+use Rattle.terms.specs.declared.Answer.{Answer}
+use Rattle.terms.specs.declared.Answer.the-variants.{Done}
+use Rattle.bars.specs.Chains.{Tells}
+use Rattle.column.specs.Columns.{Table}
+use Rattle.rounds.specs.Rings.{RingOf, Loops, RingPlace}
+use Rattle.rounds.specs.Bench.{Bench}
+use Rattle.rounds.proofs.Laws.Reading.{as-many, places-of}
+use Rattle.rounds.proofs.Laws.Bench.{noughts, edgesMost, bench-begins, ring-room}
+use Rattle.verdicts.specs.Verdicts.{taken, leftOver}
+use Rattle.judgement.specs.Turns.{LoopTurn, Judging, FindsLoop}
+use Rattle.summary.specs.Courses.{VerdictRoom, Gives}
+use Rattle.summary.proofs.Laws.Verdicts.{Gone, gone-begins, gone-ends, ring-here, turn-decides, turn-goes}
+
+-- the first l loops are right, whatever loops they are, and the bench is ready
+pub record Going (grid : List ℤ) (input rings lengths states set : List ℕ) (l r at e : ℕ) (heads links ends marks rows : List ℕ) (table : List Float) : Type 0 where
+  pub links-long : length links ≡ edgesMost
+  pub ends-long : length ends ≡ edgesMost
+  pub bench : Bench input (take at set) e heads links ends marks (r + 1) rows table
+  pub edges-few : e ≤ length input + r
+  pub gone : (rs : List (List ℕ)) → Loops grid input rs rings lengths → length states ≡ length rs → Gone grid input rs states set l r at
+
+module _ (grid : List ℤ) (input rings lengths states set : List ℕ) (room : VerdictRoom grid input rings lengths states) where
+  pub going-begins : (heads links ends : List ℕ) (table : List Float) → length links ≡ edgesMost → length ends ≡ edgesMost → Table table → Tells input [] (length input) heads links ends
+      → Going grid input rings lengths states set 0 0 0 (length input) heads links ends (noughts limits.points) (noughts limits.longest) table
+  going-begins heads links ends table ll le lt t = record {
+    links-long = ll;
+    ends-long = le;
+    bench = bench-begins input heads links ends table lt t;
+    edges-few = omega arith;
+    gone = λ rs s d. gone-begins grid input rs states set;
+  }
+
+  module _ (l r at e : ℕ) (heads links ends marks rows : List ℕ) (table : List Float) (g : Going grid input rings lengths states set l r at e heads links ends marks rows table) where
+    here : Gone grid input (room .rs) states set l r at
+    here = g .gone (room .rs) (room .loops) (room .declared)
+
+    pub set-in : at ≤ length set
+    set-in = here .within
+
+    pub going-ends : (a : Answer) → length lengths ≤ l → a ≡ leftOver at (drop at set) → Gives grid input rings lengths states set a
+    going-ends a h q rs s d =
+        let n : length lengths ≡ length rs = as-many grid input rs rings lengths s in
+        gone-ends grid input rs states set l r at a d (omega arith) (g .gone rs s d) q
+
+    module _ (h : l < length lengths) where
+      abbrev part : List ℕ
+      part = take (r + getD lengths l 0 - r) (drop r rings)
+
+      pub places : RingPlace rings lengths l r
+      places = places-of grid input (room .rs) rings lengths (room .loops) l r h (here .read)
+
+      pub state-in : l < length states
+      state-in =
+          let a : length lengths ≡ length (room .rs) = as-many grid input (room .rs) rings lengths (room .loops) in
+          let d : length states ≡ length (room .rs) = room .declared in
+          omega arith
+
+      ring-of : RingOf grid input part
+      ring-of = ring-here grid input (room .rs) rings lengths (room .loops) states set (room .declared) l r at h here
+
+      pub loop-turn : LoopTurn grid part heads links ends marks (r + 1) rows table e
+      loop-turn =
+          let n : length part ≡ getD lengths l 0 = places .part-long in
+          let t : 3 ≤ getD lengths l 0 = places .three in
+          let u : r + getD lengths l 0 ≤ length rings = places .ring-in in
+          let v : length rings ≤ limits.corners = places .rings-few in
+          record {
+            input = input;
+            before = take at set;
+            ring-of = ring-of;
+            bench = g .bench;
+            room = ring-room input part links ends r e (room .corners) (omega arith) (omega arith) (g .edges-few) (g .links-long) (g .ends-long);
+          }
+
+      module _ (a : Answer) (f : ℕ) (heads′ links′ ends′ marks′ rows′ : List ℕ) (table′ : List Float)
+          (found : FindsLoop grid part (getD states l 0) (drop at set) l heads links ends marks (r + 1) rows table e a f heads′ links′ ends′ marks′ rows′ table′) where
+        turned : Judging grid input (take at set) part (getD states l 0) (drop at set) l (r + 1) e a f heads′ links′ ends′ marks′ rows′ table′
+        turned = found input (take at set) ring-of (g .bench)
+
+        pub decides : (a ≡ Done → ⊥) → Gives grid input rings lengths states set a
+        decides n rs s d = turn-decides grid input rs rings lengths s states set d l r at h (g .gone rs s d) a (turned .finds) n
+
+        module _ (k : ℕ) (done : a ≡ Done) (t : (ring : List ℕ) → length ring ≡ r + getD lengths l 0 - r → k ≡ taken ring (getD states l 0)) where
+          on : (rs : List (List ℕ)) → Loops grid input rs rings lengths → length states ≡ length rs → Gone grid input rs states set (l + 1) (r + getD lengths l 0) (at + k)
+          on rs s d = turn-goes grid input rs rings lengths s states set d l r at h (g .gone rs s d) a k (turned .finds) done t
+
+          -- what the loop takes is there
+          pub takes-in : at + k ≤ length set
+          takes-in = on (room .rs) (room .loops) (room .declared) .within
+
+          pub going-on : length links′ ≡ length links → length ends′ ≡ length ends
+              → Going grid input rings lengths states set (l + 1) (r + getD lengths l 0) (at + k) f heads′ links′ ends′ marks′ rows′ table′
+          going-on kl ke =
+              let n : length part ≡ getD lengths l 0 = places .part-long in
+              let three : 3 ≤ getD lengths l 0 = places .three in
+              let x : e ≤ length input + r = g .edges-few in
+              let y : f ≤ e + (length part - 2) = turned .few in
+              let q : k ≡ taken part (getD states l 0) = t part (omega arith) in
+              record {
+                links-long = kl ∙ g .links-long;
+                ends-long = ke ∙ g .ends-long;
+                bench =
+                    subst (λ (i : ℕ). Bench input (take (at + k) set) f heads′ links′ ends′ marks′ i rows′ table′) (omega arith)
+                    (subst (λ (i : List ℕ). Bench input i f heads′ links′ ends′ marks′ (r + 1 + length part) rows′ table′) (sym (take-add at k set))
+                    (subst (λ (i : ℕ). Bench input (take at set ++ take i (drop at set)) f heads′ links′ ends′ marks′ (r + 1 + length part) rows′ table′) (sym q) (turned .bench done)));
+                edges-few = omega arith;
+                gone = on;
+              }
