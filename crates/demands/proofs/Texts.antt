@@ -3,31 +3,29 @@ use mathlib.Core.Path.{_≡_, refl, sym, ap, ap₂, _∙_, subst}
 use mathlib.Core.Bool.{Bool, true, false, true≢false}
 use mathlib.Core.Logic.{_⊎_, inl, inr}
 use mathlib.Core.List.{List, [], _∷_}
-use Prim.Native.Nat.{ℕ, _+_, _*_, _/_, _≤_}
+use Prim.Native.Nat.{ℕ, _+_, _/_, _≤_}
 use native.Mathlib.Omega.{arith}
 use lib.ListN.{length, take}
-use Rattle.limits.specs.Limits as limits
 use Rattle.terms.specs.Answers.{refusing}
 use Rattle.terms.specs.declared.Answer.{Answer}
 use Rattle.terms.specs.declared.Answer.the-variants.{Done, Buffer, Unnamed, Line}
 use Rattle.surface.specs.declared.Found.{Found}
 use Rattle.surface.specs.declared.Found.the-variants.{At, Nothing}
 use Rattle.surface.specs.Smallest.{least}
-use Rattle.surface.specs.Refusals.{short, unnamed, refuseAt, thenCheck, countRefusal, bufferRefusal, unnamedRefusal}
-use Rattle.surface.proofs.Laws.Thens.{Fitting, whole-count, counts-fit, one-long, two-long}
+use Rattle.surface.specs.Refusals.{short, unnamed, refuseAt, thenCheck, bufferRefusal, unnamedRefusal}
+use Rattle.surface.proofs.Laws.Thens.{Fitting, counts-fit, two-long}
 use Rattle.surface.proofs.Laws.Over.{start-of}
 use Rattle.surface.proofs.Laws.Sound.{next-of}
-use Rattle.surface.proofs.Laws.Refusing.{counts-done}
 use Rattle.texts.specs.Text.{TextOf}
-use Rattle.texts.specs.Text as texts
 use Rattle.texts.specs.Fault.{Fault}
 use Rattle.texts.proofs.Laws.Cut.{fault-whole}
-use Rattle.sheet.specs.Sheet.{Three, threes, flat, points, triangles, text}
+use Rattle.sheet.specs.Sheet.{Three, threes, flat, points, triangles}
 use Rattle.sheet.proofs.Laws.Texts.{text-once, text-or-fault}
-use Rattle.sheet.proofs.Laws.Threes.{flat-length, flat-threes, threes-flat}
+use Rattle.sheet.proofs.Laws.Threes.{flat-threes}
 use Rattle.sheet.proofs.Theorems.{longest, longest-met}
 use Rattle.intake.specs.Outcome.{ReadOutcome, Reads, deliver}
-use Rattle.scribe.specs.Outcome.{writeRefusal, writes}
+use Rattle.scribe.specs.Outcome.{writes}
+use Rattle.scribe.proofs.Laws.Again.{written-whole}
 use Rattle.scribe.proofs.Theorems.{written-text, checks}
 use Rattle.demands.specs.Texts.{Words, readAll, wroteAll, TextsDemand}
 
@@ -82,28 +80,6 @@ module _ (ws cs buffer words corners : List ℕ) (w : Words ws) (d : writes ws c
 done-line : {l : ℕ} → Line l ≡ Done → ⊥
 done-line e = true≢false (ap refusing e)
 
-module _ (bytes buffer : List ℕ) (ps ts : List Three) (t : TextOf points triangles bytes ps ts) (h : length bytes ≤ length buffer) (n : unnamedRefusal (flat ts) (length (flat ps) / 3) ≡ Done) where
-  same-text : text (flat ps) (flat ts) ≡ bytes
-  same-text = ap₂ (texts.text points triangles) (threes-flat ps) (threes-flat ts) ∙ sym (t .is)
-
-  counted : countRefusal (length (flat ps)) (length (flat ts)) ≡ Done
-  counted =
-      ap₂ countRefusal (flat-length ps) (flat-length ts)
-      ∙ sym (
-      counts-done (3 * length ps) (3 * length ts) (whole-count limits.words (length ps) (omega (arith, t .says .first-few)))
-      (whole-count limits.corners (length ts) (omega (arith, t .says .second-few)))
-      )
-
-  unrefused : writeRefusal (flat ps) (flat ts) buffer ≡ Done
-  unfolding writeRefusal
-  unrefused =
-      let b : bufferRefusal (length buffer ∷ []) (length (text (flat ps) (flat ts)) ∷ []) ≡ Done = one-long (length buffer) (length (text (flat ps) (flat ts))) (omega (arith, ap length same-text)) in
-      rw (counted, b, n)
-
-  wrote : writes (flat ps) (flat ts) buffer ≡ wroteAll bytes buffer
-  unfolding writes
-  wrote = rw unrefused (ap (λ (b : List ℕ). wroteAll b buffer) same-text)
-
 module _ (bytes words corners buffer : List ℕ) (o : ReadOutcome) (r : Reads bytes words corners o) (d : o .answer ≡ Done) (h : length bytes ≤ length buffer) where
   again : writes (take (o .word-count) (o .words)) (take (o .corner-count) (o .corners)) buffer ≡ wroteAll bytes buffer
   again = go (text-or-fault bytes)
@@ -119,7 +95,7 @@ module _ (bytes words corners buffer : List ℕ) (o : ReadOutcome) (r : Reads by
           let k : o ≡ readAll ws cs words corners = e ∙ done-delivers ws cs words corners g in
           ap (λ (p : ReadOutcome). writes (take (p .word-count) (p .words)) (take (p .corner-count) (p .corners)) buffer) k
           ∙ ap₂ (λ (x y : List ℕ). writes x y buffer) (start-of ws words (length ws) refl) (start-of cs corners (length cs) refl)
-          ∙ wrote bytes buffer (t .0) (t .1) (t .2) h (done-names ws cs words corners g)
+          ∙ written-whole (t .2) buffer h (done-names ws cs words corners g)
 
 -- ---- a wrong line
 

@@ -6,3 +6,4 @@ pub mod Putting
 pub mod Whole
 pub mod Outcomes
 pub mod Within
+pub mod Again

@@ -14,10 +14,11 @@ use Rattle.intake.specs.Outcome.{ReadOutcome, Reads}
 use Rattle.scribe.specs.declared.Written.{Written}
 use Rattle.scribe.specs.Outcome.{writeOutcome, writes}
 use Rattle.scribe.proofs.Laws.Within.{written-within}
+use Rattle.scribe.proofs.Laws.Again.{written-whole}
 use Rattle.report.specs.Lines.{answerLine}
 use Rattle.copyist.specs.Rewriting.{Rewrites, printed}
 use Rattle.copyist.proofs.Laws.Fronts.{line-front, line-within}
-use Rattle.copyist.proofs.Laws.Delivered.{read-whole, read-unnamed, written-whole}
+use Rattle.copyist.proofs.Laws.Delivered.{read-whole, read-unnamed}
 
 -- after writing
 module _ (words corners before middle : List ℕ) (w : Written) (e : writeOutcome w middle ≡ writes words corners before) where
