@@ -3,15 +3,14 @@ use mathlib.Core.Path.{_≡_, refl, sym, ap, ap₂, _∙_, subst}
 use mathlib.Core.Bool.{Bool, true, false, not, cond, true≢false}
 use mathlib.Core.Logic.{inl, inr}
 use mathlib.Core.List.{List, [], _∷_, _++_}
-use Prim.Native.Nat.{ℕ, suc, _+_, _/_}
+use Prim.Native.Nat.{ℕ, _+_, _/_}
 use lib.Dec.{eqb}
-use lib.IntN.{ℤ}
-use lib.ListN.{length, take, drop}
+use lib.ListN.{length}
 use Rattle.limits.specs.Limits as limits
 use Rattle.terms.specs.Answers.{refusing}
 use Rattle.terms.specs.Counts.{threes}
 use Rattle.terms.specs.declared.Answer.{Answer}
-use Rattle.terms.specs.declared.Answer.the-variants.{Done, Words, Corners, Buffer, Unnamed, Twice, Repeated, NotFinite, TooFar, States, Line, Misdeclared, Uncovered, Barred, Heavy, LeftOver}
+use Rattle.terms.specs.declared.Answer.the-variants.{Done, Words, Corners, Buffer, Unnamed, TooFar, States}
 use Rattle.surface.specs.declared.Found.{Found}
 use Rattle.surface.specs.declared.Found.the-variants.{At, Nothing}
 use Rattle.surface.specs.Smallest.{least}
@@ -25,8 +24,7 @@ use Rattle.survey.specs.Outcome as survey
 use Rattle.patching.specs.Outcome as patcher
 use Rattle.trial.specs.Outcome.{JudgesCounted, JudgesIf, Judges}
 use Rattle.run.specs.Run.{ringList}
-use Rattle.verdicts.specs.Faults.{Fault}
-use Rattle.verdicts.specs.Verdicts.{taken, Verdict}
+use Rattle.verdicts.proofs.Laws.Once.{verdict-told}
 use Rattle.texts.specs.Text.{TextOf}
 use Rattle.sheet.specs.Sheet.{Three, flat, points, triangles, text}
 use Rattle.intake.specs.Outcome as intake
@@ -185,33 +183,6 @@ module _ (words corners : List ℕ) (b : patcher.Buffers) (o : patcher.Outcome) 
 
   patching : Answered patchTable (λ a. patcher.refused a b) (λ x. x .answer) o
   patching = answered patchTable (table-refuses words corners (patcher.lent b) (patcher.needs words corners)) (λ a. patcher.refused a b) (λ x. x .answer) o (λ a. refl) patch-refused patch-done
-
--- a verdict is no refusal
-fault-told : (grid : List ℤ) (input laid : List ℕ) (l : ℕ) (ring : List ℕ) (state : ℕ) (set : List ℕ) (a : Answer) → Fault grid input laid l ring state set a → refusing a ≡ false
-fault-told grid input laid l ring state set Done f = absurd f
-fault-told grid input laid l ring state set Words f = absurd f
-fault-told grid input laid l ring state set Corners f = absurd f
-fault-told grid input laid l ring state set (Buffer b) f = absurd f
-fault-told grid input laid l ring state set (Unnamed c) f = absurd f
-fault-told grid input laid l ring state set (Twice t) f = absurd f
-fault-told grid input laid l ring state set (Repeated h) f = absurd f
-fault-told grid input laid l ring state set (NotFinite w) f = absurd f
-fault-told grid input laid l ring state set (TooFar w) f = absurd f
-fault-told grid input laid l ring state set (States n) f = absurd f
-fault-told grid input laid l ring state set (Line n) f = absurd f
-fault-told grid input laid l ring state set (Misdeclared r) f = refl
-fault-told grid input laid l ring state set (Uncovered r) f = refl
-fault-told grid input laid l ring state set (Barred r) f = refl
-fault-told grid input laid l ring state set (Heavy r) f = refl
-fault-told grid input laid l ring state set (LeftOver c) f = absurd f
-
-verdict-told : (grid : List ℤ) (input laid : List ℕ) (l at : ℕ) (rings : List (List ℕ)) (states set : List ℕ) (a : Answer) → Verdict grid input laid l at rings states set a → refusing a ≡ false
-verdict-told grid input laid l at [] [] [] a e = ap refusing e
-verdict-told grid input laid l at [] [] (x ∷ set) a e = ap refusing e
-verdict-told grid input laid l at [] (s ∷ states) set a v = absurd v
-verdict-told grid input laid l at (r ∷ rings) [] set a v = absurd v
-verdict-told grid input laid l at (r ∷ rings) (s ∷ states) set a (inl f) = fault-told grid input laid l r s set a f
-verdict-told grid input laid l at (r ∷ rings) (s ∷ states) set a (inr v) = verdict-told grid input (laid ++ take (taken r s) set) (suc l) (at + taken r s) rings states (drop (taken r s) set) a (v .1)
 
 module _ (words corners states set : List ℕ) (b : survey.Buffers) (o : survey.Outcome) (j : Judges words corners states set b o) where
   abbrev judgeRefusal : Answer

@@ -23,7 +23,7 @@ use Rattle.covers.specs.Covers.{Cover, Covers, on}
 use Rattle.verdicts.specs.Faults as faults
 use Rattle.verdicts.specs.Faults.{IsCover, DeclaredPatched, Lighter}
 use Rattle.verdicts.proofs.Laws.Listing.{patch-is-cover}
-use Rattle.sight.proofs.Laws.Findings.{declared-patched}
+use Rattle.verdicts.proofs.Laws.Declared.{declared-patched}
 use Rattle.samples.specs.Table.{Table, cone, dentedTop, rim, Taken, overOne, overTwo, alone}
 use Rattle.samples.proofs.Small.{allows, allowed, not-allowed, none-of-four, three, four}
 
@@ -67,22 +67,21 @@ table = record {
   folded-taken = four _ _ _ refl refl refl;
   folded-run = record { fates = patched overOne ∷ []; run = ((lit≤ tt, four _ _ _ refl refl refl), tt); its-states = refl; its-weights = refl; its-laid = refl };
   folded-barred = not-allowed _ _ _ _ refl;
-  folded-judged = inl (refl, patched-four _ _ refl, record { cover = overTwo; taken = patch-is-cover rim overTwo [] (covers-of overTwo refl); from = 0; to = 2; used = inr (inl (inl (refl, refl))); barring = refl });
+  folded-judged = inl (faults.cover-barred refl (patched-four _ _ refl) (record { cover = overTwo; taken = patch-is-cover rim overTwo [] (covers-of overTwo refl); from = 0; to = 2; used = inr (inl (inl (refl, refl))); barring = refl }));
   cone-rings = refl;
   cone-taken = four _ _ _ refl refl refl;
   cone-run = record { fates = patched overTwo ∷ []; run = ((lit≤ tt, four _ _ _ refl refl refl), tt); its-states = refl; its-weights = refl; its-laid = refl };
   cone-other = allowed _ _ _ _ refl;
   cone-heavier = refl;
   cone-judged = inl (
-    refl,
-    patched-four _ _ refl,
-    record {
-      cover = overOne;
-      taken = patch-is-cover rim overOne [] (covers-of overOne refl);
-      allowed = allowed _ _ _ _ refl;
-      lighter = record { other = overTwo; allowed = allowed _ _ _ _ refl; lighter = lit< tt };
-    },
-  );
+      faults.too-heavy refl (patched-four _ _ refl)
+      (record {
+        cover = overOne;
+        taken = patch-is-cover rim overOne [] (covers-of overOne refl);
+        allowed = allowed _ _ _ _ refl;
+        lighter = record { other = overTwo; allowed = allowed _ _ _ _ refl; lighter = lit< tt };
+      })
+      );
   cone-passed = inr (faults.patched refl (lit≤ tt) overTwo begun-elsewhere (allowed _ _ _ _ refl) (no-lighter (four _ _ _ refl refl refl)), refl);
   equal-one = refl;
   equal-two = refl;

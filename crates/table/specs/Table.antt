@@ -4,14 +4,13 @@ use mathlib.Core.Logic.{_⊎_}
 use mathlib.Core.Bool.{Bool, false, cond}
 use mathlib.Core.List.{List}
 use Prim.Native.Nat.{ℕ, suc, _+_, _*_, _<_, _≤_}
-use lib.ListN.{length}
 use lib.Ieee.{Float}
 use Rattle.limits.specs.Limits as limits
 use Rattle.weight.specs.declared.Point.{Point}
 use Rattle.weight.specs.Weight.{OnGrid}
 use Rattle.weight.specs.Edition.{triOf}
 use Rattle.exact.specs.Whole.{Whole, Natural}
-use Rattle.masks.specs.Masks.{bit, Rows}
+use Rattle.masks.specs.Masks.{Rows}
 use Rattle.column.specs.Columns.{cell, farFloat, Long, Table, row, pairs}
 use Rattle.table.specs.Products.{pairX, pairY, pairZ}
 use Rattle.table.specs.Told.{Told, Lowest}

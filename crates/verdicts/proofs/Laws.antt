@@ -4,3 +4,4 @@ pub mod Passes
 pub mod Listing
 pub mod Patched
 pub mod Filled
+pub mod Declared

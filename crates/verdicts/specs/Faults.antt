@@ -8,7 +8,7 @@ use lib.IntN.{ℤ}
 use lib.ListN.{length, take}
 use Rattle.limits.specs.Limits as limits
 use Rattle.terms.specs.declared.Answer.{Answer}
-use Rattle.terms.specs.declared.Answer.the-variants.{Done, Words, Corners, Buffer, Unnamed, Twice, Repeated, NotFinite, TooFar, States, Line, Misdeclared, Uncovered, Barred, Heavy, LeftOver}
+use Rattle.terms.specs.declared.Answer.the-variants.{Misdeclared, Uncovered, Barred, Heavy}
 use Rattle.covers.specs.Covers.{Cover, Uses, Allowed, NoCover, vertexOf, weight}
 use Rattle.covers.specs.Sets.{Covered, triples}
 use Rattle.weight.specs.Edition.{naturals, triOf, along}
@@ -82,20 +82,8 @@ pub record DeclaredPatched (input laid ring : List ℕ) (state : ℕ) : Type 0 w
   pub not-wrong : WrongState input laid ring state → ⊥
 
 -- "Verdicts 11 to 14 are tried in that order at each loop": a is the fault of loop l
-abbrev pub Fault : List ℤ → List ℕ → List ℕ → ℕ → List ℕ → ℕ → List ℕ → Answer → Type 0
-Fault grid input laid l ring state set (Misdeclared at) = (at ≡ l) × WrongState input laid ring state
-Fault grid input laid l ring state set (Uncovered at) = (at ≡ l) × DeclaredPatched input laid ring state × NoCoverTaken ring set
-Fault grid input laid l ring state set (Barred at) = (at ≡ l) × DeclaredPatched input laid ring state × BarredTaken input laid ring set
-Fault grid input laid l ring state set (Heavy at) = (at ≡ l) × DeclaredPatched input laid ring state × HeavyTaken grid input laid ring set
-Fault grid input laid l ring state set Done = ⊥
-Fault grid input laid l ring state set Words = ⊥
-Fault grid input laid l ring state set Corners = ⊥
-Fault grid input laid l ring state set (Buffer b) = ⊥
-Fault grid input laid l ring state set (Unnamed c) = ⊥
-Fault grid input laid l ring state set (Twice t) = ⊥
-Fault grid input laid l ring state set (Repeated h) = ⊥
-Fault grid input laid l ring state set (NotFinite w) = ⊥
-Fault grid input laid l ring state set (TooFar w) = ⊥
-Fault grid input laid l ring state set (States n) = ⊥
-Fault grid input laid l ring state set (Line n) = ⊥
-Fault grid input laid l ring state set (LeftOver c) = ⊥
+pub data Fault (grid : List ℤ) (input laid : List ℕ) (l : ℕ) (ring : List ℕ) (state : ℕ) (set : List ℕ) (a : Answer) : Type 0 where
+  misdeclared : a ≡ Misdeclared l → WrongState input laid ring state → Fault grid input laid l ring state set a
+  no-cover : a ≡ Uncovered l → DeclaredPatched input laid ring state → NoCoverTaken ring set → Fault grid input laid l ring state set a
+  cover-barred : a ≡ Barred l → DeclaredPatched input laid ring state → BarredTaken input laid ring set → Fault grid input laid l ring state set a
+  too-heavy : a ≡ Heavy l → DeclaredPatched input laid ring state → HeavyTaken grid input laid ring set → Fault grid input laid l ring state set a

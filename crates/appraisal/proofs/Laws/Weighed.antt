@@ -28,9 +28,9 @@ use Rattle.keys.specs.Keys.{Threes}
 use Rattle.reading.specs.Rows.{Readable, SidesFree}
 use Rattle.scales.specs.Weighing.{setWeight, AllNamed}
 use Rattle.scales.proofs.Laws.Weighing.{cover-weight, cover-named}
-use Rattle.verdicts.specs.Faults.{share, IsCover, weightHere, patched}
+use Rattle.verdicts.specs.Faults.{share, IsCover, weightHere, patched, no-cover, cover-barred, too-heavy}
 use Rattle.sight.specs.Findings.{right, fault}
-use Rattle.sight.proofs.Laws.Findings.{declared-patched}
+use Rattle.verdicts.proofs.Laws.Declared.{declared-patched}
 use Rattle.appraisal.specs.Parts.{PartRoom, FindsCover, WeightRoom, FindsWeight}
 
 -- the part at the set's front is a cover
@@ -78,23 +78,21 @@ module _ (grid : List ℤ) (ring part rows : List ℕ) (table : List Float) (roo
       pub weight-heavy : w < v → FindsWeight grid ring part l rows (Heavy l)
       weight-heavy lighter input before b set t e c h a =
           let x = least-is (Weight w) is input before b in
-          fault (
-            refl,
-            declared-patched input before ring 1 refl (room .on .few),
-            record {
-              cover = c;
-              taken = part-cover ring part set c t e h;
-              allowed = a;
-              lighter = record {
-                other = x .cover;
-                allowed = x .among;
-                lighter =
-                    let y : weightHere grid ring (x .cover) ≡ w = x .weighs in
-                    let z : v ≡ weightHere grid ring c = weight-of c h in
-                    omega arith;
-              };
-            },
-          )
+          fault
+          (too-heavy refl (declared-patched input before ring 1 refl (room .on .few))
+          (record {
+            cover = c;
+            taken = part-cover ring part set c t e h;
+            allowed = a;
+            lighter = record {
+              other = x .cover;
+              allowed = x .among;
+              lighter =
+                  let y : weightHere grid ring (x .cover) ≡ w = x .weighs in
+                  let z : v ≡ weightHere grid ring c = weight-of c h in
+                  omega arith;
+            };
+          }))
 
       pub weight-right : v ≤ w → FindsWeight grid ring part l rows Done
       weight-right under input before b set t e c h a =
@@ -118,20 +116,14 @@ module _ (grid : List ℤ) (ring part marks : List ℕ) (base : ℕ) (rows : Lis
 
     pub read-none : (l : ℕ) → r ≡ reading.NoCover → FindsCover grid ring part l rows (Uncovered l)
     read-none l is input before b set t e =
-        fault (
-          refl,
-          declared-patched input before ring 1 refl (room .on .few),
-          λ c h. read-as reading.NoCover is input before b c (cover-part ring part set c e h),
-        )
+        fault (no-cover refl (declared-patched input before ring 1 refl (room .on .few)) (λ c h. read-as reading.NoCover is input before b c (cover-part ring part set c e h)))
 
     pub read-barred : (l : ℕ) → r ≡ reading.Barred → FindsCover grid ring part l rows (Barred l)
     read-barred l is input before b set t e =
         let x = read-as reading.Barred is input before b in
-        fault (
-          refl,
-          declared-patched input before ring 1 refl (room .on .few),
-          record { cover = x .0; taken = part-cover ring part set (x .0) t e (x .1); from = x .2; to = x .3; used = x .4; barring = x .5 },
-        )
+        fault
+        (cover-barred refl (declared-patched input before ring 1 refl (room .on .few))
+        (record { cover = x .0; taken = part-cover ring part set (x .0) t e (x .1); from = x .2; to = x .3; used = x .4; barring = x .5 }))
 
     module _ (is : r ≡ reading.Allowed) where
       pub read-room : WeightRoom grid ring part rows table

@@ -1,8 +1,8 @@
 -- A patch that stands in a buffer names no point but the ring's.
-use mathlib.Core.Path.{_≡_, refl, sym, ap, _∙_, subst}
-use mathlib.Core.List.{List, [], _∷_, _++_}
+use mathlib.Core.Path.{_≡_, sym, ap, _∙_, subst}
+use mathlib.Core.List.{List, _∷_, _++_}
 use mathlib.Core.Logic.{⊎-elim}
-use Prim.Native.Nat.{ℕ, zero, suc, _+_, _-_, _*_, _<_, _≤_}
+use Prim.Native.Nat.{ℕ, zero, suc, _+_, _-_, _<_, _≤_}
 use native.Mathlib.Nat.{not-suc-le-zero, le-refl}
 use native.Mathlib.Omega.{arith}
 use lib.ListN.{length, getD, take, length-append, List·getD-append}
@@ -11,7 +11,7 @@ use Rattle.limits.specs.Limits as limits
 use Rattle.surface.proofs.Laws.Tests.{lt-or-le}
 use Rattle.covers.specs.Covers.{Cover, empty, apex, Covers, triangles, cornersOf, patchOf}
 use Rattle.covers.proofs.Laws.Counted.{covers-forward}
-use Rattle.covers.proofs.Laws.Corners.{corners-append, patch-length}
+use Rattle.covers.proofs.Laws.Corners.{corners-append}
 
 -- ---- what holds of each corner
 

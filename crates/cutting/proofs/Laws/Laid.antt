@@ -1,12 +1,11 @@
 -- The starts of a path's edges, laid into the rings one by one.
 use mathlib.Core.Path.{_≡_, sym, ap, _∙_}
-use mathlib.Core.List.{List, [], _∷_, _++_, append-assoc, map-append}
-use Prim.Native.Nat.{ℕ, suc, _+_, _-_, _<_, _≤_}
-use native.Mathlib.Nat.{add-zero}
+use mathlib.Core.List.{List, [], _∷_, _++_, map-append}
+use Prim.Native.Nat.{ℕ, _+_, _-_, _<_, _≤_}
 use native.Mathlib.Numerals.{add-one}
 use native.Mathlib.Omega.{arith}
-use lib.ListN.{length, getD, take, drop, set, length-append, length-take, length-drop, length-map, take-append-drop, drop-of-length-le}
-use lib.Seq.{take-suc, drop-cons, length-take-le, set-at, drop-append-le, drop-append-add, drop-drop, take-append-seam}
+use lib.ListN.{length, getD, take, set, length-take, length-drop, length-map, drop-of-length-le}
+use lib.Seq.{take-suc, length-take-le, drop-append-le}
 use Rattle.surface.specs.Buffers.{laid}
 use Rattle.surface.proofs.Laws.Laid.{laid-none, laid-more}
 use Rattle.surface.specs.Edges.{startOf}

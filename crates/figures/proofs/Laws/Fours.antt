@@ -5,7 +5,7 @@ use Prim.Native.Nat.{ℕ, _+_, _*_, _/_, _%_, _<_, _≤_}
 use native.Mathlib.Omega.{arith}
 use lib.ListN.{length, set}
 use Rattle.surface.specs.Buffers.{laid}
-use Rattle.digits.specs.Numeral.{byteOf, places, decimal, size}
+use Rattle.digits.specs.Numeral.{byteOf, places, decimal}
 use Rattle.figures.specs.Tables.{four, fourOf}
 use Rattle.digits.proofs.Laws.Digit.{byte-small, byte-ten, size-one}
 use Rattle.digits.proofs.Laws.Sizes.{size-two, size-three, size-four}

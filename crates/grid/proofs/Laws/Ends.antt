@@ -14,7 +14,7 @@ use lib.Ieee.Scale.{finite}
 use borrow.Author.Tests.{le-leb, lt-leb, lt-ltb, le-ltb}
 use Rattle.limits.specs.Limits.{greatest}
 use Rattle.grid.specs.Units.{one}
-use Rattle.grid.specs.Places.{whole, isOff}
+use Rattle.grid.specs.Places.{isOff}
 use Rattle.grid.proofs.Laws.Nearest.{apart, Near, closest-near}
 use Rattle.grid.proofs.Laws.Signs.{abs-signed}
 use Rattle.grid.proofs.Laws.Floats.{is-units, minus, field, Small, small, no-number}

@@ -26,12 +26,14 @@ use Rattle.run.proofs.Laws.Three.{sides-free}
 use Rattle.rounds.specs.Rings.{RingOf}
 use Rattle.rounds.specs.Bench.{Bench}
 use Rattle.rounds.proofs.Laws.Bench.{bench-kept}
-use Rattle.verdicts.specs.Faults.{share, Right, Fault, patched, long, open-left, no-state, two-on-a-short, three-with-a-cover}
+use Rattle.verdicts.specs.Faults.{share, Right, Fault, patched, long, open-left, no-state, two-on-a-short, three-with-a-cover, misdeclared, no-cover}
+use Rattle.verdicts.proofs.Laws.Once.{fault-said}
 use Rattle.verdicts.specs.Verdicts.{taken}
 use Rattle.verdicts.proofs.Laws.Filled.{taken-patched, part-none}
 use Rattle.verdicts.proofs.Laws.Once.{right-patched}
 use Rattle.sight.specs.Findings.{right, fault, PlainRoom, FindsPlain}
-use Rattle.sight.proofs.Laws.Findings.{declared-patched, done-right}
+use Rattle.sight.proofs.Laws.Findings.{done-right}
+use Rattle.verdicts.proofs.Laws.Declared.{declared-patched}
 use Rattle.sight.proofs.Laws.Threes.{three-told}
 use Rattle.appraisal.specs.Parts.{PartRoom, FindsCover}
 use Rattle.appraisal.proofs.Laws.Weighed.{cover-part}
@@ -43,7 +45,7 @@ module _ (grid : List ℤ) (input laid ring : List ℕ) (state : ℕ) (set : Lis
   judging-fault : Fault grid input laid l ring state set a → (base e f : ℕ) → f ≤ e + (length ring - 2)
       → (heads links ends marks rows : List ℕ) (table : List Float) → Judging grid input laid ring state set l base e a f heads links ends marks rows table
   judging-fault h base e f few heads links ends marks rows table =
-      record { finds = fault h; few = few; bench = λ d. absurd (subst (Fault grid input laid l ring state set) d h) }
+      record { finds = fault h; few = few; bench = λ d. absurd (fault-said grid input laid l ring state set a h d) }
 
 -- ---- the bench after a loop
 
@@ -167,7 +169,7 @@ module _ (grid : List ℤ) (ring heads links ends marks : List ℕ) (base : ℕ)
       pub open-wrong : (w : ℕ) → least ≡ Weight w → FindsOpen grid ring l heads links ends marks base rows table (Misdeclared l) marks′ rows′ table′
       open-wrong w is set f input before g b =
           let x = least-is (Weight w) is input before f (b .tells) in
-          judging-fault grid input before ring 3 set l (Misdeclared l) (refl, three-with-a-cover refl (x .cover) (x .among)) base f f (omega arith) heads links ends
+          judging-fault grid input before ring 3 set l (Misdeclared l) (misdeclared refl (three-with-a-cover refl (x .cover) (x .among))) base f f (omega arith) heads links ends
           marks′ rows′ table′
 
     -- declared patched: it is as its part of the set is found
@@ -245,21 +247,19 @@ module _ (grid : List ℤ) (ring heads links ends marks : List ℕ) (base : ℕ)
         → FindsLoop grid ring state (drop at set) l heads links ends marks base rows table e (Misdeclared l) e heads links ends marks rows table
     by-none three one input before g b =
         judging-fault grid input before ring state (drop at set) l (Misdeclared l)
-        (refl, ⊎-elim (λ (x : state ≡ 2). two-on-a-short x short) (λ (x : state ≡ 2 → ⊥). no-state one x three) (eq-or-not state 2))
+        (misdeclared refl (⊎-elim (λ (x : state ≡ 2). two-on-a-short x short) (λ (x : state ≡ 2 → ⊥). no-state one x three) (eq-or-not state 2)))
         base e e (omega arith) heads links ends marks rows table
 
     module _ (one : state ≡ 1) where
       pub by-missing : length set - at < share ring
           → FindsLoop grid ring state (drop at set) l heads links ends marks base rows table e (Uncovered l) e heads links ends marks rows table
       by-missing m input before g b =
-          judging-fault grid input before ring state (drop at set) l (Uncovered l) (
-            refl,
-            declared-patched input before ring state one short,
-            λ c h.
-                let k : length (drop at set) ≡ length set - at = length-drop at set in
-                let t : share ring ≤ length (drop at set) = h .there in
-                omega arith,
-          )
+          judging-fault grid input before ring state (drop at set) l (Uncovered l)
+          (no-cover refl (declared-patched input before ring state one short)
+          (λ c h.
+          let k : length (drop at set) ≡ length set - at = length-drop at set in
+          let t : share ring ≤ length (drop at set) = h .there in
+          omega arith))
           base e e (omega arith) heads links ends marks rows table
 
       pub by-patched : (part : List ℕ) → part ≡ take (share ring) (drop at set) → share ring ≤ length set - at

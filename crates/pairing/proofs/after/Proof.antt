@@ -1,6 +1,5 @@
 -- `after` goes on by one, or from the last half-edge of a triangle back to its first.
 use borrow.Author.Needs.{needs}
-use native.Mathlib.Omega.{arith}
 use Rattle.pairing.proofs.Laws.Few.{after-last, after-other}
 use Rattle.pairing.proofs.after.Statement.{statement}
 use Rattle.pairing.proofs.after.Tie as tie

@@ -22,9 +22,9 @@ use Rattle.bars.proofs.Laws.Triples.{ends-of, between-append, between-one}
 use Rattle.keys.specs.Covering.{Covering}
 use Rattle.run.proofs.Laws.Three.{three-meets}
 use Rattle.run.proofs.Laws.Sides.{three-tells}
-use Rattle.verdicts.specs.Faults.{share, patched, long, WrongState, no-state, two-on-a-short, not-two-on-a-long, three-with-a-cover}
+use Rattle.verdicts.specs.Faults.{share, patched, long, WrongState, no-state, two-on-a-short, not-two-on-a-long, three-with-a-cover, misdeclared, no-cover}
 use Rattle.sight.specs.Findings.{right, fault, PlainRoom, FindsPlain, WoundAgainst}
-use Rattle.sight.proofs.Laws.Findings.{declared-patched}
+use Rattle.verdicts.proofs.Laws.Declared.{declared-patched}
 
 -- ---- the long loop
 
@@ -32,7 +32,7 @@ pub long-right : (state l : ℕ) → state ≡ 2 → (ring : List ℕ) → limit
 long-right state l e ring n set at grid input laid = right refl (long e n)
 
 pub long-wrong : (state l : ℕ) → (state ≡ 2 → ⊥) → (ring : List ℕ) → limits.longest < length ring → (set : List ℕ) (at : ℕ) → FindsPlain ring state set at l (Misdeclared l)
-long-wrong state l e ring n set at grid input laid = fault (refl, not-two-on-a-long e n)
+long-wrong state l e ring n set at grid input laid = fault (misdeclared refl (not-two-on-a-long e n))
 
 -- ---- one triangle
 
@@ -121,19 +121,17 @@ module _ (ring : List ℕ) (state : ℕ) (set : List ℕ) (at l : ℕ) (n : leng
       (eq-or-not state 2)
 
   pub three-wrong : (state ≡ 1 → ⊥) → FindsPlain ring state set at l (Misdeclared l)
-  three-wrong e grid input laid = fault (refl, three-state grid input laid e)
+  three-wrong e grid input laid = fault (misdeclared refl (three-state grid input laid e))
 
   module _ (one : state ≡ 1) where
     pub three-missing : length set - at < 3 → FindsPlain ring state set at l (Uncovered l)
     three-missing m grid input laid =
-        fault (
-          refl,
-          declared-patched input laid ring state one short,
-          λ c h.
-              let e : length (drop at set) ≡ length set - at = length-drop at set in
-              let t : 3 * (length ring - 2) ≤ length (drop at set) = h .there in
-              omega arith,
-        )
+        fault
+        (no-cover refl (declared-patched input laid ring state one short)
+        (λ c h.
+        let e : length (drop at set) ≡ length set - at = length-drop at set in
+        let t : 3 * (length ring - 2) ≤ length (drop at set) = h .there in
+        omega arith))
 
     module _ (room : at + 3 ≤ length set) where
       -- the corners that the loop takes
@@ -145,15 +143,13 @@ module _ (ring : List ℕ) (state : ℕ) (set : List ℕ) (at l : ℕ) (n : leng
 
       pub three-no-cover : WoundAgainst ring found false → FindsPlain ring state set at l (Uncovered l)
       three-no-cover a grid input laid =
-          fault (
-            refl,
-            declared-patched input laid ring state one short,
-            λ c h.
-                a
-                (subst (λ (t : Triangle). Alike t (turnedRing ring)) (sym (part-lone set at room))
-                (covering-alike ring n (take 3 (drop at set)) (part-long set at room) c
-                (subst (λ (p : List ℕ). Covering ring (triples p) c) same-part (h .covers)))),
-          )
+          fault
+          (no-cover refl (declared-patched input laid ring state one short)
+          (λ c h.
+          a
+          (subst (λ (t : Triangle). Alike t (turnedRing ring)) (sym (part-lone set at room))
+          (covering-alike ring n (take 3 (drop at set)) (part-long set at room) c
+          (subst (λ (p : List ℕ). Covering ring (triples p) c) same-part (h .covers))))))
 
       pub three-right : WoundAgainst ring found true → FindsPlain ring state set at l Done
       three-right a grid input laid =

@@ -1,27 +1,25 @@
 -- A column begins with its products and no way but the side, and ends as a row of the table.
-use mathlib.Core.Path.{_≡_, refl, sym, ap, _∙_, subst}
+use mathlib.Core.Path.{_≡_, refl, sym, subst}
 use mathlib.Core.Logic.{_⊎_, inl, inr}
 use mathlib.Core.Bool.{Bool}
 use mathlib.Core.List.{List}
-use Prim.Native.Nat.{ℕ, suc, _+_, _-_, _*_, _^_, _≤_, _<_}
+use Prim.Native.Nat.{ℕ, suc, _+_, _*_, _≤_, _<_}
 use native.Mathlib.Nat.{le-trans, le-refl, le-of-lt, eq-or-lt-of-le, le-of-suc-le-suc, lt-of-lt-of-le}
 use native.Mathlib.Omega.{arith}
 use lib.Dec.{lit<}
-use lib.IntN.{ℤ, natAbs, _-ℤ_, _*ℤ_}
+use lib.IntN.{ℤ, _*ℤ_}
 use lib.Ieee.{Float}
-use Rattle.limits.specs.Limits.{longest}
 use Rattle.weight.specs.declared.Point.{Point}
 use Rattle.weight.specs.Weight.{Coordinate}
 use Rattle.weight.specs.Edition.{triOf}
-use Rattle.weight.proofs.Laws.Near.{most}
 use Rattle.exact.specs.Whole.{Whole, Natural}
 use Rattle.exact.proofs.Laws.Sums.{whole-sub, whole-mul}
 use Rattle.exact.proofs.Laws.Casts.{natural-nought}
-use Rattle.column.specs.Columns.{cell, farFloat, noughtFloat, Long, Table, row, pairs, productOf, Multiplied, Copied}
+use Rattle.column.specs.Columns.{cell, noughtFloat, Long, Table, row, pairs, productOf, Multiplied, Copied}
 use Rattle.column.proofs.Laws.Rows.{row-more, row-inside}
 use Rattle.table.specs.Products.{pair, pairX, pairY, pairZ}
-use Rattle.table.specs.Told.{far, Lowest}
-use Rattle.table.specs.Table.{Multiples, Tells, Due, OnLoop, Points, Loop, Filled, Sweeping}
+use Rattle.table.specs.Told.{far}
+use Rattle.table.specs.Table.{Multiples, Tells, Due, Loop, Filled, Sweeping}
 use Rattle.table.proofs.Laws.Told.{lowest-begins}
 use Rattle.table.proofs.Laws.Products.{pair-most, product-small}
 use Rattle.table.proofs.Laws.Sweeps.{far-natural}

@@ -1,11 +1,11 @@
 -- The last row's first stretch is the whole loop, so what it tells is the answer.
-use mathlib.Core.Path.{_≡_, refl, sym, ap, _∙_, subst}
+use mathlib.Core.Path.{_≡_, sym, _∙_, subst}
 use mathlib.Core.Bool.{Bool, true, false}
 use mathlib.Core.List.{List}
-use Prim.Native.Nat.{ℕ, suc, _+_, _-_, _*_, _^_, _≤_, _<_}
-use native.Mathlib.Nat.{le-trans, le-of-lt, lt-of-lt-of-le}
+use Prim.Native.Nat.{ℕ, _+_, _-_, _*_, _^_, _≤_, _<_}
+use native.Mathlib.Nat.{le-of-lt}
 use native.Mathlib.Omega.{arith}
-use lib.Dec.{T, lit<}
+use lib.Dec.{T}
 use lib.IntN.{ℤ}
 use lib.ListN.{length}
 use lib.Ieee.{Float, binary64, lt, inUnsigned, toUnsigned}
@@ -13,19 +13,17 @@ use borrow.Author.Tests.{ltb-true, ltb-false}
 use Rattle.limits.specs.Limits.{longest}
 use Rattle.covers.specs.Covers.{NoCover}
 use Rattle.covers.specs.Least.{Least}
-use Rattle.weight.specs.declared.Point.{Point}
 use Rattle.weight.specs.Edition.{naturals, triOf, along}
 use Rattle.weight.proofs.Laws.Named.{named-on-grid}
-use Rattle.exact.specs.Whole.{Natural}
 use Rattle.exact.proofs.Laws.Orders.{natural-less}
 use Rattle.exact.proofs.Laws.Casts.{natural-in-unsigned, natural-to-unsigned}
-use Rattle.column.specs.Columns.{cell, farFloat, Long, Table, row, pairs}
+use Rattle.column.specs.Columns.{cell, farFloat, Long, row, pairs}
 use Rattle.column.proofs.Laws.Rows.{row-inside}
 use Rattle.table.specs.declared.Least.the-variants.{Weight, Nothing}
 use Rattle.table.specs.Told.{far, Told, some, none}
-use Rattle.table.specs.Table.{Tells, OnLoop, Points, Loop, Filled, Fillable, Fills}
-use Rattle.table.specs.Loops.{Barring, GatherRoom, LoopRoom, LeastIs, Found}
-use Rattle.table.proofs.Laws.Told.{told-near, told-far, told-most}
+use Rattle.table.specs.Table.{Tells, Points, Loop, Filled, Fillable, Fills}
+use Rattle.table.specs.Loops.{Barring, GatherRoom, LoopRoom, LeastIs}
+use Rattle.table.proofs.Laws.Told.{told-near, told-most}
 use Rattle.table.proofs.Laws.Sweeps.{far-is, far-natural, light}
 
 module _ (grid : List ℤ) (ring bars : List ℕ) (table : List Float) (r : LoopRoom grid ring bars table) where

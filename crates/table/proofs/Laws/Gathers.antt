@@ -1,25 +1,23 @@
 -- The points of a ring, read from the grid one by one.
-use mathlib.Core.Path.{_≡_, refl, sym, ap, _∙_, subst}
+use mathlib.Core.Path.{_≡_, refl, ap, _∙_, subst}
 use mathlib.Core.List.{List}
-use Prim.Native.Nat.{ℕ, _+_, _*_, _^_, _≤_, _<_}
+use Prim.Native.Nat.{ℕ, _+_, _*_, _≤_, _<_}
 use native.Mathlib.Nat.{lt-of-le-of-lt}
 use native.Mathlib.Omega.{arith}
 use lib.Dec.{lit<}
-use lib.IntN.{ℤ, pos, natAbs}
+use lib.IntN.{ℤ, pos}
 use lib.ListN.{length, getD, set, length-set}
 use lib.Ieee.{Float, binary64, ofInt}
 use mir.Syntax.{w32}
 use mir.Val.{toZ, ofZ}
 use Rattle.limits.specs.Limits.{longest}
-use Rattle.weight.specs.declared.Point.{Point}
-use Rattle.weight.specs.Weight.{Coordinate, Coordinates, pointOf}
+use Rattle.weight.specs.Weight.{Coordinates, pointOf}
 use Rattle.weight.specs.Edition.{along}
 use Rattle.exact.specs.Whole.{Whole}
 use Rattle.exact.proofs.Laws.Casts.{whole-of-word}
-use Rattle.column.specs.Columns.{cell, Long}
 use Rattle.column.proofs.Laws.Columns.{cells-more}
 use Rattle.table.specs.Table.{Points}
-use Rattle.table.specs.Loops.{OnGrid, GatherRoom}
+use Rattle.table.specs.Loops.{GatherRoom}
 
 -- a number of the grid as a float
 abbrev pub gridFloat : List ℤ → ℕ → Float

@@ -1,11 +1,11 @@
 -- A component of a triangle's cross product is, up to its sign, made of the products of its corners by twos: the product of pairs is
 -- bilinear, and turns its sign with its order.
-use mathlib.Core.Path.{_≡_, refl, sym, ap, ap₂, _∙_}
+use mathlib.Core.Path.{_≡_, sym, ap, ap₂, _∙_}
 use Prim.Native.Nat.{ℕ, _+_, _*_, _≤_}
 use native.Mathlib.Omega.{arith}
 use lib.IntN.{ℤ, pos, natAbs, negℤ, _+ℤ_, _-ℤ_, _*ℤ_, +ℤ-assoc, +ℤ-comm, +ℤ-idr, +ℤ-invr, negℤ-+ℤ, negℤ-negℤ, *ℤ-comm}
 use Rattle.weight.specs.declared.Point.{Point}
-use Rattle.weight.specs.Weight.{weightOf, Coordinate, OnGrid}
+use Rattle.weight.specs.Weight.{weightOf, Coordinate}
 use Rattle.weight.proofs.Laws.Sizes.{abs-negative, abs-sum, abs-difference}
 use Rattle.weight.proofs.Laws.Ring.{sum-product, negative-product, negative-difference}
 use Rattle.weight.proofs.Laws.Near.{most, component-most, product-most}

@@ -1,9 +1,9 @@
 -- One turn of a column: m..k is settled, and each stretch before it may take the way by m.
-use mathlib.Core.Path.{_≡_, refl, sym, ap, ap₂, _∙_, subst}
+use mathlib.Core.Path.{_≡_, refl, sym, ap, _∙_, subst}
 use mathlib.Core.Logic.{_⊎_, inl, inr}
 use mathlib.Core.Bool.{Bool, true, false, cond, true≢false}
 use mathlib.Core.List.{List}
-use Prim.Native.Nat.{ℕ, suc, _+_, _-_, _*_, _^_, _≤_, _<_}
+use Prim.Native.Nat.{ℕ, suc, _+_, _*_, _^_, _≤_, _<_}
 use native.Mathlib.Nat.{le-trans, le-refl, le-of-lt, lt-of-le-of-lt, eq-or-lt-of-le}
 use native.Mathlib.Omega.{arith}
 use lib.Dec.{ltb, lit<}
@@ -15,20 +15,20 @@ use borrow.Author.Tests.{ltb-true, ltb-false}
 use Rattle.limits.specs.Limits.{longest}
 use Rattle.covers.specs.Covers.{Cover, Covers, weight}
 use Rattle.weight.specs.declared.Point.{Point}
-use Rattle.weight.specs.Weight.{weightOf, OnGrid}
+use Rattle.weight.specs.Weight.{weightOf}
 use Rattle.weight.specs.Edition.{naturals, triOf}
 use Rattle.weight.proofs.Laws.Near.{most}
 use Rattle.weight.proofs.Laws.Totals.{cover-below}
-use Rattle.exact.specs.Whole.{Whole, Natural, sizeOf}
+use Rattle.exact.specs.Whole.{Whole, Natural}
 use Rattle.exact.proofs.Laws.Sums.{whole-add, whole-sub, natural-add}
 use Rattle.exact.proofs.Laws.Orders.{natural-less}
 use Rattle.exact.proofs.Laws.Clearing.{whole-size}
 use Rattle.exact.proofs.Laws.Casts.{natural-far}
-use Rattle.masks.specs.Masks.{bit, Rows}
+use Rattle.masks.specs.Masks.{bit}
 use Rattle.column.specs.Columns.{cell, farFloat, Long, Table, row, pairs, gapOf, byWay, Sizable, RelaxRoom, Relaxed, lesserOf}
 use Rattle.column.proofs.Laws.Rows.{row-next, row-more, row-inside}
 use Rattle.table.specs.Products.{pairX, pairY, pairZ}
-use Rattle.table.specs.Told.{far, Told, some, none, Way, Lowest}
+use Rattle.table.specs.Told.{far, Told, Way, Lowest}
 use Rattle.table.specs.Table.{settledOf, Multiples, Tells, Due, OnLoop, Sweeping}
 use Rattle.table.proofs.Laws.Told.{told-side, told-barred, told-free, told-most, lowest-take, lowest-keep, lowest-skip}
 use Rattle.table.proofs.Laws.Products.{pair-most, sum-most, weight-by-products}

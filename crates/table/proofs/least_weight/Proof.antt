@@ -1,6 +1,6 @@
 -- `least_weight` fills the table, and reads the whole loop's place.
 use Rattle.table.proofs.Laws.Found.{gather-room, fillable, place-in, castable, found-some, found-none}
-use mathlib.Core.Path.{refl, sym, _∙_}
+use mathlib.Core.Path.{refl}
 use lib.Dec.{lit<}
 use native.Mathlib.Omega.{arith}
 use borrow.Author.Needs.{needs}

@@ -1,6 +1,5 @@
 -- `turn` settles m..k and lets the stretches before it take the way by m.
 use Rattle.table.proofs.Laws.Turns.{turn-room, turn-relaxes, turn-skips, turn-relax-room}
-use mathlib.Core.Path.{sym, _∙_}
 use borrow.Author.Needs.{needs}
 use Rattle.table.proofs.turn.Statement.{statement}
 use Rattle.table.proofs.turn.Tie as tie

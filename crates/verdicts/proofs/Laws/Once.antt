@@ -1,7 +1,7 @@
 -- A set has one verdict at most. One loop has one fault at most, and none if it is right: a set is one cover at most, so the cover that has a
 -- barred diagonal is not the allowed one, and the one that has a lighter one is not the one that has none.
-use mathlib.Core.Path.{_≡_, sym, ap, _∙_, subst}
-use mathlib.Core.Bool.{true≢false}
+use mathlib.Core.Path.{_≡_, refl, sym, ap, _∙_, subst}
+use mathlib.Core.Bool.{false, true≢false}
 use mathlib.Core.Logic.{inl, inr}
 use mathlib.Core.List.{List, [], _∷_, _++_}
 use Prim.Native.Nat.{ℕ, suc, _+_, _-_, _<_, _≤_}
@@ -9,12 +9,13 @@ use native.Mathlib.Omega.{arith}
 use lib.IntN.{ℤ}
 use lib.ListN.{length, getD, take, drop}
 use Rattle.limits.specs.Limits as limits
+use Rattle.terms.specs.Answers.{refusing, numberOf}
 use Rattle.terms.specs.declared.Answer.{Answer}
-use Rattle.terms.specs.declared.Answer.the-variants.{Done, Words, Corners, Buffer, Unnamed, Twice, Repeated, NotFinite, TooFar, States, Line, Misdeclared, Uncovered, Barred, Heavy, LeftOver}
+use Rattle.terms.specs.declared.Answer.the-variants.{Done, Misdeclared, Uncovered, Barred, Heavy}
 use Rattle.covers.specs.Covers.{Cover, Uses, vertexOf}
 use Rattle.covers.specs.Sets.{triples}
 use Rattle.covers.proofs.Laws.Closed.{Different, covered-once}
-use Rattle.verdicts.specs.Faults.{share, IsCover, AllowedHere, Lighter, Right, patched, long, open-left, WrongState, no-state, two-on-a-short, not-two-on-a-long, three-with-a-cover, NoCoverTaken, BarredTaken, HeavyTaken, DeclaredPatched, Fault}
+use Rattle.verdicts.specs.Faults.{share, IsCover, AllowedHere, Lighter, Right, patched, long, open-left, WrongState, no-state, two-on-a-short, not-two-on-a-long, three-with-a-cover, BarredTaken, HeavyTaken, Fault, misdeclared, no-cover, cover-barred, too-heavy}
 use Rattle.verdicts.specs.Verdicts.{taken, Verdict}
 
 -- "Every loop has 3 or more edges and no vertex twice."
@@ -82,61 +83,46 @@ module _ (ring set : List ℕ) (different : Different (length ring) (vertexOf ri
   heavy-not-least grid input laid h c t n = n (subst (Lighter grid input laid ring) (one-cover (h .cover) c (h .taken) t) (h .lighter))
 
 module _ (grid : List ℤ) (input laid : List ℕ) (l : ℕ) (ring : List ℕ) (state : ℕ) (set : List ℕ) where
-  -- a fault, by its kind
-  data Kind (a : Answer) : Type 0 where
-    misdeclared : a ≡ Misdeclared l → WrongState input laid ring state → Kind a
-    uncovered : a ≡ Uncovered l → DeclaredPatched input laid ring state → NoCoverTaken ring set → Kind a
-    barred : a ≡ Barred l → DeclaredPatched input laid ring state → BarredTaken input laid ring set → Kind a
-    heavy : a ≡ Heavy l → DeclaredPatched input laid ring state → HeavyTaken grid input laid ring set → Kind a
+  -- a fault is no refusal, and something is said
+  pub fault-told : (a : Answer) → Fault grid input laid l ring state set a → refusing a ≡ false
+  fault-told a (misdeclared e w) = ap refusing e
+  fault-told a (no-cover e s n) = ap refusing e
+  fault-told a (cover-barred e s n) = ap refusing e
+  fault-told a (too-heavy e s n) = ap refusing e
 
-  kind : (a : Answer) → Fault grid input laid l ring state set a → Kind a
-  kind (Misdeclared at) f = misdeclared (ap Misdeclared (f .0)) (f .1)
-  kind (Uncovered at) f = uncovered (ap Uncovered (f .0)) (f .1) (f .2)
-  kind (Barred at) f = barred (ap Barred (f .0)) (f .1) (f .2)
-  kind (Heavy at) f = heavy (ap Heavy (f .0)) (f .1) (f .2)
-  kind Done f = absurd f
-  kind Words f = absurd f
-  kind Corners f = absurd f
-  kind (Buffer b) f = absurd f
-  kind (Unnamed c) f = absurd f
-  kind (Twice t) f = absurd f
-  kind (Repeated h) f = absurd f
-  kind (NotFinite w) f = absurd f
-  kind (TooFar w) f = absurd f
-  kind (States n) f = absurd f
-  kind (Line n) f = absurd f
-  kind (LeftOver c) f = absurd f
+  not-done : (a b : Answer) (n : ℕ) → numberOf b ≡ suc n → a ≡ b → a ≡ Done → ⊥
+  not-done a b n k e d = let z : numberOf b ≡ numberOf Done = ap numberOf (sym e ∙ d) in omega (arith, k)
+
+  pub fault-said : (a : Answer) → Fault grid input laid l ring state set a → a ≡ Done → ⊥
+  fault-said a (misdeclared e w) = not-done a (Misdeclared l) 10 refl e
+  fault-said a (no-cover e s n) = not-done a (Uncovered l) 11 refl e
+  fault-said a (cover-barred e s n) = not-done a (Barred l) 12 refl e
+  fault-said a (too-heavy e s n) = not-done a (Heavy l) 13 refl e
 
   module _ (different : Different (length ring) (vertexOf ring)) where
-    kind-once : (a b : Answer) → Kind a → Kind b → a ≡ b
-    kind-once a b (misdeclared e w) (misdeclared f x) = e ∙ sym f
-    kind-once a b (misdeclared e w) (uncovered f s n) = absurd (s .not-wrong w)
-    kind-once a b (misdeclared e w) (barred f s n) = absurd (s .not-wrong w)
-    kind-once a b (misdeclared e w) (heavy f s n) = absurd (s .not-wrong w)
-    kind-once a b (uncovered e s n) (misdeclared f w) = absurd (s .not-wrong w)
-    kind-once a b (uncovered e s n) (uncovered f t m) = e ∙ sym f
-    kind-once a b (uncovered e s n) (barred f t m) = absurd (n (m .cover) (m .taken))
-    kind-once a b (uncovered e s n) (heavy f t m) = absurd (n (m .cover) (m .taken))
-    kind-once a b (barred e s n) (misdeclared f w) = absurd (s .not-wrong w)
-    kind-once a b (barred e s n) (uncovered f t m) = absurd (m (n .cover) (n .taken))
-    kind-once a b (barred e s n) (barred f t m) = e ∙ sym f
-    kind-once a b (barred e s n) (heavy f t m) = absurd (barred-not-allowed ring set different input laid n (m .cover) (m .taken) (m .allowed))
-    kind-once a b (heavy e s n) (misdeclared f w) = absurd (s .not-wrong w)
-    kind-once a b (heavy e s n) (uncovered f t m) = absurd (m (n .cover) (n .taken))
-    kind-once a b (heavy e s n) (barred f t m) = absurd (barred-not-allowed ring set different input laid m (n .cover) (n .taken) (n .allowed))
-    kind-once a b (heavy e s n) (heavy f t m) = e ∙ sym f
-
     pub fault-once : (a b : Answer) → Fault grid input laid l ring state set a → Fault grid input laid l ring state set b → a ≡ b
-    fault-once a b p q = kind-once a b (kind a p) (kind b q)
-
-    right-no-kind : (a : Answer) → Right grid input laid ring state set → Kind a → ⊥
-    right-no-kind a r (misdeclared e w) = right-not-wrong grid input laid ring state set r w
-    right-no-kind a r (uncovered e s n) = let p = right-patched grid input laid ring state set (s .is-one) r in n (p .cover) (p .taken)
-    right-no-kind a r (barred e s n) = let p = right-patched grid input laid ring state set (s .is-one) r in barred-not-allowed ring set different input laid n (p .cover) (p .taken) (p .allowed)
-    right-no-kind a r (heavy e s n) = let p = right-patched grid input laid ring state set (s .is-one) r in heavy-not-least ring set different grid input laid n (p .cover) (p .taken) (p .least)
+    fault-once a b (misdeclared e w) (misdeclared f x) = e ∙ sym f
+    fault-once a b (misdeclared e w) (no-cover f s n) = absurd (s .not-wrong w)
+    fault-once a b (misdeclared e w) (cover-barred f s n) = absurd (s .not-wrong w)
+    fault-once a b (misdeclared e w) (too-heavy f s n) = absurd (s .not-wrong w)
+    fault-once a b (no-cover e s n) (misdeclared f w) = absurd (s .not-wrong w)
+    fault-once a b (no-cover e s n) (no-cover f t m) = e ∙ sym f
+    fault-once a b (no-cover e s n) (cover-barred f t m) = absurd (n (m .cover) (m .taken))
+    fault-once a b (no-cover e s n) (too-heavy f t m) = absurd (n (m .cover) (m .taken))
+    fault-once a b (cover-barred e s n) (misdeclared f w) = absurd (s .not-wrong w)
+    fault-once a b (cover-barred e s n) (no-cover f t m) = absurd (m (n .cover) (n .taken))
+    fault-once a b (cover-barred e s n) (cover-barred f t m) = e ∙ sym f
+    fault-once a b (cover-barred e s n) (too-heavy f t m) = absurd (barred-not-allowed ring set different input laid n (m .cover) (m .taken) (m .allowed))
+    fault-once a b (too-heavy e s n) (misdeclared f w) = absurd (s .not-wrong w)
+    fault-once a b (too-heavy e s n) (no-cover f t m) = absurd (m (n .cover) (n .taken))
+    fault-once a b (too-heavy e s n) (cover-barred f t m) = absurd (barred-not-allowed ring set different input laid m (n .cover) (n .taken) (n .allowed))
+    fault-once a b (too-heavy e s n) (too-heavy f t m) = e ∙ sym f
 
     pub right-no-fault : (a : Answer) → Right grid input laid ring state set → Fault grid input laid l ring state set a → ⊥
-    right-no-fault a r f = right-no-kind a r (kind a f)
+    right-no-fault a r (misdeclared e w) = right-not-wrong grid input laid ring state set r w
+    right-no-fault a r (no-cover e s n) = let p = right-patched grid input laid ring state set (s .is-one) r in n (p .cover) (p .taken)
+    right-no-fault a r (cover-barred e s n) = let p = right-patched grid input laid ring state set (s .is-one) r in barred-not-allowed ring set different input laid n (p .cover) (p .taken) (p .allowed)
+    right-no-fault a r (too-heavy e s n) = let p = right-patched grid input laid ring state set (s .is-one) r in heavy-not-least ring set different grid input laid n (p .cover) (p .taken) (p .least)
 
 -- ---- all loops
 
@@ -154,3 +140,14 @@ verdict-once grid input laid l at (r ∷ rings) (s ∷ states) set a b h (inr p)
 verdict-once grid input laid l at (r ∷ rings) (s ∷ states) set a b h (inr p) (inr q) =
     let k = taken r s in
     verdict-once grid input (laid ++ take k set) (suc l) (at + k) rings states (drop k set) a b (rings-rest r rings h) (p .1) (q .1)
+
+-- a verdict is no refusal
+pub verdict-told : (grid : List ℤ) (input laid : List ℕ) (l at : ℕ) (rings : List (List ℕ)) (states set : List ℕ) (a : Answer) → Verdict grid input laid l at rings states set a → refusing a ≡ false
+verdict-told grid input laid l at [] [] [] a e = ap refusing e
+verdict-told grid input laid l at [] [] (x ∷ set) a e = ap refusing e
+verdict-told grid input laid l at [] (s ∷ states) set a v = absurd v
+verdict-told grid input laid l at (r ∷ rings) [] set a v = absurd v
+verdict-told grid input laid l at (r ∷ rings) (s ∷ states) set a (inl f) = fault-told grid input laid l r s set a f
+verdict-told grid input laid l at (r ∷ rings) (s ∷ states) set a (inr v) =
+    let k = taken r s in
+    verdict-told grid input (laid ++ take k set) (suc l) (at + k) rings states (drop k set) a (v .1)

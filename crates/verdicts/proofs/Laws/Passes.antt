@@ -9,6 +9,7 @@ use lib.ListN.{take, drop}
 use Rattle.terms.specs.declared.Answer.the-variants.{Done}
 use Rattle.terms.specs.Answers.{numberOf}
 use Rattle.verdicts.specs.Verdicts.{taken, leftOver, Verdict, AllRight}
+use Rattle.verdicts.proofs.Laws.Once.{fault-said}
 
 none-left : (at : ℕ) (set : List ℕ) → Done ≡ leftOver at set → set ≡ []
 none-left at [] e = refl
@@ -19,7 +20,7 @@ pub passes-right : (grid : List ℤ) (input laid : List ℕ) (l at : ℕ) (rings
 passes-right grid input laid l at [] [] set v = none-left at set v
 passes-right grid input laid l at [] (s ∷ states) set v = absurd v
 passes-right grid input laid l at (r ∷ rings) [] set v = absurd v
-passes-right grid input laid l at (r ∷ rings) (s ∷ states) set (inl f) = absurd f
+passes-right grid input laid l at (r ∷ rings) (s ∷ states) set (inl f) = absurd (fault-said grid input laid l r s set Done f refl)
 passes-right grid input laid l at (r ∷ rings) (s ∷ states) set (inr v) =
     let k = taken r s in
     (v .0, passes-right grid input (laid ++ take k set) (suc l) (at + k) rings states (drop k set) (v .1))
