@@ -2,9 +2,10 @@
 use mathlib.Core.Path.{_≡_, sym, _∙_}
 use mathlib.Core.Logic.{_⊎_, inl, inr}
 use mathlib.Core.List.{List}
-use Prim.Native.Nat.{ℕ, _≤_}
+use Prim.Native.Nat.{ℕ, suc, _≤_}
 use native.Mathlib.Omega.{arith}
 use lib.ListN.{length, take}
+use Rattle.limits.specs.Limits as limits
 use Rattle.terms.specs.declared.Answer.{Answer}
 use Rattle.texts.specs.Text.{TextOf}
 use Rattle.texts.specs.Fault.{Fault}
@@ -33,19 +34,19 @@ hears-once sheet patches a b p q = go (sheets.text-or-fault sheet)
     go (inr f) = p .of-fault (f .0) (f .1) ∙ sym (q .of-fault (f .0) (f .1))
 
 -- what is right for the first bytes of both, one more than the longest text of a set has, is right for all
-pub hears-front : (sheet patches : List ℕ) (a : Answer) → Hears (take 56348 sheet) (take 56348 patches) a → Hears sheet patches a
+pub hears-front : (sheet patches : List ℕ) (a : Answer) → Hears (take (suc limits.set-text) sheet) (take (suc limits.set-text) patches) a → Hears sheet patches a
 hears-front sheet patches a p =
     record {
       of-fault = λ line f. p .of-fault line (sheet-fault line f);
-      of-set-fault = λ ps ts t line f. p .of-set-fault ps ts (sheet-text ps ts t) line (fault-first set.states set.triangles 56347 (λ b ss us u. set-longest u) patches line f);
-      of-set = λ ps ts t ss us u. p .of-set ps ts (sheet-text ps ts t) ss us (text-first set.states set.triangles 56347 (λ b ss us u. set-longest u) patches ss us u);
+      of-set-fault = λ ps ts t line f. p .of-set-fault ps ts (sheet-text ps ts t) line (fault-first set.states set.triangles limits.set-text (λ b ss us u. set-longest u) patches line f);
+      of-set = λ ps ts t ss us u. p .of-set ps ts (sheet-text ps ts t) ss us (text-first set.states set.triangles limits.set-text (λ b ss us u. set-longest u) patches ss us u);
     }
   where
-    no-longer : (bytes : List ℕ) (ps ts : List Three) → TextOf points triangles bytes ps ts → length bytes ≤ 56347
+    no-longer : (bytes : List ℕ) (ps ts : List Three) → TextOf points triangles bytes ps ts → length bytes ≤ limits.set-text
     no-longer bytes ps ts t = omega (arith, longest t)
 
-    sheet-fault : (line : ℕ) → Fault points triangles sheet line → Fault points triangles (take 56348 sheet) line
-    sheet-fault = fault-first points triangles 56347 no-longer sheet
+    sheet-fault : (line : ℕ) → Fault points triangles sheet line → Fault points triangles (take (suc limits.set-text) sheet) line
+    sheet-fault = fault-first points triangles limits.set-text no-longer sheet
 
-    sheet-text : (ps ts : List Three) → TextOf points triangles sheet ps ts → TextOf points triangles (take 56348 sheet) ps ts
-    sheet-text = text-first points triangles 56347 no-longer sheet
+    sheet-text : (ps ts : List Three) → TextOf points triangles sheet ps ts → TextOf points triangles (take (suc limits.set-text) sheet) ps ts
+    sheet-text = text-first points triangles limits.set-text no-longer sheet

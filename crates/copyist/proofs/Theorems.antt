@@ -3,12 +3,13 @@ use mathlib.Core.Path.{_≡_, refl, sym, subst, _∙_}
 use mathlib.Core.Bool.{Bool, true, false}
 use mathlib.Core.Logic.{_⊎_, inl, inr}
 use mathlib.Core.List.{List}
-use Prim.Native.Nat.{ℕ, _/_, _<_, _≤_}
+use Prim.Native.Nat.{ℕ, suc, _/_, _<_, _≤_}
 use native.Mathlib.Omega.{arith}
 use lib.Dec.{leb}
 use lib.ListN.{length, take}
 use lib.Seq.{take-all}
 use borrow.Author.Tests.{leb-true, leb-false}
+use Rattle.limits.specs.Limits as limits
 use Rattle.surface.specs.declared.Found.{Found}
 use Rattle.surface.specs.declared.Found.the-variants.{At, Nothing}
 use Rattle.surface.specs.Smallest.{least}
@@ -35,18 +36,18 @@ rewrites-once bytes out out′ p q = go (text-or-fault bytes)
     go (inr f) = p .of-fault (f .0) (f .1) ∙ sym (q .of-fault (f .0) (f .1))
 
 -- what is right for the first bytes, one more than the longest text has, is right for all
-pub room-enough : (bytes out : List ℕ) → Rewrites (take 47132 bytes) out → Rewrites bytes out
-room-enough bytes out p = go (leb (length bytes) 47131) refl
+pub room-enough : (bytes out : List ℕ) → Rewrites (take (suc limits.sheet-text) bytes) out → Rewrites bytes out
+room-enough bytes out p = go (leb (length bytes) limits.sheet-text) refl
   where
-    short : length bytes ≤ 47131 → take 47132 bytes ≡ bytes
-    short h = take-all 47132 bytes (omega arith)
+    short : length bytes ≤ limits.sheet-text → take (suc limits.sheet-text) bytes ≡ bytes
+    short h = take-all (suc limits.sheet-text) bytes (omega arith)
 
-    go : (b : Bool) → leb (length bytes) 47131 ≡ b → Rewrites bytes out
-    go true e = subst (λ (l : List ℕ). Rewrites l out) (short (leb-true (length bytes) 47131 e)) p
+    go : (b : Bool) → leb (length bytes) limits.sheet-text ≡ b → Rewrites bytes out
+    go true e = subst (λ (l : List ℕ). Rewrites l out) (short (leb-true (length bytes) limits.sheet-text e)) p
     go false e =
-        let more : 47131 < length bytes = leb-false (length bytes) 47131 e in
+        let more : limits.sheet-text < length bytes = leb-false (length bytes) limits.sheet-text e in
         record {
           of-sheet = λ ps ts t n. absurd (omega (arith, longest t, more));
           of-unnamed = λ ps ts i t n. absurd (omega (arith, longest t, more));
-          of-fault = λ line f. p .of-fault line (fault-front points triangles 47131 (λ b ps ts t. longest t) bytes more f);
+          of-fault = λ line f. p .of-fault line (fault-front points triangles limits.sheet-text (λ b ps ts t. longest t) bytes more f);
         }

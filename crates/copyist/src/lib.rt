@@ -1,4 +1,4 @@
-// Writes a sheet text that was read again, or the line of an answer.
+// Reads a sheet text and writes it again, or the line of an answer.
 ghost use mathlib.Core.Path.{_≡_};
 ghost use Prim.Native.Nat.{_≤_};
 ghost use lib.ListN.{length, take};

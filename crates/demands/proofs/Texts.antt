@@ -6,6 +6,7 @@ use mathlib.Core.List.{List, [], _∷_}
 use Prim.Native.Nat.{ℕ, _+_, _/_, _≤_}
 use native.Mathlib.Omega.{arith}
 use lib.ListN.{length, take}
+use Rattle.limits.specs.Limits as limits
 use Rattle.terms.specs.Answers.{refusing}
 use Rattle.terms.specs.declared.Answer.{Answer}
 use Rattle.terms.specs.declared.Answer.the-variants.{Done, Buffer, Unnamed, Line}
@@ -146,5 +147,5 @@ texts-demand = record {
   longest-met = longest-met;
   wrong-line = λ bytes words corners o r line d. told-wrong bytes words corners o r line d;
   line-wrong = λ bytes words corners o r line f. ap (λ (p : ReadOutcome). p .answer) (r .of-fault line f);
-  front-enough = λ bytes m line f. fault-whole points triangles 47131 (λ b ps ts t. longest t) bytes m f;
+  front-enough = λ bytes m line f. fault-whole points triangles limits.sheet-text (λ b ps ts t. longest t) bytes m f;
 }

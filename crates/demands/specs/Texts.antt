@@ -1,8 +1,9 @@
 -- Demand 2, of texts: "a sheet we write reads back as the same sheet, and a text we accept is the one we would write."
 use mathlib.Core.Path.{_≡_}
 use mathlib.Core.List.{List}
-use Prim.Native.Nat.{ℕ, _^_, _<_, _≤_}
+use Prim.Native.Nat.{ℕ, suc, _^_, _<_, _≤_}
 use lib.ListN.{length, getD, take}
+use Rattle.limits.specs.Limits as limits
 use Rattle.terms.specs.declared.Answer.the-variants.{Done, Line}
 use Rattle.surface.specs.Buffers.{over}
 use Rattle.texts.specs.Text.{TextOf}
@@ -34,10 +35,10 @@ pub record TextsDemand : Type 0 where
   -- Two sheets with one text are equal.
   pub one-sheet : (bytes : List ℕ) (ps ps′ ts ts′ : List Three) → TextOf points triangles bytes ps ts → TextOf points triangles bytes ps′ ts′ → (ps ≡ ps′) × (ts ≡ ts′)
   -- "The longest text has 47,131 bytes."
-  pub longest : (bytes : List ℕ) (ps ts : List Three) → TextOf points triangles bytes ps ts → length bytes ≤ 47131
-  pub longest-met : (bytes : List ℕ) × (ps : List Three) × (ts : List Three) × TextOf points triangles bytes ps ts × (length bytes ≡ 47131)
+  pub longest : (bytes : List ℕ) (ps ts : List Three) → TextOf points triangles bytes ps ts → length bytes ≤ limits.sheet-text
+  pub longest-met : (bytes : List ℕ) × (ps : List Three) × (ts : List Three) × TextOf points triangles bytes ps ts × (length bytes ≡ limits.sheet-text)
   -- A line is called wrong exactly if the lines before it begin some sheet's text and, with this one, no sheet's text begins so.
   pub wrong-line : (bytes words corners : List ℕ) (o : ReadOutcome) → Reads bytes words corners o → (line : ℕ) → o .answer ≡ Line line → Fault points triangles bytes line
   pub line-wrong : (bytes words corners : List ℕ) (o : ReadOutcome) → Reads bytes words corners o → (line : ℕ) → Fault points triangles bytes line → o .answer ≡ Line line
   -- So long a text needs no more than a byte past the longest to be answered.
-  pub front-enough : (bytes : List ℕ) → 47131 < length bytes → (line : ℕ) → Fault points triangles (take 47132 bytes) line → Fault points triangles bytes line
+  pub front-enough : (bytes : List ℕ) → limits.sheet-text < length bytes → (line : ℕ) → Fault points triangles (take (suc limits.sheet-text) bytes) line → Fault points triangles bytes line

@@ -2,10 +2,11 @@
 ghost use Rattle.io.specs.Counts.{Counts};
 use libc::STDIN_FILENO;
 use libc::STDOUT_FILENO;
+use terms::PatchSet;
 use terms::Surface;
 
 // A byte more than the longest text of a set has, so that a longer one is seen to be longer; a sheet's text is shorter.
-const ROOM: usize = 56348;
+const ROOM: usize = PatchSet::TEXT + 1;
 
 // The sheet's text is taken in before the set's takes the same room.
 fn main() {

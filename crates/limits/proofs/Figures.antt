@@ -1,7 +1,7 @@
 -- Figures of the scope that follow from the limits. They hold at these limits and at no others, so none can be moved unseen.
-use Prim.Native.Nat.{_+_, _-_, _*_, _/_}
+use Prim.Native.Nat.{_-_, _*_, _/_}
 use mathlib.Core.Path.{_≡_, refl}
-use Rattle.limits.specs.Limits.{points, triangles, words, corners, states, patches, set-corners, greatest, longest}
+use Rattle.limits.specs.Limits.{points, triangles, words, corners, states, patches, set-corners, greatest, longest, sheet-text, set-text}
 
 -- three words a point and three corners a triangle
 pub words-are : words ≡ 3 * points
@@ -20,9 +20,12 @@ patches-are = refl
 pub set-corners-are : set-corners ≡ 9 * triangles
 set-corners-are = refl
 
--- The longest sheet text: two counts of four digits, 29 bytes a point and 17 a triangle with corners of four digits.
-pub longest-text : 12 + 29 * points + (15 + 17 * triangles) ≡ 47131
+-- The longest texts.
+pub longest-text : sheet-text ≡ 47131
 longest-text = refl
+
+pub longest-set : set-text ≡ 56347
+longest-set = refl
 
 -- The greatest weight that is promised: three components, each the difference of two products of differences.
 pub greatest-weight : 3 * (2 * (2 * greatest * (2 * greatest))) ≡ 25768230936

@@ -1,5 +1,5 @@
 -- The limits that the types of `terms` state, for the definitions of every crate above. No number stands here.
-use Prim.Native.Nat.{ℕ}
+use Prim.Native.Nat.{ℕ, _+_, _*_}
 use Rattle.terms.proofs.Surface.takes_points.⟦Self·POINTS⟧-asked.Lts as for-points
 use Rattle.terms.proofs.Surface.takes_triangles.⟦Self·TRIANGLES⟧-asked.Lts as for-triangles
 use Rattle.terms.proofs.Surface.takes_words.⟦Self·WORDS⟧-asked.Lts as for-words
@@ -40,3 +40,11 @@ greatest = for-grid.answer tt tt
 -- how many edges a loop has at most that is not long
 abbrev pub longest : ℕ
 longest = for-loop.answer tt tt
+
+-- how many bytes the longest sheet text has and the longest text of a patch set: two counts of four digits, 29 bytes a point or 4 a state,
+-- and 17 a triangle with corners of four digits
+abbrev pub sheet-text : ℕ
+sheet-text = 12 + 29 * points + (15 + 17 * triangles)
+
+abbrev pub set-text : ℕ
+set-text = 12 + 4 * states + (15 + 17 * patches)

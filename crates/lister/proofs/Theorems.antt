@@ -4,12 +4,13 @@ use mathlib.Core.Path.{_≡_, refl, sym, ap, subst, _∙_}
 use mathlib.Core.Bool.{Bool, true, false, true≢false}
 use mathlib.Core.Logic.{_⊎_, inl, inr}
 use mathlib.Core.List.{List, [], flatten}
-use Prim.Native.Nat.{ℕ, _<_, _≤_}
+use Prim.Native.Nat.{ℕ, suc, _<_, _≤_}
 use native.Mathlib.Omega.{arith}
 use lib.Dec.{leb}
 use lib.ListN.{length, take}
 use lib.Seq.{take-all}
 use borrow.Author.Tests.{leb-true, leb-false}
+use Rattle.limits.specs.Limits as limits
 use Rattle.terms.specs.Answers.{refusing}
 use Rattle.terms.specs.declared.Answer.{Answer}
 use Rattle.surface.specs.Refusals.{refusal}
@@ -76,17 +77,17 @@ pub pieces-printed : (bytes : List ℕ) (loops : List Shown) (pieces : List (Lis
 pieces-printed bytes loops pieces p q = subst (Prints bytes) (sym (pieces-joined loops pieces q)) p
 
 -- what is right for the first bytes, one more than the longest text has, is right for all
-pub prints-front : (bytes out : List ℕ) → Prints (take 47132 bytes) out → Prints bytes out
-prints-front bytes out p = go (leb (length bytes) 47131) refl
+pub prints-front : (bytes out : List ℕ) → Prints (take (suc limits.sheet-text) bytes) out → Prints bytes out
+prints-front bytes out p = go (leb (length bytes) limits.sheet-text) refl
   where
-    short : length bytes ≤ 47131 → take 47132 bytes ≡ bytes
-    short h = take-all 47132 bytes (omega arith)
+    short : length bytes ≤ limits.sheet-text → take (suc limits.sheet-text) bytes ≡ bytes
+    short h = take-all (suc limits.sheet-text) bytes (omega arith)
 
-    go : (b : Bool) → leb (length bytes) 47131 ≡ b → Prints bytes out
-    go true e = subst (λ (l : List ℕ). Prints l out) (short (leb-true (length bytes) 47131 e)) p
+    go : (b : Bool) → leb (length bytes) limits.sheet-text ≡ b → Prints bytes out
+    go true e = subst (λ (l : List ℕ). Prints l out) (short (leb-true (length bytes) limits.sheet-text e)) p
     go false e =
-        let more : 47131 < length bytes = leb-false (length bytes) 47131 e in
+        let more : limits.sheet-text < length bytes = leb-false (length bytes) limits.sheet-text e in
         record {
-          of-fault = λ line f. p .of-fault line (fault-front points triangles 47131 (λ b ps ts t. longest t) bytes more f);
+          of-fault = λ line f. p .of-fault line (fault-front points triangles limits.sheet-text (λ b ps ts t. longest t) bytes more f);
           of-text = λ ps ts t. absurd (omega (arith, longest t, more));
         }

@@ -9,7 +9,7 @@ use terms::PatchSet;
 use terms::Surface;
 
 // A byte more than the longest text has, so that a longer one is seen to be longer. What is printed takes the same room.
-const ROOM: usize = 47132;
+const ROOM: usize = Surface::TEXT + 1;
 
 fn main() {
     let mut room = [0u8; ROOM];

@@ -1,9 +1,10 @@
 // Reads a sheet text from standard input and prints it written again, or an answer line.
 use libc::STDIN_FILENO;
 use libc::STDOUT_FILENO;
+use terms::Surface;
 
 // A byte more than the longest text has, so that a longer one is seen to be longer.
-const ROOM: usize = 47132;
+const ROOM: usize = Surface::TEXT + 1;
 
 fn main() {
     let mut room = [0u8; ROOM];

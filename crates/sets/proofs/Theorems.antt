@@ -2,9 +2,10 @@
 use mathlib.Core.Path.{_≡_, refl, sym, ap, _∙_}
 use mathlib.Core.Logic.{_⊎_, inl, inr}
 use mathlib.Core.List.{List, [], _∷_, _++_, map, flatten}
-use Prim.Native.Nat.{ℕ, _*_, _<_, _≤_}
+use Prim.Native.Nat.{ℕ, suc, _*_, _<_, _≤_}
 use native.Mathlib.Omega.{arith}
 use lib.ListN.{length, take, length-append}
+use Rattle.limits.specs.Limits as limits
 use Rattle.texts.specs.Text.{count, TextOf}
 use Rattle.texts.specs.Fault.{Fault}
 use Rattle.texts.proofs.Laws.Lines.{text-flat}
@@ -36,7 +37,7 @@ states-length [] = refl
 states-length (s ∷ ss) = length-append (text.states .show s) (flatten (map (text.states .show) ss)) ∙ omega (arith, states-length ss)
 
 -- no text of a set is longer,
-pub set-longest : {bytes : List ℕ} {ss : List ℕ} {ts : List Three} → TextOf text.states text.triangles bytes ss ts → length bytes ≤ 56347
+pub set-longest : {bytes : List ℕ} {ss : List ℕ} {ts : List Three} → TextOf text.states text.triangles bytes ss ts → length bytes ≤ limits.set-text
 set-longest {bytes} {ss} {ts} t =
     let s = t .says in
     let p : List ℕ = flatten (map (text.states .show) ss) in
@@ -60,5 +61,5 @@ set-longest {bytes} {ss} {ts} t =
     )
 
 -- so a byte past that is enough to tell the line of a fault
-pub set-front : (bytes : List ℕ) → 56347 < length bytes → (line : ℕ) → Fault text.states text.triangles (take 56348 bytes) line → Fault text.states text.triangles bytes line
-set-front bytes m line f = fault-whole text.states text.triangles 56347 (λ b ss ts t. set-longest t) bytes m f
+pub set-front : (bytes : List ℕ) → limits.set-text < length bytes → (line : ℕ) → Fault text.states text.triangles (take (suc limits.set-text) bytes) line → Fault text.states text.triangles bytes line
+set-front bytes m line f = fault-whole text.states text.triangles limits.set-text (λ b ss ts t. set-longest t) bytes m f

@@ -71,7 +71,7 @@ triangles-most (t ∷ ts) h =
     )
 
 -- no text is longer,
-pub longest : {bytes : List ℕ} {ps ts : List Three} → TextOf points triangles bytes ps ts → length bytes ≤ 47131
+pub longest : {bytes : List ℕ} {ps ts : List Three} → TextOf points triangles bytes ps ts → length bytes ≤ limits.sheet-text
 longest {bytes} {ps} {ts} t =
     let s = t .says in
     omega (
@@ -124,7 +124,7 @@ module _ (p t c : ℕ) (hp : p ≤ limits.points) (ht : t ≤ limits.triangles) 
   of-that-length : (bytes : List ℕ) × (xs : List Three) × (ys : List Three) × TextOf points triangles bytes xs ys × (length bytes ≡ 12 + 29 * p + (15 + 17 * t))
   of-that-length = (texts.text points triangles ps ts, ps, ts, long-text, as-long)
 
-pub longest-met : (bytes : List ℕ) × (ps : List Three) × (ts : List Three) × TextOf points triangles bytes ps ts × (length bytes ≡ 47131)
+pub longest-met : (bytes : List ℕ) × (ps : List Three) × (ts : List Three) × TextOf points triangles bytes ps ts × (length bytes ≡ limits.sheet-text)
 longest-met =
     let m = of-that-length limits.points limits.triangles (limits.points - 1) (omega arith) (omega arith) (omega arith) (omega arith) (omega arith) (omega arith) in
     (m .0, m .1, m .2, m .3, m .4 ∙ longest-text)

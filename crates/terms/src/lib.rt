@@ -21,6 +21,9 @@ impl Surface {
 
     pub const CORNERS: usize = 3 * Self::TRIANGLES;
 
+    // The bytes of the longest sheet text: two counts of four digits, 29 bytes a point and 17 a triangle.
+    pub const TEXT: usize = 12 + 29 * Self::POINTS + 15 + 17 * Self::TRIANGLES;
+
     // The surface of that many words and corners.
     pub fn of(words: usize, corners: usize) -> Surface
         ensures { λ r. ⌜ (r .points ≡ words / 3) × (r .triangles ≡ corners / 3) ⌝ }
@@ -79,6 +82,9 @@ impl PatchSet {
     pub const TRIANGLES: usize = Surface::CORNERS;
 
     pub const CORNERS: usize = 3 * Self::TRIANGLES;
+
+    // The bytes of the longest text of a set: two counts of four digits, 4 bytes a state and 17 a triangle.
+    pub const TEXT: usize = 12 + 4 * Self::STATES + 15 + 17 * Self::TRIANGLES;
 
     // The set of that many states and corners.
     pub fn of(states: usize, corners: usize) -> PatchSet
