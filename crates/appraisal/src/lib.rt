@@ -1,9 +1,9 @@
 // Judges the part of a set that a loop takes: whether it is no cover of the loop, one with a barred diagonal, or one that is not the
 // lightest.
-ghost use Rattle.appraisal.specs.Parts.{PartRoom, FindsCover, WeightRoom, FindsWeight};
+ghost use Rattle.appraisal.specs.Workings.Parts.{PartRoom, FindsCover, WeightRoom, FindsWeight};
+use answers::Answer;
 use reading::Reading;
 use table::Least;
-use terms::Answer;
 use terms::Loop;
 use terms::Surface;
 

@@ -2,4 +2,3 @@
 pub mod Answered
 pub mod Sets
 pub mod Sheets
-pub mod Fronts

@@ -1,15 +1,18 @@
 -- What is promised of the answer leaves nothing open, and what the program has no room for changes nothing.
 use mathlib.Core.Path.{_≡_, sym, _∙_}
-use mathlib.Core.Logic.{_⊎_, inl, inr}
+use mathlib.Core.Logic.{inl, inr}
 use mathlib.Core.List.{List}
 use Prim.Native.Nat.{ℕ, suc, _≤_}
 use native.Mathlib.Omega.{arith}
 use lib.ListN.{length, take}
 use Rattle.limits.specs.Limits as limits
-use Rattle.terms.specs.declared.Answer.{Answer}
+use Rattle.answers.specs.declared.Answer.{Answer}
 use Rattle.texts.specs.Text.{TextOf}
 use Rattle.texts.specs.Fault.{Fault}
-use Rattle.sheet.specs.Sheet.{Three, flat, points, triangles}
+use Rattle.texts.proofs.Theorems.{Known}
+use Rattle.texts.proofs.Laws.Cut.{text-first, fault-first}
+use Rattle.surface.specs.Threes.{Three, flat}
+use Rattle.sheet.specs.Sheet.{points, triangles}
 use Rattle.sheet.proofs.Laws.Texts as sheets
 use Rattle.sheet.proofs.Theorems.{longest}
 use Rattle.sets.specs.Set as set
@@ -17,19 +20,17 @@ use Rattle.sets.proofs.Laws.Texts as sets
 use Rattle.sets.proofs.Theorems.{set-longest}
 use Rattle.arbiter.specs.Hears.{Hears}
 use Rattle.arbiter.proofs.Laws.Answered.{answers-once}
-use Rattle.arbiter.proofs.Laws.Fronts.{text-first, fault-first}
 
 -- two answers that are allowed are equal
 pub hears-once : (sheet patches : List ℕ) (a b : Answer) → Hears sheet patches a → Hears sheet patches b → a ≡ b
 hears-once sheet patches a b p q = go (sheets.text-or-fault sheet)
   where
-    of-sheet : (ps ts : List Three) → TextOf points triangles sheet ps ts
-        → ((ss : List ℕ) × (us : List Three) × TextOf set.states set.triangles patches ss us) ⊎ ((line : ℕ) × Fault set.states set.triangles patches line) → a ≡ b
+    of-sheet : (ps ts : List Three) → TextOf points triangles sheet ps ts → Known set.states set.triangles patches → a ≡ b
     of-sheet ps ts t (inl u) =
         answers-once (flat ps) (flat ts) (u .0) (flat (u .1)) a b (p .of-set ps ts t (u .0) (u .1) (u .2)) (q .of-set ps ts t (u .0) (u .1) (u .2))
     of-sheet ps ts t (inr f) = p .of-set-fault ps ts t (f .0) (f .1) ∙ sym (q .of-set-fault ps ts t (f .0) (f .1))
 
-    go : ((ps : List Three) × (ts : List Three) × TextOf points triangles sheet ps ts) ⊎ ((line : ℕ) × Fault points triangles sheet line) → a ≡ b
+    go : Known points triangles sheet → a ≡ b
     go (inl t) = of-sheet (t .0) (t .1) (t .2) (sets.text-or-fault patches)
     go (inr f) = p .of-fault (f .0) (f .1) ∙ sym (q .of-fault (f .0) (f .1))
 

@@ -6,17 +6,18 @@ use mathlib.Core.List.{List, []}
 use Prim.Native.Nat.{ℕ, _+_}
 use lib.Dec.{eqb}
 use lib.ListN.{length}
-use Rattle.terms.specs.Answers.{refusing}
-use Rattle.terms.specs.declared.Answer.{Answer}
-use Rattle.terms.specs.declared.Answer.the-variants.{States, Line}
-use Rattle.surface.specs.Refusals.{refusal}
+use Rattle.answers.specs.Numbers.{refusing}
+use Rattle.answers.specs.declared.Answer.{Answer}
+use Rattle.answers.specs.declared.Answer.the-variants.{States, Line}
+use Rattle.surface.specs.Refusals.{sheetRefusal}
 use Rattle.loops.specs.Loops.{loops}
 use Rattle.survey.specs.Grid.{gridOf}
 use Rattle.run.specs.Run.{ringList}
 use Rattle.verdicts.specs.Verdicts.{Verdict}
 use Rattle.texts.specs.Text.{TextOf, lines}
 use Rattle.texts.specs.Fault.{Fault}
-use Rattle.sheet.specs.Sheet.{Three, flat, points, triangles}
+use Rattle.surface.specs.Threes.{Three, flat}
+use Rattle.sheet.specs.Sheet.{points, triangles}
 use Rattle.sets.specs.Set as set
 
 -- The checker's answer, where no buffer is too short: a refusal of the surface; 9; or the verdict.
@@ -31,7 +32,7 @@ AnswersIf false r words corners states patches a =
 
 unfoldable pub Answers : List ℕ → List ℕ → List ℕ → List ℕ → Answer → Type 0
 Answers words corners states patches a =
-    let r = refusal words corners [] [] in
+    let r = sheetRefusal words corners in
     AnswersIf (refusing r) r words corners states patches a
 
 -- a wrong line of the sheet; a wrong line of the set, counted on after the sheet's last; or the checker's answer

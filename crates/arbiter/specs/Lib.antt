@@ -1,3 +1,3 @@
 -- What is answered on a sheet's text and the text of a patch set.
 pub mod Hears
-pub mod Taken
+pub mod Workings

@@ -3,12 +3,12 @@ ghost use Prim.Native.Nat.{_≤_};
 ghost use lib.ListN.{length};
 ghost use Rattle.limits.specs.Limits as limits;
 ghost use Rattle.arbiter.specs.Hears.{Answers};
-ghost use Rattle.arbiter.specs.Taken.{Taken, HearsTaken, HearsSet};
-use intake::Scan;
+ghost use Rattle.arbiter.specs.Workings.Taken.{Taken, HearsTaken, HearsSet};
+use answers::Answer;
 use sentence::Judged;
-use terms::Answer;
 use terms::PatchSet;
 use terms::Surface;
+use texts::Scan;
 
 // The answer on a sheet that was taken in, and on the text of a set. The sheet's corners may name no point: a wrong line of the set
 // comes first.

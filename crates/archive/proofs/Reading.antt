@@ -2,7 +2,7 @@
 use mathlib.Core.Path.{_≡_, sym, ap, _∙_}
 use mathlib.Core.List.{List}
 use Prim.Native.Nat.{ℕ}
-use Rattle.terms.specs.Answers.{numberOf, placeOf}
+use Rattle.answers.specs.Numbers.{numberOf, placeOf}
 use Rattle.intake.specs.Outcome.{readOutcome, Reads}
 use Rattle.intake.specs.declared.ReadSheet.{ReadSheet}
 use Rattle.intake.proofs.Theorems.{reads-once}

@@ -12,8 +12,8 @@ use lib.Ieee.Scale.{finite}
 use mir.Syntax.{w32}
 use mir.Val.{SFits, toZ, ofZ}
 use mir.ValLaws.{toZ-ofZ}
-use Rattle.terms.specs.Answers.{numberOf, placeOf}
-use Rattle.terms.specs.declared.Answer.{Answer}
+use Rattle.answers.specs.Numbers.{numberOf, placeOf}
+use Rattle.answers.specs.declared.Answer.{Answer}
 use Rattle.grid.specs.Places.{Places, Lands, answerOf}
 use Rattle.grid.specs.declared.Coordinate.{Coordinate}
 use Rattle.grid.specs.declared.Coordinate.the-variants.{Shifted, TooFar}

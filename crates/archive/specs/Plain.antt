@@ -4,7 +4,7 @@ use mathlib.Core.Path.{_≡_}
 use mathlib.Core.List.{List}
 use lib.IntN.{ℤ, pos}
 use lib.Ieee.{Float, binary32, toBits}
-use Rattle.terms.specs.Answers.{numberOf, placeOf}
+use Rattle.answers.specs.Numbers.{numberOf, placeOf}
 use Rattle.grid.specs.Places.{Places, answerOf}
 use Rattle.survey.specs.Outcome.{Buffers, Outcome}
 use Rattle.patching.specs.Outcome as patcher

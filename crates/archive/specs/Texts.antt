@@ -2,7 +2,7 @@
 use mathlib.Core.Path.{_≡_}
 use mathlib.Core.List.{List}
 use Prim.Native.Nat.{ℕ}
-use Rattle.terms.specs.Answers.{numberOf, placeOf}
+use Rattle.answers.specs.Numbers.{numberOf, placeOf}
 use Rattle.intake.specs.Outcome.{ReadOutcome, Reads}
 use Rattle.sets.specs.Outcome.{SetOutcome, ReadsSet}
 use Rattle.scribe.specs.Outcome.{WriteOutcome}

@@ -1,2 +1,2 @@
 pub mod Bars
-pub mod Chains
+pub mod Workings

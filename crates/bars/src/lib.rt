@@ -5,7 +5,7 @@ ghost use mathlib.Core.List.{[]};
 ghost use Prim.Native.Nat.{ℕ, _<_, _≤_};
 ghost use lib.ListN.{length, getD};
 ghost use Rattle.limits.specs.Limits.{longest};
-ghost use Rattle.bars.specs.Chains.{ChainRoom, ChainDone, InputRoom, Tells, LaidRoom, LaidDone, MarkRoom, MarkDone, RowsRoom, FromDone, AllDone, SidesDone, BarsRoom, BarsDone};
+ghost use Rattle.bars.specs.Workings.Chains.{ChainRoom, ChainDone, InputRoom, Tells, LaidRoom, LaidDone, MarkRoom, MarkDone, RowsRoom, FromDone, AllDone, SidesDone, BarsRoom, BarsDone};
 use terms::Loop;
 use terms::Surface;
 

@@ -2,10 +2,10 @@
 ghost use mathlib.Core.Path.{_≡_};
 ghost use Prim.Native.Nat.{_/_, _≤_};
 ghost use lib.ListN.{length};
-ghost use Rattle.terms.specs.declared.Answer.the-variants.{Done};
+ghost use Rattle.answers.specs.declared.Answer.the-variants.{Done};
 ghost use Rattle.surface.specs.Refusals.{countRefusal};
 ghost use Rattle.survey.specs.Outcome.{buffers};
-ghost use Rattle.rounds.specs.Scratch.{few};
+ghost use Rattle.rounds.specs.Workings.Scratch.{few};
 ghost use Rattle.trial.specs.Outcome.{outcome, Judges};
 use rounds::FEW;
 use sentence::Judged;
@@ -25,7 +25,7 @@ pub fn judge(
     ensures { λ r. ⌜ Judges (now (words .entry)) (now (corners .entry)) (now (states .entry)) (now (set .entry)) (buffers (now (grid .entry)) (now (rings .entry)) (now (lengths .entry)))
         (outcome r (buffers (now (grid .exit)) (now (rings .exit)) (now (lengths .exit)))) ⌝ }
 {
-    let counted = surface::check_counts(words.len(), corners.len());
+    let counted = gauging::check_counts(words.len(), corners.len());
     if counted.refuses() {
         return sentence::refused(counted);
     }

@@ -2,9 +2,9 @@
 //
 // The weights are binary64 floats: each is a whole number below 2^53, so every sum is exact, and the machine adds two at a time.
 ghost use mathlib.Core.Path.{_≡_};
-ghost use Prim.Native.Nat.{ℕ, _+_, _*_, _<_, _≤_};
+ghost use Prim.Native.Nat.{_+_, _*_, _<_, _≤_};
 ghost use Rattle.limits.specs.Limits.{longest};
-ghost use Rattle.column.specs.Columns.{lesserOf, row, ProductsRoom, Multiplied, CopyRoom, Copied, byWay, WayRoom, RelaxRoom, Relaxed};
+ghost use Rattle.column.specs.Workings.Columns.{lesserOf, row, ProductsRoom, Multiplied, CopyRoom, Copied, byWay, WayRoom, RelaxRoom, Relaxed};
 use terms::Loop;
 
 // What a stretch weighs that has no allowed cover: more than any cover, and with another and a triangle still below 2^53.

@@ -4,12 +4,13 @@ use mathlib.Core.Bool.{cond}
 use mathlib.Core.List.{List}
 use Prim.Native.Nat.{ℕ, _/_}
 use lib.ListN.{length, take}
-use Rattle.terms.specs.Answers.{refusing}
-use Rattle.terms.specs.declared.Answer.the-variants.{Done, Unnamed, Line}
+use Rattle.answers.specs.Numbers.{refusing}
+use Rattle.answers.specs.declared.Answer.the-variants.{Done, Unnamed, Line}
 use Rattle.surface.specs.Refusals.{unnamedRefusal}
 use Rattle.texts.specs.Text.{TextOf}
 use Rattle.texts.specs.Fault.{Fault}
-use Rattle.sheet.specs.Sheet.{Three, flat, points, triangles}
+use Rattle.surface.specs.Threes.{Three, flat}
+use Rattle.sheet.specs.Sheet.{points, triangles}
 use Rattle.scribe.specs.Outcome.{WriteOutcome}
 use Rattle.report.specs.Lines.{answerLine}
 

@@ -5,6 +5,7 @@ use mathlib.Core.Logic.{_⊎_}
 use mathlib.Core.Bool.{Bool, false}
 use mathlib.Core.List.{List, [], _∷_, _++_}
 use lib.ListN.{length, getD}
+use Rattle.surface.specs.Threes.{Three, three}
 use Rattle.covers.specs.Weights.{Weights}
 
 -- the empty cover, or an apex m with a cover before it and one after it
@@ -18,15 +19,13 @@ abbrev pub Covers : ℕ → ℕ → Cover → Type 0
 Covers i k empty = k ≡ suc i
 Covers i k (apex m c d) = (i < m) × (m < k) × Covers i m c × Covers m k d
 
--- a triangle by the positions of its corners, in the order that it is wound
-pub record Triangle : Type 0 where
-  pub first : ℕ
-  pub second : ℕ
-  pub third : ℕ
+-- a triangle by the positions of its corners
+abbrev pub Triangle : Type 0
+Triangle = Three
 
 -- the triangle on the stretch i..k with the apex m
 abbrev pub on : ℕ → ℕ → ℕ → Triangle
-on i k m = record { first = i; second = k; third = m }
+on i k m = three i k m
 
 -- "It lists the triangle, then i..m, then m..k."
 abbrev pub triangles : ℕ → ℕ → Cover → List Triangle

@@ -1,5 +1,4 @@
 pub mod Weights
 pub mod Covers
 pub mod Sets
-pub mod Least
-pub mod Reading
+pub mod Workings

@@ -14,13 +14,13 @@ abbrev pub Alike : Triangle → Triangle → Type 0
 Alike s t = (s ≡ t) ⊎ ((s ≡ turned t) ⊎ (s ≡ turned (turned t)))
 
 -- the set s lists the triangles ts in any order, each begun at any corner
-abbrev pub Lists : List Triangle → List Triangle → Type 0
-Lists s [] = s ≡ []
-Lists s (t ∷ ts) = (a b : List Triangle) × (u : Triangle) × (s ≡ a ++ (u ∷ b)) × Alike u t × Lists (a ++ b) ts
+abbrev pub ListsTriangles : List Triangle → List Triangle → Type 0
+ListsTriangles s [] = s ≡ []
+ListsTriangles s (t ∷ ts) = (a b : List Triangle) × (u : Triangle) × (s ≡ a ++ (u ∷ b)) × Alike u t × ListsTriangles (a ++ b) ts
 
 -- the set s is the cover c of i..k
 abbrev pub ListsCover : List Triangle → ℕ → ℕ → Cover → Type 0
-ListsCover s i k c = Covers i k c × Lists s (triangles i k c)
+ListsCover s i k c = Covers i k c × ListsTriangles s (triangles i k c)
 
 -- the triangle whose corners are the vertices at these positions
 abbrev pub named : (ℕ → ℕ) → Triangle → Triangle
@@ -28,11 +28,4 @@ named vertex t = on (vertex (t .first)) (vertex (t .second)) (vertex (t .third))
 
 -- the set s of triangles, by their vertices, is the cover c of the loop of n vertices
 abbrev pub Covered : ℕ → (ℕ → ℕ) → List Triangle → Cover → Type 0
-Covered n vertex s c = Covers 0 (n - 1) c × Lists s (map (named vertex) (triangles 0 (n - 1) c))
-
--- the triangles of a list of corners, three each
-abbrev pub triples : List ℕ → List Triangle
-triples [] = []
-triples (a ∷ []) = []
-triples (a ∷ b ∷ []) = []
-triples (a ∷ b ∷ c ∷ l) = on a b c ∷ triples l
+Covered n vertex s c = Covers 0 (n - 1) c × ListsTriangles s (map (named vertex) (triangles 0 (n - 1) c))

@@ -16,7 +16,7 @@ abbrev pub firstOf : List ℕ → ℕ
 firstOf l = getD l 0 0
 
 -- what is left and answered for the loops ls
-pub record Lists (corners : List ℕ) (ls : List (List ℕ)) (rings lengths firsts : List ℕ) (at : Listed) (rings′ lengths′ firsts′ : List ℕ) : Type 0 where
+pub record ListsLoops (corners : List ℕ) (ls : List (List ℕ)) (rings lengths firsts : List ℕ) (at : Listed) (rings′ lengths′ firsts′ : List ℕ) : Type 0 where
   pub count : at .loops ≡ length ls
   pub vertices : at .vertices ≡ length (ringsOf corners ls)
   pub all-rings : rings′ ≡ over (ringsOf corners ls) rings

@@ -3,7 +3,7 @@ ghost use mathlib.Core.Path.{_≡_};
 ghost use lib.ListN.{take};
 ghost use Rattle.loops.specs.Loops.{ring, startsAt};
 ghost use Rattle.surface.specs.Buffers.{laid};
-ghost use Rattle.cutting.specs.Growing.{Sought, RingRoom, part, CutRoom, WasCut, GrowRoom, Grew};
+ghost use Rattle.cutting.specs.Workings.Growing.{Sought, RingRoom, part, CutRoom, WasCut, GrowRoom, Grew};
 use surface::Found;
 
 // How many loops were listed, how many vertices their rings have in all, and how many edges the path has.

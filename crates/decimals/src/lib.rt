@@ -3,7 +3,7 @@ ghost use mathlib.Core.Path.{_≡_};
 ghost use Prim.Native.Nat.{_+_, _<_, _≤_};
 ghost use lib.Dec.{ltb};
 ghost use lib.ListN.{length, drop};
-ghost use Rattle.digits.specs.Reading.{valueOf, until, readDecimal, seen, UpTo};
+ghost use Rattle.digits.specs.Workings.Reading.{valueOf, until, readDecimal, seen, UpTo};
 use digits::Number;
 
 // A decimal number of at most `limit` at a place, and the byte `end` after it.

@@ -7,14 +7,14 @@ use Prim.Native.Nat.{ℕ, _+_, _/_}
 use lib.Dec.{eqb}
 use lib.ListN.{length}
 use Rattle.limits.specs.Limits as limits
-use Rattle.terms.specs.Answers.{refusing}
+use Rattle.answers.specs.Numbers.{refusing}
 use Rattle.terms.specs.Counts.{threes}
-use Rattle.terms.specs.declared.Answer.{Answer}
-use Rattle.terms.specs.declared.Answer.the-variants.{Done, Words, Corners, Buffer, Unnamed, TooFar, States}
+use Rattle.answers.specs.declared.Answer.{Answer}
+use Rattle.answers.specs.declared.Answer.the-variants.{Done, Words, Corners, Buffer, Unnamed, TooFar, States}
 use Rattle.surface.specs.declared.Found.{Found}
 use Rattle.surface.specs.declared.Found.the-variants.{At, Nothing}
 use Rattle.surface.specs.Smallest.{least}
-use Rattle.surface.specs.Refusals.{tooFar, refuseAt, refuseIf, thenCheck, countRefusal, bufferRefusal, unnamedRefusal, cornerRefusal, wordRefusal, contentRefusal, refusal}
+use Rattle.surface.specs.Refusals.{tooFar, refuseAt, thenCheck, countRefusal, bufferRefusal, unnamedRefusal, cornerRefusal, wordRefusal, contentRefusal, refusal}
 use Rattle.surface.proofs.Laws.Smallest.{least-at, least-never, least-sound, least-first, never-least}
 use Rattle.surface.proofs.Laws.Thens.{then-refused, then-next}
 use Rattle.surface.specs.Buffers.{over}
@@ -26,7 +26,8 @@ use Rattle.trial.specs.Outcome.{JudgesCounted, JudgesIf, Judges}
 use Rattle.run.specs.Run.{ringList}
 use Rattle.verdicts.proofs.Laws.Once.{verdict-told}
 use Rattle.texts.specs.Text.{TextOf}
-use Rattle.sheet.specs.Sheet.{Three, flat, points, triangles, text}
+use Rattle.surface.specs.Threes.{Three, flat}
+use Rattle.sheet.specs.Sheet.{points, triangles, text}
 use Rattle.intake.specs.Outcome as intake
 use Rattle.scribe.specs.Outcome.{writeRefusal, writes}
 use Rattle.sets.specs.Set as set
@@ -101,7 +102,7 @@ last-of : (gives : ℕ → Answer) → ((i : ℕ) → refusing (gives i) ≡ tru
 last-of gives r (At i) = sym (then-refused (gives i) Done (r i))
 last-of gives r Nothing = refl
 
-once-is : (t : Bool) (a : Answer) → refuseIf t a ≡ refuseAt (λ i. a) (least (λ i. t) 1)
+once-is : (t : Bool) (a : Answer) → cond t Done a ≡ refuseAt (λ i. a) (least (λ i. not t) 1)
 unfolding least
 once-is true a = refl
 once-is false a = refl
@@ -114,9 +115,9 @@ answerBy c = refuseAt (c .gives) (least (c .finds) (c .places))
 counts-are : (words corners : List ℕ) (b : Answer) → thenCheck (countRefusal (length words) (length corners)) b ≡ thenCheck (answerBy (wordCount words)) (thenCheck (answerBy (cornerCount corners)) b)
 unfolding countRefusal
 counts-are words corners b =
-    let w : Bool = not (threes limits.words (length words)) in
-    let c : Bool = not (threes limits.corners (length corners)) in
-    then-then (refuseIf w Words) (refuseIf c Corners) b ∙ ap₂ (λ (x y : Answer). thenCheck x (thenCheck y b)) (once-is w Words) (once-is c Corners)
+    let w : Bool = threes limits.words (length words) in
+    let c : Bool = threes limits.corners (length corners) in
+    then-then (cond w Done Words) (cond c Done Corners) b ∙ ap₂ (λ (x y : Answer). thenCheck x (thenCheck y b)) (once-is w Words) (once-is c Corners)
 
 table-is : (words corners lent needs : List ℕ) → refusal words corners lent needs ≡ answerOf (table words corners lent needs)
 unfolding refusal contentRefusal bufferRefusal cornerRefusal wordRefusal
@@ -192,14 +193,14 @@ module _ (words corners states set : List ℕ) (b : survey.Buffers) (o : survey.
   same-many = eqb (length (loops corners)) (length states)
 
   abbrev stateRefusal : Answer
-  stateRefusal = refuseIf (not same-many) (States (length (loops corners)))
+  stateRefusal = cond same-many Done (States (length (loops corners)))
 
   abbrev judgeTable : List Check
   judgeTable = table words corners (survey.lent b) (survey.needs words corners) ++ (stateCount corners states ∷ [])
 
   judge-is : thenCheck judgeRefusal stateRefusal ≡ answerOf judgeTable
   judge-is =
-      ap₂ thenCheck (table-is words corners (survey.lent b) (survey.needs words corners)) (once-is (not same-many) (States (length (loops corners))) ∙ last-of (stateCount corners states .gives) (λ i. refl) (least (stateCount corners states .finds) 1))
+      ap₂ thenCheck (table-is words corners (survey.lent b) (survey.needs words corners)) (once-is same-many (States (length (loops corners))) ∙ last-of (stateCount corners states .gives) (λ i. refl) (least (stateCount corners states .finds) 1))
       ∙ sym (append-is (table words corners (survey.lent b) (survey.needs words corners)) (stateCount corners states ∷ []))
 
   -- the outcome, by what 1 to 8 and 9 refuse
@@ -209,11 +210,11 @@ module _ (words corners states set : List ℕ) (b : survey.Buffers) (o : survey.
       let k : thenCheck judgeRefusal stateRefusal ≡ judgeRefusal = then-refused judgeRefusal stateRefusal e in
       (λ r. h ∙ ap (λ (a : Answer). survey.refused a b) (sym k), λ r. absurd (true≢false (sym e ∙ ap refusing (sym k) ∙ r)))
   judge-so false e false n h =
-      let k : thenCheck judgeRefusal stateRefusal ≡ States (length (loops corners)) = then-next judgeRefusal stateRefusal e ∙ ap (λ (t : Bool). refuseIf (not t) (States (length (loops corners)))) n in
+      let k : thenCheck judgeRefusal stateRefusal ≡ States (length (loops corners)) = then-next judgeRefusal stateRefusal e ∙ ap (λ (t : Bool). cond t Done (States (length (loops corners)))) n in
       let q : o ≡ survey.refused (States (length (loops corners))) b = subst (λ (t : Bool). JudgesCounted t words corners states set b o) n h in
       (λ r. q ∙ ap (λ (a : Answer). survey.refused a b) (sym k), λ r. absurd (true≢false (sym (ap refusing k) ∙ r)))
   judge-so false e true n h =
-      let k : thenCheck judgeRefusal stateRefusal ≡ Done = then-next judgeRefusal stateRefusal e ∙ ap (λ (t : Bool). refuseIf (not t) (States (length (loops corners)))) n in
+      let k : thenCheck judgeRefusal stateRefusal ≡ Done = then-next judgeRefusal stateRefusal e ∙ ap (λ (t : Bool). cond t Done (States (length (loops corners)))) n in
       let q : JudgesCounted true words corners states set b o = subst (λ (t : Bool). JudgesCounted t words corners states set b o) n h in
       (λ r. absurd (true≢false (sym r ∙ ap refusing k)), λ r. ap (λ (x : survey.Outcome). refusing (x .answer)) (q .2) ∙ verdict-told (gridOf words) corners [] 0 0 (ringList corners) states set (q .0) (q .1))
 

@@ -7,21 +7,15 @@ use native.Mathlib.Omega.{arith}
 use lib.IntN.{ℤ}
 use lib.ListN.{length, getD, take, drop, length-drop}
 use lib.Seq.{take-add, drop-drop}
-use Rattle.verdicts.specs.Faults.{Right, patched, long, open-left}
+use Rattle.verdicts.specs.Faults.{Right}
 use Rattle.verdicts.specs.Verdicts.{taken, AllRight}
-use Rattle.verdicts.proofs.Laws.Filled.{taken-patched, taken-none}
+use Rattle.verdicts.proofs.Laws.Filled.{right-takes}
 use Rattle.demands.specs.Sets.{begins}
 
 -- loop l is right, behind the corners `laid`
 abbrev RightAt : List ℤ → List ℕ → List ℕ → List (List ℕ) → List ℕ → List ℕ → ℕ → Type 0
 RightAt grid input laid rings states set l =
     Right grid input (laid ++ take (begins rings states l) set) (getD rings l []) (getD states l 0) (drop (begins rings states l) set)
-
--- a loop that is right takes no more than there is
-enough : (grid : List ℤ) (input laid ring : List ℕ) (state : ℕ) (set : List ℕ) → Right grid input laid ring state set → taken ring state ≤ length set
-enough grid input laid ring state set (patched e l c t a n) = subst (λ (k : ℕ). k ≤ length set) (sym (taken-patched ring state e)) (t .there)
-enough grid input laid ring state set (long e l) = let z : taken ring state ≡ 0 = taken-none ring state (λ f. let g : state ≡ 1 = f in omega arith) in omega arith
-enough grid input laid ring state set (open-left e l n) = let z : taken ring state ≡ 0 = taken-none ring state (λ f. let g : state ≡ 1 = f in omega arith) in omega arith
 
 -- the first loop's place, and the places after it
 module _ (grid : List ℤ) (input laid r : List ℕ) (rings : List (List ℕ)) (s : ℕ) (states set : List ℕ) where
@@ -55,7 +49,7 @@ right-none-left grid input laid (r ∷ rings) (s ∷ states) set h =
     let k : ℕ = taken r s in
     let a : length (drop k set) ≡ begins rings states (length rings) = right-none-left grid input (laid ++ take k set) rings states (drop k set) (h .1) in
     let b : length (drop k set) ≡ length set - k = length-drop k set in
-    let c : k ≤ length set = enough grid input laid r s set (h .0) in
+    let c : k ≤ length set = right-takes grid input laid r s set (h .0) in
     let d : length set ≡ k + begins rings states (length rings) = omega arith in
     d
 

@@ -8,9 +8,9 @@ use borrow.Author.Tests.{eqb-true, eqb-false}
 use lib.Dec.{eqb}
 use lib.IntN.{ℤ}
 use lib.ListN.{length, length-map}
-use Rattle.terms.specs.Answers.{refusing, numberOf}
-use Rattle.terms.specs.declared.Answer.{Answer}
-use Rattle.terms.specs.declared.Answer.the-variants.{Done, States}
+use Rattle.answers.specs.Numbers.{refusing, numberOf}
+use Rattle.answers.specs.declared.Answer.{Answer}
+use Rattle.answers.specs.declared.Answer.the-variants.{Done, States}
 use Rattle.surface.specs.Edges.{Sound}
 use Rattle.surface.specs.Refusals.{refusal}
 use Rattle.surface.proofs.Laws.Over.{start-of}

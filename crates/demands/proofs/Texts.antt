@@ -1,15 +1,15 @@
 -- The demand of texts is kept, by every outcome that reading and writing may have.
 use mathlib.Core.Path.{_≡_, refl, sym, ap, ap₂, _∙_, subst}
 use mathlib.Core.Bool.{Bool, true, false, true≢false}
-use mathlib.Core.Logic.{_⊎_, inl, inr}
+use mathlib.Core.Logic.{inl, inr}
 use mathlib.Core.List.{List, [], _∷_}
 use Prim.Native.Nat.{ℕ, _+_, _/_, _≤_}
 use native.Mathlib.Omega.{arith}
 use lib.ListN.{length, take}
 use Rattle.limits.specs.Limits as limits
-use Rattle.terms.specs.Answers.{refusing}
-use Rattle.terms.specs.declared.Answer.{Answer}
-use Rattle.terms.specs.declared.Answer.the-variants.{Done, Buffer, Unnamed, Line}
+use Rattle.answers.specs.Numbers.{refusing}
+use Rattle.answers.specs.declared.Answer.{Answer}
+use Rattle.answers.specs.declared.Answer.the-variants.{Done, Buffer, Unnamed, Line}
 use Rattle.surface.specs.declared.Found.{Found}
 use Rattle.surface.specs.declared.Found.the-variants.{At, Nothing}
 use Rattle.surface.specs.Smallest.{least}
@@ -17,12 +17,13 @@ use Rattle.surface.specs.Refusals.{short, unnamed, refuseAt, thenCheck, bufferR
 use Rattle.surface.proofs.Laws.Thens.{Fitting, counts-fit, two-long}
 use Rattle.surface.proofs.Laws.Over.{start-of}
 use Rattle.surface.proofs.Laws.Sound.{next-of}
-use Rattle.texts.specs.Text.{TextOf}
 use Rattle.texts.specs.Fault.{Fault}
+use Rattle.texts.proofs.Theorems.{Known}
 use Rattle.texts.proofs.Laws.Cut.{fault-whole}
-use Rattle.sheet.specs.Sheet.{Three, threes, flat, points, triangles}
+use Rattle.surface.specs.Threes.{threes, flat}
+use Rattle.sheet.specs.Sheet.{points, triangles}
 use Rattle.sheet.proofs.Laws.Texts.{text-once, text-or-fault}
-use Rattle.sheet.proofs.Laws.Threes.{flat-threes}
+use Rattle.surface.proofs.Laws.Threes.{flat-threes}
 use Rattle.sheet.proofs.Theorems.{longest, longest-met}
 use Rattle.intake.specs.Outcome.{ReadOutcome, Reads, deliver}
 use Rattle.scribe.specs.Outcome.{writes}
@@ -85,8 +86,7 @@ module _ (bytes words corners buffer : List ℕ) (o : ReadOutcome) (r : Reads by
   again : writes (take (o .word-count) (o .words)) (take (o .corner-count) (o .corners)) buffer ≡ wroteAll bytes buffer
   again = go (text-or-fault bytes)
     where
-      go : ((ps : List Three) × (ts : List Three) × TextOf points triangles bytes ps ts) ⊎ ((line : ℕ) × Fault points triangles bytes line)
-          → writes (take (o .word-count) (o .words)) (take (o .corner-count) (o .corners)) buffer ≡ wroteAll bytes buffer
+      go : Known points triangles bytes → writes (take (o .word-count) (o .words)) (take (o .corner-count) (o .corners)) buffer ≡ wroteAll bytes buffer
       go (inr f) = absurd (done-line (sym (ap (λ (p : ReadOutcome). p .answer) (r .of-fault (f .0) (f .1))) ∙ d))
       go (inl t) =
           let ws : List ℕ = flat (t .0) in
@@ -131,7 +131,7 @@ module _ (bytes words corners : List ℕ) (o : ReadOutcome) (r : Reads bytes wor
   told-wrong : o .answer ≡ Line line → Fault points triangles bytes line
   told-wrong d = go (text-or-fault bytes)
     where
-      go : ((ps : List Three) × (ts : List Three) × TextOf points triangles bytes ps ts) ⊎ ((k : ℕ) × Fault points triangles bytes k) → Fault points triangles bytes line
+      go : Known points triangles bytes → Fault points triangles bytes line
       go (inl t) = absurd (delivers-no-line (flat (t .0)) (flat (t .1)) words corners line (sym (ap (λ (p : ReadOutcome). p .answer) (r .of-text (t .0) (t .1) (t .2))) ∙ d))
       go (inr f) =
           let e : Line (f .0) ≡ Line line = sym (ap (λ (p : ReadOutcome). p .answer) (r .of-fault (f .0) (f .1))) ∙ d in

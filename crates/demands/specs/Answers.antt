@@ -9,9 +9,9 @@ use lib.Dec.{eqb}
 use lib.ListN.{length}
 use Rattle.limits.specs.Limits as limits
 use Rattle.terms.specs.Counts.{threes}
-use Rattle.terms.specs.Answers.{refusing}
-use Rattle.terms.specs.declared.Answer.{Answer}
-use Rattle.terms.specs.declared.Answer.the-variants.{Words, Corners, Buffer, Unnamed, Twice, Repeated, NotFinite, TooFar, States, Line}
+use Rattle.answers.specs.Numbers.{refusing}
+use Rattle.answers.specs.declared.Answer.{Answer}
+use Rattle.answers.specs.declared.Answer.the-variants.{Words, Corners, Buffer, Unnamed, Twice, Repeated, NotFinite, TooFar, States, Line}
 use Rattle.surface.specs.Edges.{twice, repeats}
 use Rattle.surface.specs.Refusals.{short, unnamed, notFinite, tooFar}
 use Rattle.loops.specs.Loops.{loops}
@@ -20,7 +20,8 @@ use Rattle.patching.specs.Outcome as patcher
 use Rattle.trial.specs.Outcome.{Judges}
 use Rattle.texts.specs.Text.{TextOf}
 use Rattle.texts.specs.Fault.{Fault}
-use Rattle.sheet.specs.Sheet.{Three, flat, points, triangles, text}
+use Rattle.surface.specs.Threes.{Three, flat}
+use Rattle.sheet.specs.Sheet.{points, triangles, text}
 use Rattle.intake.specs.Outcome as intake
 use Rattle.scribe.specs.Outcome.{writes}
 use Rattle.sets.specs.Set as set

@@ -4,11 +4,12 @@ use mathlib.Core.List.{List}
 use Prim.Native.Nat.{ℕ, suc, _^_, _<_, _≤_}
 use lib.ListN.{length, getD, take}
 use Rattle.limits.specs.Limits as limits
-use Rattle.terms.specs.declared.Answer.the-variants.{Done, Line}
+use Rattle.answers.specs.declared.Answer.the-variants.{Done, Line}
 use Rattle.surface.specs.Buffers.{over}
 use Rattle.texts.specs.Text.{TextOf}
 use Rattle.texts.specs.Fault.{Fault}
-use Rattle.sheet.specs.Sheet.{Three, points, triangles}
+use Rattle.surface.specs.Threes.{Three}
+use Rattle.sheet.specs.Sheet.{points, triangles}
 use Rattle.intake.specs.Outcome.{ReadOutcome, Reads}
 use Rattle.scribe.specs.Outcome.{WriteOutcome, writes}
 

@@ -4,3 +4,4 @@ pub mod Sizes
 pub mod Exactly
 pub mod Keys
 pub mod Lay
+pub mod Laying

@@ -1,3 +1,3 @@
 -- What a number looks like in a text, and what reading one means.
 pub mod Numeral
-pub mod Reading
+pub mod Workings

@@ -4,7 +4,7 @@ ghost use mathlib.Core.Path.{_≡_};
 ghost use Prim.Native.Nat.{_<_};
 ghost use lib.ListN.{drop};
 ghost use Rattle.digits.specs.Numeral.{byteOf, size};
-ghost use Rattle.digits.specs.Reading.{readKey, met};
+ghost use Rattle.digits.specs.Workings.Reading.{readKey, met};
 
 // A number that was read and the place after it, or a wrong line.
 pub enum Number {

@@ -1,7 +1,7 @@
 // Binary64 floats that hold whole numbers: up to 2^53 their sums and products are exact. The laws are in proofs/Laws.
 ghost use mathlib.Core.Path.{_≡_};
 ghost use lib.IntN.{ℤ};
-ghost use Rattle.exact.specs.Whole.{Whole, sizeOf};
+ghost use Rattle.exact.specs.Workings.Whole.{Whole, sizeOf};
 
 // The size of a whole number: its bits without the sign's bit.
 pub fn size(x: f64) -> f64

@@ -5,7 +5,7 @@ ghost use Prim.Native.Nat.{_+_, _*_, _/_, _%_, _<_, _≤_};
 ghost use lib.ListN.{length};
 ghost use Rattle.surface.specs.Buffers.{laid};
 ghost use Rattle.digits.specs.Numeral.{size, hex, decimal};
-ghost use Rattle.figures.specs.Tables.{Spelled, fourOf};
+ghost use Rattle.figures.specs.Workings.Tables.{Spelled, fourOf};
 
 // What every byte looks like in two digits: the first in the lower byte.
 pub fn spell_bytes(pairs: &mut [u16])

@@ -1,11 +1,9 @@
 // Finds the loops of a surface: open edges are walked by next, cycle by cycle, and each cycle is split where the walk comes
 // back to a vertex.
-ghost use mathlib.Core.Path.{_≡_};
-ghost use lib.ListN.{length};
 ghost use Rattle.loops.specs.Loops.{loops};
-ghost use Rattle.cutting.specs.Listing.{Lists};
-ghost use Rattle.finder.specs.Asked.{Ready, Lent, Countable};
-ghost use Rattle.finder.specs.Walking.{CycleRoom, CycleListed};
+ghost use Rattle.cutting.specs.Listing.{ListsLoops};
+ghost use Rattle.finder.specs.Workings.Asked.{Ready, Lent};
+ghost use Rattle.finder.specs.Workings.Walking.{CycleRoom, CycleListed};
 use cutting::Listed;
 use leaders::WALKED;
 use terms::Surface;
@@ -21,7 +19,7 @@ pub fn list_loops(
     firsts: &mut [u16],
 ) -> Listed
     requires { ⌜ Ready (now corners) (now turns) (now rings) (now lengths) (now firsts) ⌝ }
-    ensures { λ r. ⌜ Lists (now (corners .entry)) (loops (now (corners .entry))) (now (rings .entry)) (now (lengths .entry)) (now (firsts .entry)) r (now (rings .exit)) (now (lengths .exit)) (now (firsts .exit)) ⌝ }
+    ensures { λ r. ⌜ ListsLoops (now (corners .entry)) (loops (now (corners .entry))) (now (rings .entry)) (now (lengths .entry)) (now (firsts .entry)) r (now (rings .exit)) (now (lengths .exit)) (now (firsts .exit)) ⌝ }
 {
     let mut path = [0u16; Surface::CORNERS];
     let mut places = [0u16; Surface::POINTS];
@@ -47,7 +45,7 @@ pub fn list_with(
     firsts: &mut [u16],
 ) -> Listed
     requires { ⌜ Ready (now corners) (now turns) (now rings) (now lengths) (now firsts) × Lent (now corners) (now path) (now places) ⌝ }
-    ensures { λ r. ⌜ Lists (now (corners .entry)) (loops (now (corners .entry))) (now (rings .entry)) (now (lengths .entry)) (now (firsts .entry)) r (now (rings .exit)) (now (lengths .exit)) (now (firsts .exit)) ⌝ }
+    ensures { λ r. ⌜ ListsLoops (now (corners .entry)) (loops (now (corners .entry))) (now (rings .entry)) (now (lengths .entry)) (now (firsts .entry)) r (now (rings .exit)) (now (lengths .exit)) (now (firsts .exit)) ⌝ }
 {
     let mut at = Listed {
         loops: 0,
@@ -64,18 +62,6 @@ pub fn list_with(
         h += 1;
     }
     at
-}
-
-// Counts all loops, for a caller that must know their number before it writes. The table of turns is used up.
-pub fn count_loops(corners: &[u16], turns: &mut [u16]) -> usize
-    requires { ⌜ Countable (now corners) (now turns) ⌝ }
-    ensures { λ r. ⌜ r ≡ length (loops (now (corners .entry))) ⌝ }
-{
-    let mut rings = [0u16; Surface::CORNERS];
-    let mut lengths = [0u16; Surface::TRIANGLES];
-    let mut firsts = [0u16; Surface::TRIANGLES];
-    let listed = list_loops(corners, turns, &mut rings, &mut lengths, &mut firsts);
-    listed.loops
 }
 
 // The cycle of h is walked, marked and split into loops, and these are listed.

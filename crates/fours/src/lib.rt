@@ -3,9 +3,9 @@ ghost use mathlib.Core.Path.{_≡_};
 ghost use Prim.Native.Nat.{_^_, _<_};
 ghost use lib.ListN.{length};
 ghost use Rattle.weight.specs.Edition.{triOf, along};
-ghost use Rattle.table.specs.Loops.{OnGrid};
-ghost use Rattle.tracing.specs.Patches.{LaysPatch, FindsLeast};
-ghost use Rattle.fours.specs.Fours.{FourRoom, FourOn, byOne, byTwo, GoesByTwo};
+ghost use Rattle.table.specs.Workings.Loops.{OnGrid};
+ghost use Rattle.tracing.specs.Workings.Patches.{LaysPatch, FindsLeast};
+ghost use Rattle.fours.specs.Workings.Fours.{FourRoom, FourOn, byOne, byTwo, GoesByTwo};
 use table::Least;
 
 // The loop of four has two covers, by the apexes 1 and 2, and needs no table.

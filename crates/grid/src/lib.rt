@@ -4,7 +4,7 @@ ghost use Prim.Native.Nat.{_/_, _%_, _^_, _<_};
 ghost use lib.Ieee.{binary32, ofBits};
 ghost use Rattle.grid.specs.Units.{units};
 ghost use Rattle.grid.specs.Places.{whole, Places, isOff, answerOf};
-use terms::Answer;
+use answers::Answer;
 use terms::Grid;
 
 // The answer for one coordinate. The float beside a whole number is what is left of the value.

@@ -1,6 +1,6 @@
 // The verdict over all loops, in listed order: the bench is taken only where a loop needs it.
-ghost use Rattle.summary.specs.Courses.{VerdictRoom, Gives};
-use terms::Answer;
+ghost use Rattle.summary.specs.Workings.Courses.{VerdictRoom, Gives};
+use answers::Answer;
 
 // The verdict on the set for all loops, whose rings stand one after the other.
 pub fn verdict(

@@ -1,4 +1,3 @@
 -- The laws of reading a sheet text, each file for one idea.
-pub mod Whole
 pub mod Deliver
 pub mod Within

@@ -1,11 +1,10 @@
 -- What reading a sheet text promises leaves nothing open.
 use mathlib.Core.Path.{_≡_, sym, _∙_}
-use mathlib.Core.Logic.{_⊎_, inl, inr}
+use mathlib.Core.Logic.{inl, inr}
 use mathlib.Core.List.{List}
 use Prim.Native.Nat.{ℕ}
-use Rattle.texts.specs.Text.{TextOf}
-use Rattle.texts.specs.Fault.{Fault}
-use Rattle.sheet.specs.Sheet.{Three, points, triangles}
+use Rattle.texts.proofs.Theorems.{Known}
+use Rattle.sheet.specs.Sheet.{points, triangles}
 use Rattle.intake.specs.Outcome.{ReadOutcome, Reads}
 use Rattle.sheet.proofs.Laws.Texts.{text-or-fault}
 
@@ -13,6 +12,6 @@ use Rattle.sheet.proofs.Laws.Texts.{text-or-fault}
 pub reads-once : (bytes words corners : List ℕ) (o o′ : ReadOutcome) → Reads bytes words corners o → Reads bytes words corners o′ → o ≡ o′
 reads-once bytes words corners o o′ p q = go (text-or-fault bytes)
   where
-    go : ((ps : List Three) × (ts : List Three) × TextOf points triangles bytes ps ts) ⊎ ((line : ℕ) × Fault points triangles bytes line) → o ≡ o′
+    go : Known points triangles bytes → o ≡ o′
     go (inl t) = p .of-text (t .0) (t .1) (t .2) ∙ sym (q .of-text (t .0) (t .1) (t .2))
     go (inr f) = p .of-fault (f .0) (f .1) ∙ sym (q .of-fault (f .0) (f .1))

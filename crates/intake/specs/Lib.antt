@@ -1,3 +1,2 @@
 -- What reading a sheet text answers and leaves.
 pub mod Outcome
-pub mod Scanning

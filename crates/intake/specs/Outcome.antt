@@ -5,14 +5,15 @@ use mathlib.Core.Bool.{cond}
 use mathlib.Core.List.{List, [], _∷_}
 use Prim.Native.Nat.{ℕ, _/_}
 use lib.ListN.{length}
-use Rattle.terms.specs.Answers.{refusing}
-use Rattle.terms.specs.declared.Answer.{Answer}
-use Rattle.terms.specs.declared.Answer.the-variants.{Done, Line}
+use Rattle.answers.specs.Numbers.{refusing}
+use Rattle.answers.specs.declared.Answer.{Answer}
+use Rattle.answers.specs.declared.Answer.the-variants.{Done, Line}
 use Rattle.surface.specs.Buffers.{over}
 use Rattle.surface.specs.Refusals.{thenCheck, bufferRefusal, unnamedRefusal}
 use Rattle.texts.specs.Text.{TextOf}
 use Rattle.texts.specs.Fault.{Fault}
-use Rattle.sheet.specs.Sheet.{Three, flat, points, triangles}
+use Rattle.surface.specs.Threes.{Three, flat}
+use Rattle.sheet.specs.Sheet.{points, triangles}
 use Rattle.intake.specs.declared.ReadSheet.{ReadSheet}
 
 pub record ReadOutcome : Type 0 where

@@ -3,23 +3,19 @@ ghost use mathlib.Core.Path.{_≡_};
 ghost use Prim.Native.Nat.{_*_, _<_, _≤_};
 ghost use lib.ListN.{length};
 ghost use Rattle.limits.specs.Limits as limits;
-ghost use Rattle.sheet.specs.Parse.{parse, Room};
+ghost use Rattle.texts.specs.Workings.Scanning.{Scanned};
+ghost use Rattle.surface.specs.Threes.{flat};
+ghost use Rattle.sheet.specs.Workings.Parse.{parse, Room};
 ghost use Rattle.intake.specs.Outcome.{readOutcome, deliver, Reads};
-ghost use Rattle.intake.specs.Scanning.{Scanned};
+use answers::Answer;
 use digits::Number;
 use sheet::Pass;
 use surface::Found;
-use terms::Answer;
 use terms::Surface;
+use texts::Scan;
 
 // How long a text is that is read with little scratch.
 const SHORT: usize = 256;
-
-// The counts of a whole text, or the line of its fault.
-pub enum Scan {
-    Whole(usize, usize),
-    Wrong(usize),
-}
 
 // What reading answers, with the counts of words and corners.
 pub struct ReadSheet {
@@ -31,7 +27,7 @@ pub struct ReadSheet {
 // A whole text, its words and corners laid into two buffers from their starts.
 pub fn take_in(text: &[u8], words: &mut [u32], corners: &mut [u16]) -> Scan
     requires { ⌜ Room 29 limits.points (length (now text)) (length (now words)) × Room 8 limits.triangles (length (now text)) (length (now corners)) ⌝ }
-    ensures { λ r. ⌜ Scanned (parse (now (text .entry))) r (now (words .exit)) (now (corners .exit)) (now (words .entry)) (now (corners .entry)) ⌝ }
+    ensures { λ r. ⌜ Scanned flat flat (parse (now (text .entry))) r (now (words .exit)) (now (corners .exit)) (now (words .entry)) (now (corners .entry)) ⌝ }
 {
     let Number::Is(n, first) = sheet::count_at(text, 0, b"points=", Surface::POINTS) else {
         return Scan::Wrong(1);
@@ -87,11 +83,11 @@ fn hand_over(
         ≡ deliver (now (ws .entry)) (now (cs .entry)) (now (words .entry)) (now (corners .entry))
         ⌝ }
 {
-    let short = surface::check_buffers(&[words.len(), corners.len()], &[ws.len(), cs.len()]);
+    let short = gauging::check_buffers(&[words.len(), corners.len()], &[ws.len(), cs.len()]);
     if short.refuses() {
         return refused(short);
     }
-    if let Found::At(i) = surface::first_unnamed(cs, points as u16) {
+    if let Found::At(i) = gauging::first_unnamed(cs, points as u16) {
         return refused(Answer::Unnamed(i));
     }
     sheet::copy_words(ws, words);

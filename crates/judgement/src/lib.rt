@@ -4,9 +4,9 @@ ghost use Prim.Native.Nat.{_≤_};
 ghost use lib.ListN.{length, drop};
 ghost use Rattle.limits.specs.Limits.{longest};
 ghost use Rattle.verdicts.specs.Faults.{share};
-ghost use Rattle.judgement.specs.Turns.{LoopTurn, OpenTurn, FindsOpen, FindsPatched, FindsLoop};
+ghost use Rattle.judgement.specs.Workings.Turns.{LoopTurn, OpenTurn, FindsOpen, FindsPatched, FindsLoop};
+use answers::Answer;
 use table::Least;
-use terms::Answer;
 use terms::Loop;
 use terms::Surface;
 

@@ -1,9 +1,11 @@
 // Reads a sheet text from standard input and a patch set from the file `patches`, judges the set, and prints the answer line.
 ghost use Rattle.io.specs.Counts.{Counts};
+use answers::Answer;
 use libc::STDIN_FILENO;
 use libc::STDOUT_FILENO;
 use terms::PatchSet;
 use terms::Surface;
+use texts::Scan;
 
 // A byte more than the longest text of a set has, so that a longer one is seen to be longer; a sheet's text is shorter.
 const ROOM: usize = PatchSet::TEXT + 1;
@@ -14,9 +16,9 @@ fn main() {
     let mut words = [0u32; Surface::WORDS];
     let mut corners = [0u16; Surface::CORNERS];
     let n = io::read_full(STDIN_FILENO, &mut room);
-    let sheet = intake::take_in(&room[..n], &mut words, &mut corners);
+    let sheet: Scan = intake::take_in(&room[..n], &mut words, &mut corners);
     let m = read_patches(&mut room);
-    let answer = arbiter::hear(sheet, &words, &corners, &room[..m]);
+    let answer: Answer = arbiter::hear(sheet, &words, &corners, &room[..m]);
     let bytes = report::put_answer(&mut room, answer);
     io::write_all(STDOUT_FILENO, &room[..bytes]);
 }

@@ -5,7 +5,7 @@ ghost use Prim.Native.Nat.{ℕ, _+_, _-_, _≤_};
 ghost use lib.ListN.{length};
 ghost use Rattle.limits.specs.Limits.{points};
 ghost use Rattle.covers.specs.Covers.{on};
-ghost use Rattle.keys.specs.Keys.{Ringed, Lies, Turned, Found};
+ghost use Rattle.keys.specs.Workings.Keys.{Ringed, Lies, Turned, Found};
 use terms::Loop;
 use terms::Surface;
 

@@ -1,7 +1,7 @@
 // Finds the patch of a loop and lays it, or only its least weight.
-ghost use Rattle.table.specs.Loops.{LoopRoom};
-ghost use Rattle.tracing.specs.Patches.{LaysPatch, FindsLeast};
-ghost use Rattle.laying.specs.Patches.{PatchRoom, ThreeRoom, LaysThree};
+ghost use Rattle.table.specs.Workings.Loops.{LoopRoom};
+ghost use Rattle.tracing.specs.Workings.Patches.{LaysPatch, FindsLeast};
+ghost use Rattle.laying.specs.Workings.Patches.{PatchRoom, ThreeRoom, LaysThree};
 use table::Least;
 
 // Finds the patch of the loop with this ring and these bars and lays it from p on; or leaves all as it is.

@@ -3,8 +3,8 @@ ghost use mathlib.Core.Path.{_≡_};
 ghost use mathlib.Core.Bool.{true};
 ghost use Prim.Native.Nat.{_+_, _<_, _≤_};
 ghost use lib.ListN.{length, getD};
-ghost use Rattle.twins.specs.Turns.{openMark};
-ghost use Rattle.leaders.specs.Leading.{Quiet, Landing, Landed};
+ghost use Rattle.twins.specs.Workings.Turns.{openMark};
+ghost use Rattle.leaders.specs.Workings.Leading.{Quiet, Landing, Landed};
 use twins::OPEN;
 
 // An open edge that was walked stands in the table of turns with this, above every turn and below every open edge.

@@ -1,5 +1,5 @@
 // Chains the diagonals of a cover that was read out of a patch set.
-ghost use Rattle.linking.specs.Chaining.{CoverRoom, CoverChained};
+ghost use Rattle.linking.specs.Workings.Chaining.{CoverRoom, CoverChained};
 use bars::chain;
 use keys::Key;
 use terms::Surface;

@@ -2,46 +2,38 @@
 -- program has no room for changes nothing.
 use mathlib.Core.Path.{_≡_, refl, sym, ap, subst, _∙_}
 use mathlib.Core.Bool.{Bool, true, false, true≢false}
-use mathlib.Core.Logic.{_⊎_, inl, inr}
+use mathlib.Core.Logic.{inl, inr}
 use mathlib.Core.List.{List, [], flatten}
-use Prim.Native.Nat.{ℕ, suc, _<_, _≤_}
-use native.Mathlib.Omega.{arith}
-use lib.Dec.{leb}
+use Prim.Native.Nat.{ℕ, suc}
 use lib.ListN.{length, take}
-use lib.Seq.{take-all}
-use borrow.Author.Tests.{leb-true, leb-false}
 use Rattle.limits.specs.Limits as limits
-use Rattle.terms.specs.Answers.{refusing}
-use Rattle.terms.specs.declared.Answer.{Answer}
-use Rattle.surface.specs.Refusals.{refusal}
+use Rattle.answers.specs.Numbers.{refusing}
+use Rattle.answers.specs.declared.Answer.{Answer}
+use Rattle.surface.specs.Refusals.{sheetRefusal}
 use Rattle.survey.specs.Grid.{gridOf}
 use Rattle.run.specs.Fates.{Fate}
 use Rattle.run.specs.Run.{ringList}
 use Rattle.run.proofs.Laws.Once.{run-once}
 use Rattle.patching.specs.Outcome.{Buffers, Outcome}
 use Rattle.patching.proofs.Laws.Once.{patches-once}
-use Rattle.texts.specs.Text.{TextOf}
-use Rattle.texts.specs.Fault.{Fault}
-use Rattle.texts.proofs.Laws.Cut.{fault-front}
-use Rattle.sheet.specs.Sheet.{Three, flat, points, triangles}
+use Rattle.texts.proofs.Theorems.{Known}
+use Rattle.texts.proofs.Laws.Cut.{text-first, fault-first}
+use Rattle.surface.specs.Threes.{flat}
+use Rattle.sheet.specs.Sheet.{points, triangles}
 use Rattle.sheet.proofs.Laws.Texts.{text-or-fault}
 use Rattle.sheet.proofs.Theorems.{longest}
 use Rattle.report.specs.Listing.{Shown, listing}
 use Rattle.lister.specs.Lists.{Lists, loopsOf, PrintsIf, Prints}
 use Rattle.roll.specs.Pieces.{Pieces}
 use Rattle.roll.proofs.Theorems.{pieces-joined}
-use Rattle.lister.specs.Printed.{Full, Printed}
+use Rattle.lister.specs.Workings.Printed.{Full, Printed}
 use Rattle.lister.proofs.Laws.Printed.{text-refused, text-done, fault-prints}
-
--- a text says something or has a fault
-abbrev Known : List ℕ → Type 0
-Known bytes = ((ps : List Three) × (ts : List Three) × TextOf points triangles bytes ps ts) ⊎ ((line : ℕ) × Fault points triangles bytes line)
 
 -- two outcomes that are allowed are equal
 pub lists-once : (bytes : List ℕ) (b : Buffers) (o p : Outcome) → Lists bytes b o → Lists bytes b p → o ≡ p
 lists-once bytes b o p x y = go (text-or-fault bytes)
   where
-    go : Known bytes → o ≡ p
+    go : Known points triangles bytes → o ≡ p
     go (inl t) = patches-once (flat (t .0)) (flat (t .1)) b o p (x .of-text (t .0) (t .1) (t .2)) (y .of-text (t .0) (t .1) (t .2))
     go (inr f) = x .of-fault (f .0) (f .1) ∙ sym (y .of-fault (f .0) (f .1))
 
@@ -56,9 +48,9 @@ prints-once bytes out out′ x y = go (text-or-fault bytes)
         ∙ ap (λ (fs : List Fate). listing (loopsOf (gridOf words) (ringList corners) fs)) (run-once (gridOf words) corners [] (ringList corners) (p .0) (q .0) (p .1) (q .1))
         ∙ sym (q .2)
 
-    go : Known bytes → out ≡ out′
+    go : Known points triangles bytes → out ≡ out′
     go (inl t) =
-        let a = refusal (flat (t .0)) (flat (t .1)) [] [] in
+        let a = sheetRefusal (flat (t .0)) (flat (t .1)) in
         of-text (flat (t .0)) (flat (t .1)) (refusing a) a (x .of-text (t .0) (t .1) (t .2)) (y .of-text (t .0) (t .1) (t .2))
     go (inr f) = x .of-fault (f .0) (f .1) ∙ sym (y .of-fault (f .0) (f .1))
 
@@ -66,7 +58,7 @@ prints-once bytes out out′ x y = go (text-or-fault bytes)
 pub lists-printed : (bytes : List ℕ) (b : Buffers) (o : Outcome) → Full b → Lists bytes b o → Printed (refusing (o .answer)) bytes o
 lists-printed bytes b o full x = go (refusing (o .answer)) refl (text-or-fault bytes)
   where
-    go : (r : Bool) → refusing (o .answer) ≡ r → Known bytes → Printed r bytes o
+    go : (r : Bool) → refusing (o .answer) ≡ r → Known points triangles bytes → Printed r bytes o
     go true r (inl t) = text-refused (t .2) b full o (x .of-text (t .0) (t .1) (t .2)) r
     go true r (inr f) = subst (Printed true bytes) (sym (x .of-fault (f .0) (f .1))) (fault-prints (f .1))
     go false r (inl t) = text-done (t .2) b full o (x .of-text (t .0) (t .1) (t .2)) r
@@ -78,16 +70,8 @@ pieces-printed bytes loops pieces p q = subst (Prints bytes) (sym (pieces-joined
 
 -- what is right for the first bytes, one more than the longest text has, is right for all
 pub prints-front : (bytes out : List ℕ) → Prints (take (suc limits.sheet-text) bytes) out → Prints bytes out
-prints-front bytes out p = go (leb (length bytes) limits.sheet-text) refl
-  where
-    short : length bytes ≤ limits.sheet-text → take (suc limits.sheet-text) bytes ≡ bytes
-    short h = take-all (suc limits.sheet-text) bytes (omega arith)
-
-    go : (b : Bool) → leb (length bytes) limits.sheet-text ≡ b → Prints bytes out
-    go true e = subst (λ (l : List ℕ). Prints l out) (short (leb-true (length bytes) limits.sheet-text e)) p
-    go false e =
-        let more : limits.sheet-text < length bytes = leb-false (length bytes) limits.sheet-text e in
-        record {
-          of-fault = λ line f. p .of-fault line (fault-front points triangles limits.sheet-text (λ b ps ts t. longest t) bytes more f);
-          of-text = λ ps ts t. absurd (omega (arith, longest t, more));
-        }
+prints-front bytes out p =
+    record {
+      of-fault = λ line f. p .of-fault line (fault-first points triangles limits.sheet-text (λ b ps ts t. longest t) bytes line f);
+      of-text = λ ps ts t. p .of-text ps ts (text-first points triangles limits.sheet-text (λ b ps ts t. longest t) bytes ps ts t);
+    }

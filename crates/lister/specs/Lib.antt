@@ -1,3 +1,3 @@
 -- What is answered, left and printed for a sheet's text.
 pub mod Lists
-pub mod Printed
+pub mod Workings

@@ -5,17 +5,18 @@ use mathlib.Core.Bool.{Bool, true, false}
 use mathlib.Core.List.{List, [], _∷_}
 use Prim.Native.Nat.{ℕ}
 use lib.IntN.{ℤ}
-use Rattle.terms.specs.Answers.{refusing}
-use Rattle.terms.specs.declared.Answer.{Answer}
-use Rattle.terms.specs.declared.Answer.the-variants.{Line}
-use Rattle.surface.specs.Refusals.{refusal}
+use Rattle.answers.specs.Numbers.{refusing}
+use Rattle.answers.specs.declared.Answer.{Answer}
+use Rattle.answers.specs.declared.Answer.the-variants.{Line}
+use Rattle.surface.specs.Refusals.{sheetRefusal}
 use Rattle.survey.specs.Grid.{gridOf}
 use Rattle.run.specs.Fates.{Fate, stateOf, weighs, lays}
 use Rattle.run.specs.Run.{Run, ringList}
 use Rattle.patching.specs.Outcome.{Buffers, Outcome, refused, Patches}
 use Rattle.texts.specs.Text.{TextOf}
 use Rattle.texts.specs.Fault.{Fault}
-use Rattle.sheet.specs.Sheet.{Three, flat, points, triangles}
+use Rattle.surface.specs.Threes.{Three, flat}
+use Rattle.sheet.specs.Sheet.{points, triangles}
 use Rattle.report.specs.Lines.{answerLine}
 use Rattle.report.specs.Listing.{Shown, listing}
 
@@ -40,4 +41,4 @@ PrintsIf false a words corners out =
 pub record Prints (bytes out : List ℕ) : Type 0 where
   pub of-fault : (line : ℕ) → Fault points triangles bytes line → out ≡ answerLine (Line line)
   pub of-text : (ps ts : List Three) → TextOf points triangles bytes ps ts
-      → PrintsIf (refusing (refusal (flat ps) (flat ts) [] [])) (refusal (flat ps) (flat ts) [] []) (flat ps) (flat ts) out
+      → PrintsIf (refusing (sheetRefusal (flat ps) (flat ts))) (sheetRefusal (flat ps) (flat ts)) (flat ps) (flat ts) out

@@ -1,10 +1,10 @@
 // Reads a sheet's text and patches what it says.
 ghost use Rattle.patching.specs.Outcome.{buffers, outcome};
 ghost use Rattle.lister.specs.Lists.{Lists};
-use intake::Scan;
+use answers::Answer;
 use patching::Patched;
-use terms::Answer;
 use terms::Surface;
+use texts::Scan;
 
 // Patches the sheet that a text says, and leaves what the patcher leaves; or refuses a text at its wrong line, and leaves everything as it
 // was.

@@ -1,10 +1,10 @@
 // Reads a sheet text from standard input and prints its loops and their patches, or an answer line.
 ghost use Prim.Native.Nat.{_≤_};
 ghost use lib.ListN.{length};
-ghost use Rattle.roll.specs.Listed.{Listed};
+ghost use Rattle.roll.specs.Workings.Listed.{Listed};
+use answers::Answer;
 use libc::STDIN_FILENO;
 use libc::STDOUT_FILENO;
-use terms::Answer;
 use terms::PatchSet;
 use terms::Surface;
 

@@ -1,10 +1,10 @@
 // Rows of yes and no for the positions of a loop, a word each.
 ghost use mathlib.Core.Path.{_≡_};
-ghost use mathlib.Core.Bool.{Bool, _||_};
+ghost use mathlib.Core.Bool.{_||_};
 ghost use Prim.Native.Nat.{ℕ, _<_};
 ghost use lib.Dec.{eqb};
 ghost use Rattle.limits.specs.Limits.{longest};
-ghost use Rattle.masks.specs.Masks.{bit};
+ghost use Rattle.masks.specs.Workings.Masks.{bit};
 
 // Whether position k is set in the row.
 pub fn is_set(row: u64, k: usize) -> bool

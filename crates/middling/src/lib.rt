@@ -2,7 +2,7 @@
 ghost use Prim.Native.Nat.{_≤_};
 ghost use lib.ListN.{length};
 ghost use Rattle.limits.specs.Limits.{longest};
-ghost use Rattle.middling.specs.Turns.{TurnRoom, Takes};
+ghost use Rattle.middling.specs.Workings.Turns.{TurnRoom, Takes};
 use plain::Became;
 use table::Least;
 use terms::Loop;

@@ -2,8 +2,8 @@
 ghost use mathlib.Core.Path.{_≡_};
 ghost use Prim.Native.Nat.{_+_, _≤_};
 ghost use lib.ListN.{length, getD, drop};
-ghost use Rattle.digits.specs.Reading.{readHex, seen, UpTo};
-ghost use Rattle.nibbles.specs.Tables.{Marked, half};
+ghost use Rattle.digits.specs.Workings.Reading.{readHex, seen, UpTo};
+ghost use Rattle.nibbles.specs.Workings.Tables.{Marked, half};
 use digits::Number;
 
 // What each byte stands for as a digit, and behind all of them sixteen times that.

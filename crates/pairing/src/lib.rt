@@ -3,9 +3,9 @@
 ghost use mathlib.Core.Path.{_≡_};
 ghost use Prim.Native.Nat.{_%_, _≤_};
 ghost use lib.ListN.{length};
-ghost use Rattle.twins.specs.Turns.{Room};
-ghost use Rattle.pairing.specs.Outcome.{Paired};
-ghost use Rattle.pairing.specs.Triangles.{buckets, fewCorners, PlainTo, AfterRoom, alike, TriangleRoom, TriangleDone};
+ghost use Rattle.twins.specs.Workings.Turns.{Room};
+ghost use Rattle.pairing.specs.Workings.Outcome.{Paired};
+ghost use Rattle.pairing.specs.Workings.Triangles.{buckets, fewCorners, PlainTo, AfterRoom, alike, TriangleRoom, TriangleDone};
 ghost use Rattle.surface.specs.Edges.{following};
 use surface::Found;
 use terms::Surface;
@@ -77,7 +77,7 @@ fn plain_end(corners: &[u16]) -> usize
     requires { ⌜ length (now corners) % 3 ≡ 0 ⌝ }
     ensures { λ r. ⌜ PlainTo (now (corners .entry)) r ⌝ }
 {
-    let twice = surface::first_twice(corners);
+    let twice = gauging::first_twice(corners);
     match twice {
         Found::At(t) => 3 * t,
         Found::Nothing => corners.len(),

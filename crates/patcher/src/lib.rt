@@ -2,9 +2,9 @@
 ghost use mathlib.Core.Path.{_≡_};
 ghost use Prim.Native.Nat.{_/_, _≤_};
 ghost use lib.ListN.{length};
-ghost use Rattle.terms.specs.declared.Answer.the-variants.{Done};
+ghost use Rattle.answers.specs.declared.Answer.the-variants.{Done};
 ghost use Rattle.surface.specs.Refusals.{countRefusal};
-ghost use Rattle.rounds.specs.Scratch.{few};
+ghost use Rattle.rounds.specs.Workings.Scratch.{few};
 ghost use Rattle.patching.specs.Outcome.{outcome, buffers, Patches};
 use patching::Patched;
 use rounds::FEW;
@@ -25,7 +25,7 @@ pub fn patch(
     ensures { λ r. ⌜ Patches (now (words .entry)) (now (corners .entry)) (buffers (now (grid .entry)) (now (rings .entry)) (now (lengths .entry)) (now (states .entry)) (now (weights .entry)) (now (patches .entry)))
         (outcome r (buffers (now (grid .exit)) (now (rings .exit)) (now (lengths .exit)) (now (states .exit)) (now (weights .exit)) (now (patches .exit)))) ⌝ }
 {
-    let counted = surface::check_counts(words.len(), corners.len());
+    let counted = gauging::check_counts(words.len(), corners.len());
     if counted.refuses() {
         return patching::refused(counted);
     }

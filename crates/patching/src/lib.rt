@@ -1,8 +1,8 @@
 // Patches a surface whose counts fit, with lent scratch: the other checks, the grid, the loops, and what becomes of each.
 ghost use mathlib.Core.Path.{_≡_};
-ghost use Rattle.rounds.specs.Scratch.{Scratch};
+ghost use Rattle.rounds.specs.Workings.Scratch.{Scratch};
 ghost use Rattle.patching.specs.Outcome.{outcome, buffers, Patches};
-use terms::Answer;
+use answers::Answer;
 use terms::Surface;
 
 // What the patcher answers: done or a refusal, how many loops there are, how many vertices their rings have, and how many corners

@@ -1,6 +1,6 @@
 // What becomes of a loop that needs neither bars nor the table: a triangle, and one that lays nothing.
 ghost use mathlib.Core.Path.{_≡_};
-ghost use Rattle.plain.specs.Threes.{ThreeRoom, ThreeTook};
+ghost use Rattle.plain.specs.Workings.Threes.{ThreeRoom, ThreeTook};
 
 // What became of the loop: its state and weight, how many corners are laid and how many edges chained after it.
 pub struct Became {

@@ -7,11 +7,11 @@ ghost use mathlib.Core.List.{[]};
 ghost use Prim.Native.Nat.{ℕ, _^_, _<_, _≤_};
 ghost use lib.ListN.{length, getD};
 ghost use Rattle.limits.specs.Limits.{points, longest};
-ghost use Rattle.covers.specs.Sets.{triples};
-ghost use Rattle.masks.specs.Masks.{bit, Rows};
-ghost use Rattle.keys.specs.Keys.{Threes};
-ghost use Rattle.reading.specs.Reading.{Reads};
-ghost use Rattle.reading.specs.Rows.{Readable, SidesFree, Held, Collects, Closes, Clashes};
+ghost use Rattle.surface.specs.Threes.{threes};
+ghost use Rattle.masks.specs.Workings.Masks.{bit, Rows};
+ghost use Rattle.keys.specs.Workings.Keys.{Threes};
+ghost use Rattle.reading.specs.Workings.Reading.{ReadsCover};
+ghost use Rattle.reading.specs.Workings.Rows.{Readable, SidesFree, Held, Collects, Closes, Clashes};
 use keys::Key;
 use masks::is_set;
 use masks::with;
@@ -34,7 +34,7 @@ pub fn read_cover(
     set: &[u16],
 ) -> Reading
     requires { ⌜ Readable (now ring) (now marks) base (now bars) (now set) ⌝ }
-    ensures { λ r. ⌜ ((barred : ℕ → ℕ → Bool) → Rows (length (now (ring .entry))) barred (now (bars .entry)) → SidesFree (length (now (ring .entry))) barred → Reads (now (ring .entry)) barred (triples (now (set .entry))) r) ⌝ }
+    ensures { λ r. ⌜ ((barred : ℕ → ℕ → Bool) → Rows (length (now (ring .entry))) barred (now (bars .entry)) → SidesFree (length (now (ring .entry))) barred → ReadsCover (now (ring .entry)) barred (threes (now (set .entry))) r) ⌝ }
 {
     let n = ring.len();
     let mut has = [0u64; Loop::LONGEST];

@@ -1,6 +1,5 @@
 -- The laws of what the programs print, each file for one idea.
 pub mod Digits
-pub mod Laying
 pub mod Lines
 pub mod Patches
 pub mod Parts

@@ -4,10 +4,10 @@ use mathlib.Core.List.{List, [], _∷_, _++_, append-assoc}
 use Prim.Native.Nat.{ℕ, _+_, _≤_}
 use native.Mathlib.Omega.{arith}
 use lib.ListN.{drop}
-use Rattle.terms.specs.Answers.{numberOf, placeOf}
-use Rattle.terms.specs.declared.Answer.{Answer}
+use Rattle.answers.specs.Numbers.{numberOf, placeOf}
+use Rattle.answers.specs.declared.Answer.{Answer}
 use Rattle.digits.specs.Numeral.{decimal}
-use Rattle.digits.specs.Reading.{got, valueOf, readDecimal}
+use Rattle.digits.specs.Workings.Reading.{got, valueOf, readDecimal}
 use Rattle.digits.proofs.Laws.Exactly.{decimal-exact}
 use Rattle.texts.specs.Text.{feed}
 use Rattle.sheet.specs.Sheet.{comma}

@@ -1,4 +1,4 @@
 -- What the programs print.
 pub mod Lines
 pub mod Listing
-pub mod Telling
+pub mod Workings

@@ -1,8 +1,8 @@
 -- The lines that the programs print: a key, and numbers joined by commas.
 use mathlib.Core.List.{List, [], _∷_, _++_}
 use Prim.Native.Nat.{ℕ}
-use Rattle.terms.specs.Answers.{numberOf, placeOf}
-use Rattle.terms.specs.declared.Answer.{Answer}
+use Rattle.answers.specs.Numbers.{numberOf, placeOf}
+use Rattle.answers.specs.declared.Answer.{Answer}
 use Rattle.digits.specs.Numeral.{decimal}
 use Rattle.texts.specs.Text.{feed}
 use Rattle.sheet.specs.Sheet.{comma}

@@ -3,8 +3,8 @@
 use mathlib.Core.List.{List, [], _∷_, _++_, map, flatten}
 use Prim.Native.Nat.{ℕ}
 use lib.ListN.{length}
-use Rattle.terms.specs.declared.Answer.the-variants.{Done}
-use Rattle.sheet.specs.Sheet.{Three, threes}
+use Rattle.answers.specs.declared.Answer.the-variants.{Done}
+use Rattle.surface.specs.Threes.{Three, threes}
 use Rattle.report.specs.Lines.{line, answerLine, loops=, loop=, ring=, patch=}
 
 -- what is told of a loop: the vertices of its ring, its state and weight, and the corners of its patch

@@ -9,8 +9,8 @@ ghost use Rattle.surface.specs.Buffers.{over, laid};
 ghost use Rattle.digits.specs.Numeral.{size, places, decimal};
 ghost use Rattle.report.specs.Lines.{answerLine, line, loops=, ring=};
 ghost use Rattle.report.specs.Listing.{loopLines, patchLines};
-ghost use Rattle.report.specs.Telling.{shown, NextRoom, TellsNext};
-use terms::Answer;
+ghost use Rattle.report.specs.Workings.Telling.{shown, NextRoom, TellsNext};
+use answers::Answer;
 use terms::Loop;
 use terms::Surface;
 

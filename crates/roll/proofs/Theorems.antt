@@ -9,8 +9,8 @@ use lib.Dec.{leb}
 use lib.ListN.{length, take, length-append}
 use lib.Seq.{take-all}
 use borrow.Author.Tests.{leb-true, leb-false}
-use Rattle.terms.specs.declared.Answer.{Answer}
-use Rattle.terms.specs.declared.Answer.the-variants.{Done}
+use Rattle.answers.specs.declared.Answer.{Answer}
+use Rattle.answers.specs.declared.Answer.the-variants.{Done}
 use Rattle.surface.specs.Buffers.{over, laid}
 use Rattle.surface.proofs.Laws.Over.{start-of}
 use Rattle.surface.proofs.Laws.Laid.{laid-over}
@@ -18,7 +18,8 @@ use Rattle.surface.proofs.Laws.Lists.{flatten-append}
 use Rattle.report.specs.declared.Mark.{Mark}
 use Rattle.report.specs.Lines.{line, answerLine, loops=}
 use Rattle.report.specs.Listing.{Shown, loopLines, listing}
-use Rattle.roll.specs.Roll.{head, between, Begins, Puts, Fills}
+use Rattle.roll.specs.Pieces.{head, between}
+use Rattle.roll.specs.Workings.Roll.{Begins, Puts, Fills}
 use Rattle.roll.specs.Pieces.{Pieces, first, next}
 use Rattle.roll.proofs.Laws.Between.{between-joins}
 

@@ -2,11 +2,11 @@
 ghost use mathlib.Core.Path.{_≡_};
 ghost use Prim.Native.Nat.{_≤_};
 ghost use lib.ListN.{length};
-ghost use Rattle.roll.specs.Roll.{Begins, Going, FillsOn};
+ghost use Rattle.roll.specs.Workings.Roll.{Begins, Going, FillsOn};
+use answers::Answer;
 use report::LINE;
 use report::Mark;
 use report::WIDEST;
-use terms::Answer;
 
 // How many bytes the lines before the first loop have at most, and room that is enough for a piece: those and the widest loop's lines.
 pub const HEAD: usize = 2 * LINE;

@@ -1,7 +1,7 @@
 // What going from loop to loop takes, for the patcher and for the checker alike.
 ghost use mathlib.Core.Path.{_≡_};
 ghost use mathlib.Core.Bool.{false};
-ghost use Rattle.rounds.specs.Rings.{Plain};
+ghost use Rattle.rounds.specs.Workings.Rings.{Plain};
 use terms::Loop;
 
 // A surface with no more points and no more corners than this is worked on with room for as many, and not for as many as a surface

@@ -1,12 +1,11 @@
 -- What becomes of one loop in a run.
 use mathlib.Core.List.{List, []}
-use Prim.Native.Nat.{ℕ, _-_, _<_, _≤_}
+use Prim.Native.Nat.{ℕ, _<_, _≤_}
 use lib.IntN.{ℤ}
 use lib.ListN.{length}
 use Rattle.limits.specs.Limits as limits
-use Rattle.covers.specs.Covers.{Cover, Patch, NoCover, patchOf, weight}
-use Rattle.weight.specs.Edition.{naturals, triOf, along}
-use Rattle.bars.specs.Bars.{barred}
+use Rattle.covers.specs.Covers.{Cover, patchOf}
+use Rattle.run.specs.Here.{NoneHere, weightHere, PatchHere}
 
 -- "State 1: patched. State 2: long ... State 3: no allowed cover."
 pub data Fate : Type 0 where
@@ -21,7 +20,7 @@ stateOf uncovered = 3
 
 -- "States 2 and 3 have weight 0, lay nothing": what the loop with this ring weighs, and the corners that it lays
 abbrev pub weighs : List ℤ → List ℕ → Fate → ℕ
-weighs grid ring (patched c) = weight naturals (triOf (along grid ring)) 0 (length ring - 1) c
+weighs grid ring (patched c) = weightHere grid ring c
 weighs grid ring long = 0
 weighs grid ring uncovered = 0
 
@@ -33,7 +32,6 @@ lays ring uncovered = []
 -- The fate that the loop with this ring has, where the input has these corners and these were laid before it: patched by the least
 -- allowed cover under the tie rule; long; or uncovered, because no allowed cover exists.
 abbrev pub Meets : List ℤ → List ℕ → List ℕ → List ℕ → Fate → Type 0
-Meets grid input laid ring (patched c) =
-    (length ring ≤ limits.longest) × Patch naturals (triOf (along grid ring)) (barred input laid ring) 0 (length ring - 1) c
+Meets grid input laid ring (patched c) = (length ring ≤ limits.longest) × PatchHere grid input laid ring c
 Meets grid input laid ring long = limits.longest < length ring
-Meets grid input laid ring uncovered = (length ring ≤ limits.longest) × NoCover (barred input laid ring) 0 (length ring - 1)
+Meets grid input laid ring uncovered = (length ring ≤ limits.longest) × NoneHere input laid ring

@@ -24,7 +24,7 @@ use Rattle.verdicts.specs.Faults as faults
 use Rattle.verdicts.specs.Faults.{IsCover, DeclaredPatched, Lighter}
 use Rattle.verdicts.proofs.Laws.Listing.{patch-is-cover}
 use Rattle.verdicts.proofs.Laws.Declared.{declared-patched}
-use Rattle.samples.specs.Table.{Table, cone, dentedTop, rim, Taken, overOne, overTwo, alone}
+use Rattle.samples.specs.Table.{Table, cone, dentedTop, rim, ToTake, overOne, overTwo, alone}
 use Rattle.samples.proofs.Small.{allows, allowed, not-allowed, none-of-four, three, four}
 
 nonzero : (z : ℤ) → 0 < natAbs z → z ≡ pos 0 → ⊥
@@ -46,7 +46,7 @@ begun-elsewhere = record {
 }
 
 -- none is lighter than the cover that is taken
-no-lighter : Taken cone dentedTop rim overTwo → Lighter dentedTop cone [] rim overTwo → ⊥
+no-lighter : ToTake cone dentedTop rim overTwo → Lighter dentedTop cone [] rim overTwo → ⊥
 no-lighter t x = t .least (x .other) (x .allowed) (x .lighter)
 
 pub table : Table

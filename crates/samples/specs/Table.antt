@@ -2,22 +2,20 @@
 use mathlib.Core.Path.{_≡_}
 use mathlib.Core.Bool.{true}
 use mathlib.Core.List.{List, [], _∷_, map}
-use Prim.Native.Nat.{ℕ, _-_}
+use Prim.Native.Nat.{ℕ}
 use lib.IntN.{ℤ, pos, negsuc}
 use lib.Ieee.{binary32, ofBits}
-use lib.ListN.{length}
-use Rattle.terms.specs.declared.Answer.{Answer}
-use Rattle.terms.specs.declared.Answer.the-variants.{Done, Repeated, Barred, Heavy}
+use Rattle.answers.specs.declared.Answer.{Answer}
+use Rattle.answers.specs.declared.Answer.the-variants.{Done, Repeated, Barred, Heavy}
 use Rattle.grid.specs.Places.{Places}
 use Rattle.grid.specs.declared.Coordinate.the-variants.{Shifted, TooFar}
 use Rattle.surface.specs.Refusals.{cornerRefusal}
 use Rattle.loops.specs.Loops.{cycle, ring}
-use Rattle.covers.specs.Covers.{Cover, empty, apex, Patch}
-use Rattle.weight.specs.Edition.{naturals, triOf, along}
+use Rattle.covers.specs.Covers.{Cover, empty, apex}
 use Rattle.bars.specs.Bars.{barred}
 use Rattle.run.specs.Fates.{Fate}
 use Rattle.run.specs.Run.{Run, ringList, statesOf, weightsOf, laidBy}
-use Rattle.verdicts.specs.Faults.{AllowedHere, NoneHere, weightHere}
+use Rattle.run.specs.Here.{AllowedHere, NoneHere, weightHere, PatchHere}
 use Rattle.verdicts.specs.Verdicts.{Verdict}
 
 -- (0,1,2),(0,1,3)
@@ -80,8 +78,8 @@ Free corners = AllowedHere corners []
 abbrev pub Open : List ℕ → List ℕ → Type 0
 Open corners = NoneHere corners []
 
-abbrev pub Taken : List ℕ → List ℤ → List ℕ → Cover → Type 0
-Taken corners grid ring = Patch naturals (triOf (along grid ring)) (barred corners [] ring) 0 (length ring - 1)
+abbrev pub ToTake : List ℕ → List ℤ → List ℕ → Cover → Type 0
+ToTake corners grid ring = PatchHere grid corners [] ring
 
 -- the run over the surface gives its loops these states and weights and lays these corners
 pub record Leaves (grid : List ℤ) (corners states weights laid : List ℕ) : Type 0 where
@@ -118,14 +116,14 @@ pub record Table : Type 0 where
   -- (0,1,2),(0,2,3): diagonal 0-2 barred; patch (0,3,1),(1,3,2), weight 280, and (0,3,2),(0,2,1) has the barred diagonal: it gets 13
   pub folded-rings : ringList folded ≡ rim ∷ []
   pub folded-bar : barred folded [] rim 0 2 ≡ true
-  pub folded-taken : Taken folded lifted rim overOne
+  pub folded-taken : ToTake folded lifted rim overOne
   pub folded-run : Leaves lifted folded (1 ∷ []) (280 ∷ []) (0 ∷ 3 ∷ 1 ∷ 1 ∷ 3 ∷ 2 ∷ [])
   pub folded-barred : Free folded rim overTwo → ⊥
   pub folded-judged : Gets lifted folded (1 ∷ []) (0 ∷ 3 ∷ 2 ∷ 0 ∷ 2 ∷ 1 ∷ []) (Barred 0)
-  -- the cone with a dent: patch (0,3,2),(0,2,1), weight 60; (0,3,1),(1,3,2) weightHere 140 and gets 14;
+  -- the cone with a dent: patch (0,3,2),(0,2,1), weight 60; (0,3,1),(1,3,2) weighs 140 and gets 14;
   -- (3,2,0),(2,1,0) passes
   pub cone-rings : ringList cone ≡ rim ∷ []
-  pub cone-taken : Taken cone dentedTop rim overTwo
+  pub cone-taken : ToTake cone dentedTop rim overTwo
   pub cone-run : Leaves dentedTop cone (1 ∷ []) (60 ∷ []) (0 ∷ 3 ∷ 2 ∷ 0 ∷ 2 ∷ 1 ∷ [])
   pub cone-other : Free cone rim overOne
   pub cone-heavier : weightHere dentedTop rim overOne ≡ 140
@@ -134,9 +132,9 @@ pub record Table : Type 0 where
   -- the cone with the points of (0,1,2),(0,2,3): both covers weigh 280, so m = 1: (0,3,1),(1,3,2)
   pub equal-one : weightHere liftedTop rim overOne ≡ 280
   pub equal-two : weightHere liftedTop rim overTwo ≡ 280
-  pub equal-taken : Taken cone liftedTop rim overOne
+  pub equal-taken : ToTake cone liftedTop rim overOne
   -- (0,1,2),(0,2,3),(1,3,4): ring 0,1,2,3 has no cover, ring 1,3,4 is patched by (1,4,3) wherever the points lie
   pub crossed-rings : ringList crossed ≡ rim ∷ side ∷ []
   pub crossed-open : Open crossed rim
-  pub crossed-taken : (grid : List ℤ) → Taken crossed grid side alone
+  pub crossed-taken : (grid : List ℤ) → ToTake crossed grid side alone
   pub crossed-run : (grid : List ℤ) → Leaves grid crossed (3 ∷ 1 ∷ []) (0 ∷ weightHere grid side alone ∷ []) (1 ∷ 4 ∷ 3 ∷ [])

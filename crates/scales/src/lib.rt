@@ -3,16 +3,16 @@ ghost use mathlib.Core.Path.{_≡_};
 ghost use Prim.Native.Nat.{_*_, _≤_};
 ghost use lib.ListN.{length};
 ghost use Rattle.limits.specs.Limits.{longest};
-ghost use Rattle.covers.specs.Sets.{triples};
+ghost use Rattle.surface.specs.Threes.{threes};
 ghost use Rattle.weight.specs.Weight.{Coordinates};
-ghost use Rattle.keys.specs.Keys.{Threes};
-ghost use Rattle.scales.specs.Weighing.{setWeight, AllNamed};
+ghost use Rattle.keys.specs.Workings.Keys.{Threes};
+ghost use Rattle.scales.specs.Workings.Weighing.{setWeight, AllNamed};
 use weight::weigh_named;
 
 // What the set weighs.
 pub fn weigh_set(grid: &[i32], set: &[u16]) -> u64
     requires { ⌜ Coordinates (now grid) × AllNamed (now grid) (now set) × Threes (now set) × (length (now set) ≤ 3 * longest) ⌝ }
-    ensures { λ r. ⌜ r ≡ setWeight (now (grid .entry)) (triples (now (set .entry))) ⌝ }
+    ensures { λ r. ⌜ r ≡ setWeight (now (grid .entry)) (threes (now (set .entry))) ⌝ }
 {
     let mut total = 0;
     let mut q = 0;

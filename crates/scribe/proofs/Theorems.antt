@@ -8,8 +8,8 @@ use lib.ListN.{length, getD, take, drop}
 use lib.Seq.{take-append-seam}
 use borrow.Author.Tests.{leb-false}
 use Rattle.limits.specs.Limits as limits
-use Rattle.terms.specs.Answers.{refusing}
-use Rattle.terms.specs.declared.Answer.the-variants.{Done, Unnamed}
+use Rattle.answers.specs.Numbers.{refusing}
+use Rattle.answers.specs.declared.Answer.the-variants.{Done, Unnamed}
 use Rattle.surface.specs.declared.Found.{Found}
 use Rattle.surface.specs.declared.Found.the-variants.{At, Nothing}
 use Rattle.surface.specs.Smallest.{least}
@@ -19,7 +19,8 @@ use Rattle.surface.proofs.Laws.Smallest.{least-never}
 use Rattle.surface.proofs.Laws.Sound.{next-of}
 use Rattle.surface.proofs.Laws.Thens.{counts-fit, count-plain, done-of}
 use Rattle.texts.specs.Text.{TextOf}
-use Rattle.sheet.specs.Sheet.{threes, points, triangles, text}
+use Rattle.surface.specs.Threes.{threes}
+use Rattle.sheet.specs.Sheet.{points, triangles, text}
 use Rattle.sheet.proofs.Theorems.{text-of}
 use Rattle.scribe.specs.Outcome.{WriteOutcome, writeRefusal, writes}
 

@@ -3,7 +3,7 @@ ghost use mathlib.Core.Path.{_≡_};
 ghost use Prim.Native.Nat.{_≤_};
 ghost use lib.ListN.{length, take};
 ghost use Rattle.surface.specs.Buffers.{over};
-use terms::Answer;
+use answers::Answer;
 
 // What the checker answers: passed, a refusal or a verdict, how many loops there are, and how many vertices their rings have.
 pub struct Judged {

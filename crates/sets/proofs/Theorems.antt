@@ -1,6 +1,6 @@
 -- What reading the text of a patch set promises leaves nothing open; and how long such a text can be.
 use mathlib.Core.Path.{_≡_, refl, sym, ap, _∙_}
-use mathlib.Core.Logic.{_⊎_, inl, inr}
+use mathlib.Core.Logic.{inl, inr}
 use mathlib.Core.List.{List, [], _∷_, _++_, map, flatten}
 use Prim.Native.Nat.{ℕ, suc, _*_, _<_, _≤_}
 use native.Mathlib.Omega.{arith}
@@ -10,7 +10,8 @@ use Rattle.texts.specs.Text.{count, TextOf}
 use Rattle.texts.specs.Fault.{Fault}
 use Rattle.texts.proofs.Laws.Lines.{text-flat}
 use Rattle.texts.proofs.Laws.Cut.{fault-whole}
-use Rattle.sheet.specs.Sheet.{Three}
+use Rattle.texts.proofs.Theorems.{Known}
+use Rattle.surface.specs.Threes.{Three}
 use Rattle.sheet.proofs.Laws.Sizes.{count-length}
 use Rattle.sheet.proofs.Theorems.{few-digits, triangles-most}
 use Rattle.sets.specs.Set as text
@@ -21,7 +22,7 @@ use Rattle.sets.proofs.Laws.Texts.{text-once, text-or-fault}
 pub reads-set-once : (bytes : List ℕ) (before : ℕ) (states corners : List ℕ) (o o′ : SetOutcome) → ReadsSet bytes before states corners o → ReadsSet bytes before states corners o′ → o ≡ o′
 reads-set-once bytes before states corners o o′ p q = go (text-or-fault bytes)
   where
-    go : ((ss : List ℕ) × (ts : List Three) × TextOf text.states text.triangles bytes ss ts) ⊎ ((line : ℕ) × Fault text.states text.triangles bytes line) → o ≡ o′
+    go : Known text.states text.triangles bytes → o ≡ o′
     go (inl t) = p .of-text (t .0) (t .1) (t .2) ∙ sym (q .of-text (t .0) (t .1) (t .2))
     go (inr f) = p .of-fault (f .0) (f .1) ∙ sym (q .of-fault (f .0) (f .1))
 

@@ -4,7 +4,7 @@ use Prim.Native.Nat.{ℕ, _<_}
 use Rattle.limits.specs.Limits as limits
 use Rattle.digits.specs.Numeral.{byteOf}
 use Rattle.texts.specs.Text.{feed, Part}
-use Rattle.sheet.specs.Sheet.{Three}
+use Rattle.surface.specs.Threes.{Three}
 use Rattle.sheet.specs.Sheet as sheet
 
 -- `s=` and `states=`

@@ -4,22 +4,19 @@ ghost use Prim.Native.Nat.{_≤_};
 ghost use lib.ListN.{length, drop};
 ghost use Rattle.limits.specs.Limits as limits;
 ghost use Rattle.surface.specs.Buffers.{over};
-ghost use Rattle.digits.specs.Reading.{seen, UpTo};
-ghost use Rattle.texts.specs.Parse.{rows, outline, values};
-ghost use Rattle.sheet.specs.Parse.{PassBy, passed, Room};
+ghost use Rattle.digits.specs.Workings.Reading.{seen, UpTo};
+ghost use Rattle.texts.specs.Workings.Parse.{rows, outline, values};
+ghost use Rattle.texts.specs.Workings.Scanning.{Scanned};
+ghost use Rattle.surface.specs.Threes.{flat};
+ghost use Rattle.sheet.specs.Workings.Parse.{PassBy, passed, Room};
 ghost use Rattle.sets.specs.Outcome.{setOutcome, deliver, ReadsSet};
-ghost use Rattle.sets.specs.Scanning.{readState, parse, Scanned};
+ghost use Rattle.sets.specs.Workings.Scanning.{readState, parse, numbers};
+use answers::Answer;
 use digits::Number;
 use digits::Place;
 use sheet::Pass;
-use terms::Answer;
 use terms::PatchSet;
-
-// The counts of a whole text, or the line of its fault.
-pub enum Scan {
-    Whole(usize, usize),
-    Wrong(usize),
-}
+use texts::Scan;
 
 // What reading answers, with the counts of states and corners.
 pub struct ReadSet {
@@ -63,7 +60,7 @@ fn read_states(text: &[u8], at: usize, n: usize, states: &mut [u16]) -> Pass
 // A whole text, its states and corners laid into two buffers from their starts.
 fn take_in(text: &[u8], states: &mut [u16], corners: &mut [u16]) -> Scan
     requires { ⌜ (limits.states ≤ length (now states)) × Room 8 limits.patches (length (now text)) (length (now corners)) ⌝ }
-    ensures { λ r. ⌜ Scanned (parse (now (text .entry))) r (now (states .exit)) (now (corners .exit)) (now (states .entry)) (now (corners .entry)) ⌝ }
+    ensures { λ r. ⌜ Scanned numbers flat (parse (now (text .entry))) r (now (states .exit)) (now (corners .exit)) (now (states .entry)) (now (corners .entry)) ⌝ }
 {
     let Number::Is(n, first) = sheet::count_at(text, 0, b"states=", PatchSet::STATES) else {
         return Scan::Wrong(1);
@@ -112,7 +109,7 @@ fn hand_over(ss: &[u16], cs: &[u16], states: &mut [u16], corners: &mut [u16]) ->
         ≡ deliver (now (ss .entry)) (now (cs .entry)) (now (states .entry)) (now (corners .entry))
         ⌝ }
 {
-    let short = surface::check_buffers(&[states.len(), corners.len()], &[ss.len(), cs.len()]);
+    let short = gauging::check_buffers(&[states.len(), corners.len()], &[ss.len(), cs.len()]);
     if short.refuses() {
         return refused(short);
     }

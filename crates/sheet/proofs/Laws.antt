@@ -1,5 +1,4 @@
 -- The laws of the sheet text, each file for one idea.
-pub mod Threes
 pub mod Told
 pub mod Exactly
 pub mod Texts
@@ -7,3 +6,4 @@ pub mod Keys
 pub mod Rooms
 pub mod Going
 pub mod Sizes
+pub mod Putting

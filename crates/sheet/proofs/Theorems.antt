@@ -6,7 +6,7 @@ use native.Mathlib.Omega.{arith}
 use lib.ListN.{length, getD, replicate, length-append, length-replicate}
 use Rattle.limits.specs.Limits as limits
 use Rattle.limits.proofs.Figures.{longest-text}
-use Rattle.terms.specs.declared.Answer.the-variants.{Done}
+use Rattle.answers.specs.declared.Answer.the-variants.{Done}
 use Rattle.surface.specs.Refusals.{countRefusal}
 use Rattle.surface.proofs.Laws.Thens.{Fitting, counts-fit}
 use Rattle.digits.specs.Numeral.{size}
@@ -14,9 +14,10 @@ use Rattle.digits.proofs.Laws.Sizes.{size-four, size-below}
 use Rattle.texts.specs.Text.{All, TextOf}
 use Rattle.texts.specs.Text as texts
 use Rattle.texts.proofs.Laws.Lists.{all-replicate}
-use Rattle.sheet.specs.Sheet.{Three, three, threes, flat, Every, points, triangles, text}
+use Rattle.surface.specs.Threes.{Three, three, threes, flat}
+use Rattle.sheet.specs.Sheet.{Every, points, triangles, text}
 use Rattle.sheet.proofs.Laws.Sizes.{triangle-size, lists-length}
-use Rattle.sheet.proofs.Laws.Threes.{threes-length, flat-threes}
+use Rattle.surface.proofs.Laws.Threes.{threes-length, flat-threes}
 
 -- ---- the text of words and corners
 

@@ -1,3 +1,3 @@
 -- The sheet text, and how the code that reads its lines goes about it.
 pub mod Sheet
-pub mod Parse
+pub mod Workings

@@ -3,28 +3,9 @@ use mathlib.Core.List.{List, [], _∷_, _++_}
 use Prim.Native.Nat.{ℕ, _^_, _<_}
 use Rattle.limits.specs.Limits as limits
 use Rattle.digits.specs.Numeral.{hex, decimal}
+use Rattle.surface.specs.Threes.{Three, threes}
 use Rattle.texts.specs.Text.{feed, Part}
 use Rattle.texts.specs.Text as texts
-
--- three words of a point, or three corners of a triangle
-pub record Three : Type 0 where
-  pub first : ℕ
-  pub second : ℕ
-  pub third : ℕ
-
-abbrev pub three : ℕ → ℕ → ℕ → Three
-three a b c = record { first = a; second = b; third = c }
-
--- a list by threes, and back
-abbrev pub threes : List ℕ → List Three
-threes [] = []
-threes (a ∷ []) = []
-threes (a ∷ b ∷ []) = []
-threes (a ∷ b ∷ c ∷ l) = three a b c ∷ threes l
-
-abbrev pub flat : List Three → List ℕ
-flat [] = []
-flat (t ∷ l) = t .first ∷ t .second ∷ t .third ∷ flat l
 
 -- each of the three has a property
 pub record Every (P : ℕ → Type 0) (t : Three) : Type 0 where

@@ -6,8 +6,8 @@ ghost use lib.ListN.{length};
 ghost use Rattle.limits.specs.Limits.{corners, longest};
 ghost use Rattle.covers.specs.Covers.{on};
 ghost use Rattle.verdicts.specs.Verdicts as verdicts;
-ghost use Rattle.sight.specs.Findings.{PlainRoom, FindsPlain, WoundAgainst};
-use terms::Answer;
+ghost use Rattle.sight.specs.Workings.Findings.{PlainRoom, FindsPlain, WoundAgainst};
+use answers::Answer;
 use terms::Loop;
 
 // How many corners of the set a loop of n takes: only one that is declared patched takes any.

@@ -1,8 +1,8 @@
 // The verdict over all loops, with one bench for those that need bars and a table.
-ghost use Rattle.summary.specs.Courses.{VerdictRoom, Gives};
+ghost use Rattle.summary.specs.Workings.Courses.{VerdictRoom, Gives};
+use answers::Answer;
 use column::FAR;
 use column::PLACES;
-use terms::Answer;
 use terms::Loop;
 use terms::Surface;
 

@@ -3,8 +3,8 @@ ghost use mathlib.Core.Path.{_≡_};
 ghost use Prim.Native.Nat.{_≤_};
 ghost use lib.ListN.{length, drop};
 ghost use Rattle.verdicts.specs.Verdicts.{leftOver};
-ghost use Rattle.summary.specs.Courses.{PlainVerdictRoom, GivesPlain};
-use terms::Answer;
+ghost use Rattle.summary.specs.Workings.Courses.{PlainVerdictRoom, GivesPlain};
+use answers::Answer;
 
 // Corners left after the last loop, where the set was taken up to `at`.
 pub fn left_over(set: &[u16], at: usize) -> Answer

@@ -1,3 +1,4 @@
+pub mod Threes
 pub mod Smallest
 pub mod Edges
 pub mod Refusals

@@ -1,6 +1,6 @@
 -- The refusals 1 to 8, in their order: "each over the whole input before the next, the smallest index reported".
-use mathlib.Core.Bool.{Bool, true, false, not, cond, _&&_, _||_}
-use mathlib.Core.List.{List}
+use mathlib.Core.Bool.{Bool, not, cond, _&&_, _||_}
+use mathlib.Core.List.{List, []}
 use Prim.Native.Nat.{ℕ, _+_, _/_}
 use lib.Dec.{leb, ltb}
 use lib.IntN.{natAbs}
@@ -8,10 +8,10 @@ use lib.ListN.{length, getD}
 use lib.Ieee.{binary32, ofBits}
 use lib.Ieee.Scale.{finite}
 use Rattle.limits.specs.Limits as limits
-use Rattle.terms.specs.Answers.{refusing}
+use Rattle.answers.specs.Numbers.{refusing}
 use Rattle.terms.specs.Counts.{threes}
-use Rattle.terms.specs.declared.Answer.{Answer}
-use Rattle.terms.specs.declared.Answer.the-variants.{Done, Words, Corners, Buffer, Unnamed, Twice, Repeated, NotFinite, TooFar}
+use Rattle.answers.specs.declared.Answer.{Answer}
+use Rattle.answers.specs.declared.Answer.the-variants.{Done, Words, Corners, Buffer, Unnamed, Twice, Repeated, NotFinite, TooFar}
 use Rattle.grid.specs.Units.{units}
 use Rattle.grid.specs.Places.{whole}
 use Rattle.surface.specs.declared.Found.{Found}
@@ -45,11 +45,6 @@ abbrev pub refuseAt : (ℕ → Answer) → Found → Answer
 refuseAt f (At i) = f i
 refuseAt f Nothing = Done
 
--- a refusal where a test passes
-abbrev pub refuseIf : Bool → Answer → Answer
-refuseIf true a = a
-refuseIf false a = Done
-
 -- the first check that refuses decides
 abbrev pub thenCheck : Answer → Answer → Answer
 thenCheck a b = cond (refusing a) a b
@@ -57,8 +52,8 @@ thenCheck a b = cond (refusing a) a b
 -- 1 and 2, by the counts of words and corners
 unfoldable pub countRefusal : ℕ → ℕ → Answer
 countRefusal words corners =
-    thenCheck (refuseIf (not (threes limits.words words)) Words)
-    (refuseIf (not (threes limits.corners corners)) Corners)
+    thenCheck (cond (threes limits.words words) Done Words)
+    (cond (threes limits.corners corners) Done Corners)
 
 -- 3, by the lengths of the lent buffers and how long each need be; buffers are numbered from 1
 unfoldable pub bufferRefusal : List ℕ → List ℕ → Answer
@@ -91,3 +86,7 @@ contentRefusal words corners lent needs =
 -- the table from 1 to 8
 unfoldable pub refusal : List ℕ → List ℕ → List ℕ → List ℕ → Answer
 refusal words corners lent needs = thenCheck (countRefusal (length words) (length corners)) (contentRefusal words corners lent needs)
+
+-- the refusals of a sheet where every lent buffer is long enough
+abbrev pub sheetRefusal : List ℕ → List ℕ → Answer
+sheetRefusal words corners = refusal words corners [] []

@@ -1,13 +1,8 @@
 -- "The smallest index reported": the smallest index with a property, or none.
-use mathlib.Core.Bool.{Bool, true, false}
+use mathlib.Core.Bool.{Bool, true, false, cond}
 use Prim.Native.Nat.{ℕ, zero, suc}
 use Rattle.surface.specs.declared.Found.{Found}
 use Rattle.surface.specs.declared.Found.the-variants.{At, Nothing}
-
--- i where the test passes
-abbrev pub hit : Bool → ℕ → Found
-hit true i = At i
-hit false i = Nothing
 
 -- the first of two
 abbrev pub orElse : Found → Found → Found
@@ -17,7 +12,7 @@ orElse Nothing g = g
 -- the smallest index below n at which p holds
 unfoldable pub least : (ℕ → Bool) → ℕ → Found
 least p zero = Nothing
-least p (suc n) = orElse (least p n) (hit (p n) n)
+least p (suc n) = orElse (least p n) (cond (p n) (At n) Nothing)
 
 -- there is one
 abbrev pub any : Found → Bool

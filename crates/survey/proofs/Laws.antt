@@ -3,4 +3,6 @@ pub mod Laying
 pub mod Stops
 pub mod Weaving
 pub mod Checking
+pub mod Known
+pub mod Parts
 pub mod Surveying

@@ -1,3 +1,3 @@
 pub mod Grid
-pub mod Checks
 pub mod Outcome
+pub mod Workings

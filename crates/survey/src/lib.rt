@@ -3,12 +3,12 @@ ghost use mathlib.Core.Path.{_≡_};
 ghost use Prim.Native.Nat.{_<_, _≤_};
 ghost use lib.ListN.{length, getD};
 ghost use Rattle.surface.specs.Buffers.{over};
-ghost use Rattle.twins.specs.Turns.{Room};
-ghost use Rattle.survey.specs.Checks.{Counted, Fitted, Checked, CornersChecked};
+ghost use Rattle.twins.specs.Workings.Turns.{Room};
+ghost use Rattle.survey.specs.Workings.Checks.{Counted, Fitted, Checked, CornersChecked};
 ghost use Rattle.survey.specs.Outcome.{outcome, buffers, surveyOf};
 ghost use Rattle.survey.specs.Grid.{wholeOf, gridOf, OnGrid};
+use answers::Answer;
 use surface::Found;
-use terms::Answer;
 use terms::Surface;
 
 // What a survey answers: done or a refusal, how many loops there are, and how many vertices their rings have in all.
@@ -30,7 +30,7 @@ pub fn survey(
     ensures { λ r. ⌜ outcome r (buffers (now (grid .exit)) (now (rings .exit)) (now (lengths .exit)))
         ≡ surveyOf (now (words .entry)) (now (corners .entry)) (buffers (now (grid .entry)) (now (rings .entry)) (now (lengths .entry))) ⌝ }
 {
-    let counted = surface::check_counts(words.len(), corners.len());
+    let counted = gauging::check_counts(words.len(), corners.len());
     if counted.refuses() {
         return refused(counted);
     }
@@ -87,7 +87,7 @@ pub fn check_with(
     requires { ⌜ Fitted (now words) (now corners) (now turns) ⌝ }
     ensures { λ r. ⌜ Checked (now (words .entry)) (now (corners .entry)) (now (lent .entry)) (now (needs .entry)) r (now (turns .exit)) ⌝ }
 {
-    let buffers = surface::check_buffers(lent, needs);
+    let buffers = gauging::check_buffers(lent, needs);
     if buffers.refuses() {
         return buffers;
     }
@@ -95,7 +95,7 @@ pub fn check_with(
     if woven.refuses() {
         return woven;
     }
-    surface::check_words(words)
+    sifting::check_words(words)
 }
 
 // Refusals 4, 5 and 6. The pairing stops at a triangle that names a point twice as well as at a half-edge that repeats an
@@ -104,7 +104,7 @@ fn check_corners(corners: &[u16], points: u16, turns: &mut [u16]) -> Answer
     requires { ⌜ Room (now corners) (now turns) ⌝ }
     ensures { λ r. ⌜ CornersChecked (now (corners .entry)) points r (now (turns .exit)) ⌝ }
 {
-    let unnamed = surface::first_unnamed(corners, points);
+    let unnamed = gauging::first_unnamed(corners, points);
     if let Found::At(i) = unnamed {
         return Answer::Unnamed(i);
     }
@@ -112,7 +112,7 @@ fn check_corners(corners: &[u16], points: u16, turns: &mut [u16]) -> Answer
     let Found::At(h) = stop else {
         return Answer::Done;
     };
-    let twice = surface::first_twice(corners);
+    let twice = gauging::first_twice(corners);
     match twice {
         Found::At(t) => Answer::Twice(t),
         Found::Nothing => Answer::Repeated(h),

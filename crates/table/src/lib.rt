@@ -2,15 +2,13 @@
 //
 // The weights are binary64 floats: each is a whole number below 2^53, so every sum is exact, and the machine adds two at a time.
 ghost use mathlib.Core.Path.{_≡_};
-ghost use mathlib.Core.Bool.{Bool};
-ghost use Prim.Native.Nat.{ℕ, suc, _+_, _*_, _<_, _≤_};
+ghost use Prim.Native.Nat.{suc, _+_, _*_, _<_};
 ghost use lib.ListN.{length};
 ghost use Rattle.limits.specs.Limits.{longest};
-ghost use Rattle.weight.specs.declared.Point.{Point};
-ghost use Rattle.masks.specs.Masks.{bit};
+ghost use Rattle.masks.specs.Workings.Masks.{bit};
 ghost use Rattle.weight.specs.Edition.{along};
-ghost use Rattle.table.specs.Table.{settledOf, Points, Sweepable, Turned, Swept, Fillable, Fills};
-ghost use Rattle.table.specs.Loops.{GatherRoom, LoopRoom, Found};
+ghost use Rattle.table.specs.Workings.Table.{settledOf, Points, Sweepable, Turned, Swept, Fillable, FillsTable};
+ghost use Rattle.table.specs.Workings.Loops.{GatherRoom, LoopRoom, Found};
 use column::FAR;
 use column::WS;
 use terms::Loop;
@@ -67,7 +65,7 @@ fn sweep(
 // The table of the loop of n points.
 pub fn fill(px: &[f64], py: &[f64], pz: &[f64], n: usize, bars: &[u64], table: &mut [f64])
     requires { ⌜ Fillable n (now px) (now py) (now pz) (now bars) (now table) ⌝ }
-    ensures { λ _. ⌜ Fills n (now (px .entry)) (now (py .entry)) (now (pz .entry)) (now (bars .entry)) (now (table .exit)) ⌝ }
+    ensures { λ _. ⌜ FillsTable n (now (px .entry)) (now (py .entry)) (now (pz .entry)) (now (bars .entry)) (now (table .exit)) ⌝ }
 {
     let mut xs = [FAR; Loop::LONGEST];
     let mut ys = [FAR; Loop::LONGEST];

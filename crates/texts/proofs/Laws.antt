@@ -11,3 +11,4 @@ pub mod Beginnings
 pub mod Later
 pub mod Cut
 pub mod Taking
+pub mod Scanning

@@ -6,11 +6,11 @@ use mathlib.Core.List.{List, []}
 use Prim.Native.Nat.{ℕ, _<_, _≤_}
 use native.Mathlib.Omega.{arith}
 use lib.ListN.{length}
-use Rattle.digits.specs.Reading.{Read, Exact}
+use Rattle.digits.specs.Workings.Reading.{Read, Exact}
 use Rattle.digits.proofs.Laws.Digit.{lt-or-ge}
 use Rattle.texts.specs.Text.{Part, TextOf}
 use Rattle.texts.specs.Fault.{Fault}
-use Rattle.texts.specs.Parse.{Parsed, said, fault, withSeconds, parse}
+use Rattle.texts.specs.Workings.Parse.{Parsed, said, fault, withSeconds, parse}
 use Rattle.texts.proofs.Laws.Parts.{begins-full}
 use Rattle.texts.proofs.Laws.Ways.{said-fault, Way, at-once, in-first, in-second, to-end, way}
 use Rattle.texts.proofs.Laws.Halves.{Halves, text-halves, halves-text}
@@ -21,6 +21,10 @@ pub said-same : {A B : Type 0} {xs xs′ : List A} {ys ys′ : List B} → said 
 said-same e = (cc, cc)
 
 module _ {A B : Type 0} (P : Part A) (Q : Part B) where
+  -- bytes are a text, or they have a fault
+  abbrev pub Known : List ℕ → Type 0
+  Known bytes = ((xs : List A) × (ys : List B) × TextOf P Q bytes xs ys) ⊎ ((line : ℕ) × Fault P Q bytes line)
+
   -- bytes have one fault at most
   pub fault-once : {bytes : List ℕ} {l m : ℕ} → Fault P Q bytes l → Fault P Q bytes m → l ≡ m
   fault-once {bytes} {l} {m} f g = go (lt-or-ge l m) (lt-or-ge m l)
@@ -76,10 +80,10 @@ module _ {A B : Type 0} (P : Part A) (Q : Part B) where
           go (said xs ys) e = absurd (f .none xs ys (text-parse e))
           go (fault k) e = e ∙ ap fault (fault-once (fault-is e) f)
 
-      -- all bytes are a text or have a fault
-      pub text-or-fault : (bytes : List ℕ) → ((xs : List A) × (ys : List B) × TextOf P Q bytes xs ys) ⊎ ((line : ℕ) × Fault P Q bytes line)
+      -- so of all bytes one of both is known
+      pub text-or-fault : (bytes : List ℕ) → Known bytes
       text-or-fault bytes = go (parse P Q readP readQ bytes) refl
         where
-          go : (p : Parsed A B) → parse P Q readP readQ bytes ≡ p → ((xs : List A) × (ys : List B) × TextOf P Q bytes xs ys) ⊎ ((line : ℕ) × Fault P Q bytes line)
+          go : (p : Parsed A B) → parse P Q readP readQ bytes ≡ p → Known bytes
           go (said xs ys) e = inl (xs, ys, text-parse e)
           go (fault l) e = inr (l, fault-is e)

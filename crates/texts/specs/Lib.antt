@@ -1,3 +1,3 @@
 pub mod Text
 pub mod Fault
-pub mod Parse
+pub mod Workings

@@ -6,8 +6,8 @@ ghost use Prim.Native.Nat.{suc, _+_, _<_, _≤_};
 ghost use lib.ListN.{length};
 ghost use Rattle.surface.specs.Buffers.{laid};
 ghost use Rattle.covers.specs.Covers.{vertexOf};
-ghost use Rattle.tracing.specs.Ways.{triangleOf, TriangleRoom, Weighable, IsWay, Middle};
-ghost use Rattle.tracing.specs.Lists.{ListRoom, Lists};
+ghost use Rattle.tracing.specs.Workings.Ways.{triangleOf, TriangleRoom, Weighable, IsWay, Middle};
+ghost use Rattle.tracing.specs.Workings.Lists.{ListRoom, ListsPatch};
 use column::WS;
 use column::YS;
 use column::ZS;
@@ -65,7 +65,7 @@ pub fn lay(ring: &[u16], out: &mut [u16], p: usize, i: usize, k: usize, m: usize
 // The patch of i..k from p on: the triangle, then i..m, then m..k. Gives the place after it.
 pub fn list(table: &[f64], ring: &[u16], out: &mut [u16], p: usize, i: usize, k: usize) -> usize
     requires { ⌜ ListRoom (now table) (now ring) (now out) p i k ⌝ }
-    ensures { λ r. ⌜ Lists (now (table .entry)) (now (ring .entry)) (now (out .entry)) p i k r (now (out .exit)) ⌝ }
+    ensures { λ r. ⌜ ListsPatch (now (table .entry)) (now (ring .entry)) (now (out .entry)) p i k r (now (out .exit)) ⌝ }
 {
     if i + 1 == k {
         return p;

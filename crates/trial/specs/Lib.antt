@@ -1,2 +1,2 @@
 pub mod Outcome
-pub mod Listing
+pub mod Workings

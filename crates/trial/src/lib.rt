@@ -2,9 +2,9 @@
 // the set.
 ghost use Rattle.survey.specs.Outcome.{buffers};
 ghost use Rattle.trial.specs.Outcome.{outcome, Judges};
-ghost use Rattle.trial.specs.Listing.{ListingRoom};
+ghost use Rattle.trial.specs.Workings.Listing.{ListingRoom};
+use answers::Answer;
 use sentence::Judged;
-use terms::Answer;
 use terms::Surface;
 
 // Refusals 3 to 9, and the verdict. The loops are listed apart from the lent buffers first, in room that is long enough.

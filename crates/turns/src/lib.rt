@@ -1,5 +1,5 @@
 // One loop's turn in the run, by how long it is.
-ghost use Rattle.middling.specs.Turns.{TurnRoom, Takes};
+ghost use Rattle.middling.specs.Workings.Turns.{TurnRoom, Takes};
 use plain::Became;
 use terms::Loop;
 use terms::Surface;

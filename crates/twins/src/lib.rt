@@ -3,7 +3,7 @@
 // last half-edge, and for each its end and the one before it in its bucket, numbered from 1, where 0 ends a chain.
 ghost use mathlib.Core.Path.{_≡_};
 ghost use Prim.Native.Nat.{_<_};
-ghost use Rattle.twins.specs.Chains.{bucketOf, MeetRoom, Meets, TurnRoom, TurnDone, PairRoom, PairDone};
+ghost use Rattle.twins.specs.Workings.Chains.{bucketOf, MeetRoom, Meets, TurnRoom, TurnDone, PairRoom, PairDone};
 
 // In the table of turns a half-edge that has a twin stands with the edge after that twin in its triangle; an open one stands
 // with OPEN and the edge after itself.

@@ -1,5 +1,6 @@
 -- One loop of a patch set: what makes it right, and the faults 11 to 14. Throughout, the surface has this grid and these corners
--- (`input`), the set's triangles of the loops before have the corners `laid`, and `set` is what is left of the set.
+-- (`input`), the set's triangles of the loops before have the corners `laid` ("Bars come from the set's own earlier loops"), and `set` is what is
+-- left of the set.
 use mathlib.Core.Path.{_≡_}
 use mathlib.Core.Bool.{true}
 use mathlib.Core.List.{List}
@@ -7,12 +8,13 @@ use Prim.Native.Nat.{ℕ, _-_, _*_, _<_, _≤_}
 use lib.IntN.{ℤ}
 use lib.ListN.{length, take}
 use Rattle.limits.specs.Limits as limits
-use Rattle.terms.specs.declared.Answer.{Answer}
-use Rattle.terms.specs.declared.Answer.the-variants.{Misdeclared, Uncovered, Barred, Heavy}
-use Rattle.covers.specs.Covers.{Cover, Uses, Allowed, NoCover, vertexOf, weight}
-use Rattle.covers.specs.Sets.{Covered, triples}
-use Rattle.weight.specs.Edition.{naturals, triOf, along}
+use Rattle.answers.specs.declared.Answer.{Answer}
+use Rattle.answers.specs.declared.Answer.the-variants.{Misdeclared, Uncovered, Barred, Heavy}
+use Rattle.covers.specs.Covers.{Cover, Uses, vertexOf}
+use Rattle.surface.specs.Threes.{threes}
+use Rattle.covers.specs.Sets.{Covered}
 use Rattle.bars.specs.Bars.{barred}
+use Rattle.run.specs.Here.{AllowedHere, NoneHere, weightHere}
 
 -- "the next 3(n-2) corners", how many a patched loop takes
 abbrev pub share : List ℕ → ℕ
@@ -21,18 +23,7 @@ share ring = 3 * (length ring - 2)
 -- they are there, and are the triangles of the cover c, "in any order ..., each begun at any corner, but not turned round"
 pub record IsCover (ring set : List ℕ) (c : Cover) : Type 0 where
   pub there : share ring ≤ length set
-  pub covers : Covered (length ring) (vertexOf ring) (triples (take (share ring) set)) c
-
--- without a barred diagonal; "Bars come from the set's own earlier loops", and from the input
-abbrev pub AllowedHere : List ℕ → List ℕ → List ℕ → Cover → Type 0
-AllowedHere input laid ring = Allowed (barred input laid ring) 0 (length ring - 1)
-
--- no cover is
-abbrev pub NoneHere : List ℕ → List ℕ → List ℕ → Type 0
-NoneHere input laid ring = NoCover (barred input laid ring) 0 (length ring - 1)
-
-abbrev pub weightHere : List ℤ → List ℕ → Cover → ℕ
-weightHere grid ring = weight naturals (triOf (along grid ring)) 0 (length ring - 1)
+  pub covers : Covered (length ring) (vertexOf ring) (threes (take (share ring) set)) c
 
 -- an allowed cover that is lighter than c
 pub record Lighter (grid : List ℤ) (input laid ring : List ℕ) (c : Cover) : Type 0 where

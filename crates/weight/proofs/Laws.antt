@@ -8,6 +8,7 @@ pub mod Components
 pub mod Weighed
 pub mod Ring
 pub mod Bounds
+pub mod Naturals
 pub mod Totals
 pub mod Figures
 pub mod Named

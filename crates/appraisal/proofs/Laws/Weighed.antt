@@ -9,37 +9,38 @@ use lib.IntN.{ℤ}
 use lib.Ieee.{Float}
 use lib.ListN.{length, take}
 use Rattle.limits.specs.Limits as limits
-use Rattle.terms.specs.declared.Answer.{Answer}
-use Rattle.terms.specs.declared.Answer.the-variants.{Done, Uncovered, Barred, Heavy}
+use Rattle.answers.specs.declared.Answer.{Answer}
+use Rattle.answers.specs.declared.Answer.the-variants.{Done, Uncovered, Barred, Heavy}
 use Rattle.covers.specs.Covers.{Cover, Allowed}
-use Rattle.covers.specs.Sets.{triples}
+use Rattle.surface.specs.Threes.{threes}
 use Rattle.weight.specs.Weight.{Coordinates}
-use Rattle.masks.specs.Masks.{Rows}
+use Rattle.masks.specs.Workings.Masks.{Rows}
 use Rattle.bars.specs.Bars.{barred}
 use Rattle.table.specs.declared.Least.{Least}
 use Rattle.table.specs.declared.Least.the-variants.{Weight, Nothing}
-use Rattle.table.specs.Loops.{Barring, LoopRoom, LeastIs}
-use Rattle.tracing.specs.Patches.{FindsLeast}
+use Rattle.table.specs.Workings.Loops.{Barring, LoopRoom, LeastIs}
+use Rattle.tracing.specs.Workings.Patches.{FindsLeast}
 use Rattle.reading.specs.declared.Reading.{Reading}
 use Rattle.reading.specs.declared.Reading.the-variants as reading
-use Rattle.keys.specs.Covering.{Covering}
-use Rattle.reading.specs.Reading.{Reads}
-use Rattle.keys.specs.Keys.{Threes}
-use Rattle.reading.specs.Rows.{Readable, SidesFree}
-use Rattle.scales.specs.Weighing.{setWeight, AllNamed}
+use Rattle.keys.specs.Workings.Covering.{Covering}
+use Rattle.reading.specs.Workings.Reading.{ReadsCover}
+use Rattle.keys.specs.Workings.Keys.{Threes}
+use Rattle.reading.specs.Workings.Rows.{Readable, SidesFree}
+use Rattle.scales.specs.Workings.Weighing.{setWeight, AllNamed}
 use Rattle.scales.proofs.Laws.Weighing.{cover-weight, cover-named}
-use Rattle.verdicts.specs.Faults.{share, IsCover, weightHere, patched, no-cover, cover-barred, too-heavy}
-use Rattle.sight.specs.Findings.{right, fault}
+use Rattle.run.specs.Here.{weightHere}
+use Rattle.verdicts.specs.Faults.{share, IsCover, patched, no-cover, cover-barred, too-heavy}
+use Rattle.sight.specs.Workings.Findings.{right, fault}
 use Rattle.verdicts.proofs.Laws.Declared.{declared-patched}
-use Rattle.appraisal.specs.Parts.{PartRoom, FindsCover, WeightRoom, FindsWeight}
+use Rattle.appraisal.specs.Workings.Parts.{PartRoom, FindsCover, WeightRoom, FindsWeight}
 
 -- the part at the set's front is a cover
-part-cover : (ring part set : List ℕ) (c : Cover) → share ring ≤ length set → part ≡ take (share ring) set → Covering ring (triples part) c → IsCover ring set c
-part-cover ring part set c t e h = record { there = t; covers = subst (λ (p : List ℕ). Covering ring (triples p) c) e h }
+part-cover : (ring part set : List ℕ) (c : Cover) → share ring ≤ length set → part ≡ take (share ring) set → Covering ring (threes part) c → IsCover ring set c
+part-cover ring part set c t e h = record { there = t; covers = subst (λ (p : List ℕ). Covering ring (threes p) c) e h }
 
 -- the other way round
-pub cover-part : (ring part set : List ℕ) (c : Cover) → part ≡ take (share ring) set → IsCover ring set c → Covering ring (triples part) c
-cover-part ring part set c e h = subst (λ (p : List ℕ). Covering ring (triples p) c) (sym e) (h .covers)
+pub cover-part : (ring part set : List ℕ) (c : Cover) → part ≡ take (share ring) set → IsCover ring set c → Covering ring (threes part) c
+cover-part ring part set c e h = subst (λ (p : List ℕ). Covering ring (threes p) c) (sym e) (h .covers)
 
 -- ---- an allowed cover and the least weight
 
@@ -71,9 +72,9 @@ module _ (grid : List ℤ) (ring part rows : List ℕ) (table : List Float) (roo
     pub weight-none : least ≡ Nothing → FindsWeight grid ring part l rows Done
     weight-none is input before b set t e c h a = absurd (least-is Nothing is input before b c a)
 
-    module _ (w v : ℕ) (is : least ≡ Weight w) (weighs : v ≡ setWeight grid (triples part)) where
-      weight-of : (c : Cover) → Covering ring (triples part) c → v ≡ weightHere grid ring c
-      weight-of c h = weighs ∙ cover-weight grid ring (triples part) c h
+    module _ (w v : ℕ) (is : least ≡ Weight w) (weighs : v ≡ setWeight grid (threes part)) where
+      weight-of : (c : Cover) → Covering ring (threes part) c → v ≡ weightHere grid ring c
+      weight-of c h = weighs ∙ cover-weight grid ring (threes part) c h
 
       pub weight-heavy : w < v → FindsWeight grid ring part l rows (Heavy l)
       weight-heavy lighter input before b set t e c h a =
@@ -110,9 +111,9 @@ module _ (grid : List ℤ) (ring part marks : List ℕ) (base : ℕ) (rows : Lis
   pub readable : Readable ring marks base rows part
   readable = record { ringed = room .ringed; many = room .three; rows = room .rows-long; long = room .long }
 
-  module _ (r : Reading) (reads : (barred : ℕ → ℕ → Bool) → Rows (length ring) barred rows → SidesFree (length ring) barred → Reads ring barred (triples part) r) where
-    read-as : (x : Reading) → r ≡ x → (input before : List ℕ) → Barring (barred input before ring) ring rows → Reads ring (barred input before ring) (triples part) x
-    read-as x is input before b = subst (Reads ring (barred input before ring) (triples part)) is (reads (barred input before ring) (b .rows) (λ j k. b .sides j))
+  module _ (r : Reading) (reads : (barred : ℕ → ℕ → Bool) → Rows (length ring) barred rows → SidesFree (length ring) barred → ReadsCover ring barred (threes part) r) where
+    read-as : (x : Reading) → r ≡ x → (input before : List ℕ) → Barring (barred input before ring) ring rows → ReadsCover ring (barred input before ring) (threes part) x
+    read-as x is input before b = subst (ReadsCover ring (barred input before ring) (threes part)) is (reads (barred input before ring) (b .rows) (λ j k. b .sides j))
 
     pub read-none : (l : ℕ) → r ≡ reading.NoCover → FindsCover grid ring part l rows (Uncovered l)
     read-none l is input before b set t e =

@@ -7,11 +7,11 @@ use native.Mathlib.Omega.{arith}
 use lib.Dec.{eqb}
 use lib.ListN.{length}
 use Rattle.limits.specs.Limits as limits
-use Rattle.terms.specs.Answers.{refusing}
-use Rattle.terms.specs.declared.Answer.{Answer}
-use Rattle.terms.specs.declared.Answer.the-variants.{Done}
-use Rattle.surface.specs.Refusals.{bufferRefusal, contentRefusal, refusal}
-use Rattle.surface.proofs.Laws.Thens.{buffers-enough, three-long}
+use Rattle.answers.specs.Numbers.{refusing}
+use Rattle.answers.specs.declared.Answer.{Answer}
+use Rattle.surface.specs.Refusals.{refusal, sheetRefusal}
+use Rattle.surface.proofs.Laws.Thens.{three-long}
+use Rattle.surface.proofs.Laws.Deciding.{buffers-pass}
 use Rattle.surface.proofs.Laws.Sound.{passed, passed-sound}
 use Rattle.loops.specs.Loops.{loops}
 use Rattle.survey.specs.Grid.{gridOf}
@@ -21,13 +21,6 @@ use Rattle.verdicts.proofs.Laws.Once.{verdict-once}
 use Rattle.trial.specs.Outcome.{JudgesCounted, JudgesIf, Judges}
 use Rattle.trial.proofs.Laws.Apart.{rings-apart}
 use Rattle.arbiter.specs.Hears.{AnswersCounted, AnswersIf, Answers}
-
--- where no buffer is too short, the table is the one without any
-same-refusal : (words corners lent needs : List ℕ) → bufferRefusal lent needs ≡ Done → refusal words corners lent needs ≡ refusal words corners [] []
-unfolding refusal contentRefusal
-same-refusal words corners lent needs e =
-    let n : bufferRefusal [] [] ≡ Done = buffers-enough [] [] (λ i l. absurd (omega arith)) in
-    rw (e, n)
 
 module _ (words corners states set : List ℕ) where
   module _ (b : Buffers) (o : Outcome) where
@@ -44,23 +37,23 @@ module _ (words corners states set : List ℕ) where
         → Judges words corners states set b o → Answers words corners states set (o .answer)
     unfolding Answers
     answered w c g r l j =
-        let e : refusal words corners (lent b) (needs words corners) ≡ refusal words corners [] [] =
-        same-refusal words corners (lent b) (needs words corners)
+        let e : refusal words corners (lent b) (needs words corners) ≡ sheetRefusal words corners =
+        buffers-pass words corners (lent b) (needs words corners)
         (three-long (length (b .grid)) (length (b .rings)) (length (b .lengths)) (length words) (length corners) (length corners / 3) (omega arith) (omega arith) (omega arith)) in
-        refused-or (refusing (refusal words corners [] [])) (refusal words corners [] [])
+        refused-or (refusing (sheetRefusal words corners)) (sheetRefusal words corners)
         (subst (λ (a : Answer). JudgesIf (refusing a) a words corners states set b o) e j)
 
   module _ (a b : Answer) where
-    counted-once : (t : Bool) → refusing (refusal words corners [] []) ≡ false → AnswersCounted t words corners states set a → AnswersCounted t words corners states set b → a ≡ b
+    counted-once : (t : Bool) → refusing (sheetRefusal words corners) ≡ false → AnswersCounted t words corners states set a → AnswersCounted t words corners states set b → a ≡ b
     counted-once false e x y = x ∙ sym y
     counted-once true e x y =
         verdict-once (gridOf words) corners [] 0 0 (ringList corners) states set a b (rings-apart corners (passed-sound words corners [] [] (passed words corners [] [] e))) x y
 
     pub answers-once : Answers words corners states set a → Answers words corners states set b → a ≡ b
     unfolding Answers
-    answers-once = go (refusing (refusal words corners [] [])) refl
+    answers-once = go (refusing (sheetRefusal words corners)) refl
       where
-        go : (t : Bool) → refusing (refusal words corners [] []) ≡ t → AnswersIf t (refusal words corners [] []) words corners states set a
-            → AnswersIf t (refusal words corners [] []) words corners states set b → a ≡ b
+        go : (t : Bool) → refusing (sheetRefusal words corners) ≡ t → AnswersIf t (sheetRefusal words corners) words corners states set a
+            → AnswersIf t (sheetRefusal words corners) words corners states set b → a ≡ b
         go true e x y = x ∙ sym y
         go false e x y = counted-once (eqb (length (loops corners)) (length states)) e x y

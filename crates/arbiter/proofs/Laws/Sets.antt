@@ -7,20 +7,20 @@ use Prim.Native.Nat.{ℕ, _+_, _/_, _≤_}
 use native.Mathlib.Omega.{arith}
 use lib.ListN.{length, take}
 use Rattle.limits.specs.Limits as limits
-use Rattle.terms.specs.Answers.{refusing}
-use Rattle.terms.specs.declared.Answer.{Answer}
-use Rattle.terms.specs.declared.Answer.the-variants.{Done, Line}
+use Rattle.answers.specs.Numbers.{refusing}
+use Rattle.answers.specs.declared.Answer.{Answer}
+use Rattle.answers.specs.declared.Answer.the-variants.{Done, Line}
 use Rattle.surface.specs.Buffers.{over}
 use Rattle.surface.specs.Refusals.{bufferRefusal}
 use Rattle.surface.proofs.Laws.Thens.{two-long}
 use Rattle.surface.proofs.Laws.Over.{start-of}
 use Rattle.texts.specs.Text.{TextOf}
-use Rattle.sheet.specs.Sheet.{Three, flat}
-use Rattle.sheet.proofs.Laws.Threes.{flat-length}
+use Rattle.surface.specs.Threes.{Three, flat}
+use Rattle.surface.proofs.Laws.Threes.{flat-length}
 use Rattle.sets.specs.Set as text
 use Rattle.sets.specs.Outcome.{SetOutcome, deliver, ReadsSet}
 use Rattle.arbiter.specs.Hears.{Answers}
-use Rattle.arbiter.specs.Taken.{HearsSet}
+use Rattle.arbiter.specs.Workings.Taken.{HearsSet}
 
 -- a set whose text was read into buffers of a set's full size
 abbrev readAll : List ℕ → List ℕ → List ℕ → List ℕ → SetOutcome

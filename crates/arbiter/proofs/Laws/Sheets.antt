@@ -6,24 +6,23 @@ use native.Mathlib.Omega.{arith}
 use lib.ListN.{length, take}
 use lib.Seq.{length-take-le}
 use Rattle.limits.specs.Limits as limits
-use Rattle.terms.specs.declared.Answer.{Answer}
-use Rattle.terms.specs.declared.Answer.the-variants.{Line}
-use Rattle.surface.specs.Buffers.{over}
-use Rattle.surface.proofs.Laws.Over.{start-of, front-in}
+use Rattle.answers.specs.declared.Answer.{Answer}
+use Rattle.answers.specs.declared.Answer.the-variants.{Line}
 use Rattle.texts.specs.Text.{lines}
-use Rattle.texts.specs.Parse.{said}
+use Rattle.texts.specs.Workings.Parse.{said}
+use Rattle.texts.specs.Workings.Scanning.{Scanned}
+use Rattle.texts.specs.declared.Scan.{Scan}
+use Rattle.texts.specs.declared.Scan.the-variants.{Whole, Wrong}
+use Rattle.texts.proofs.Laws.Scanning.{whole-wrong, Kept, kept}
 use Rattle.texts.proofs.Laws.Lines.{lines-length}
-use Rattle.sheet.specs.Sheet.{Three, flat, points, triangles}
-use Rattle.sheet.proofs.Laws.Threes.{flat-length}
+use Rattle.surface.specs.Threes.{Three, flat}
+use Rattle.sheet.specs.Sheet.{points, triangles}
+use Rattle.surface.proofs.Laws.Threes.{flat-length}
+use Rattle.surface.proofs.Laws.Threes.{front-of}
+use Rattle.sheet.specs.Workings.Parse.{parse}
 use Rattle.sheet.proofs.Laws.Texts.{parse-text, fault-only}
-use Rattle.intake.specs.declared.Scan.{Scan}
-use Rattle.intake.specs.declared.Scan.the-variants.{Whole, Wrong}
-use Rattle.intake.specs.Scanning.{Scanned}
-use Rattle.intake.proofs.Laws.Deliver.{Kept, kept, few-points, few-triangles}
-use Rattle.arbiter.specs.Taken.{Taken, HearsTaken, HearsSet}
-
-whole-wrong : {n t l : ℕ} → Whole n t ≡ Wrong l → ⊥
-whole-wrong h = let z : _≡_ {A = ℕ} 0 1 = cc in omega arith
+use Rattle.intake.proofs.Laws.Deliver as deliver
+use Rattle.arbiter.specs.Workings.Taken.{Taken, HearsTaken, HearsSet}
 
 -- a text with a fault
 pub wrong-hears : (scan : Scan) (words corners patches : List ℕ) (line : ℕ) → scan ≡ Wrong line → HearsTaken scan words corners patches (Line line)
@@ -35,35 +34,27 @@ wrong-hears scan words corners patches line e t =
       of-set = λ ps ts x ss us y. absurd (none ps ts (rw (parse-text x) at (t .scanned)));
     }
   where
-    none : (ps ts : List Three) → Scanned (said ps ts) scan words corners (t .words-before) (t .corners-before) → ⊥
+    none : (ps ts : List Three) → Scanned flat flat (said ps ts) scan words corners (t .words-before) (t .corners-before) → ⊥
     none ps ts h = whole-wrong (sym (h .0) ∙ e)
-
--- threes that were laid over a buffer's start
-module _ (ts : List Three) (a before : List ℕ) (n : ℕ) (h : a ≡ over (flat ts) before) (e : n ≡ length ts) where
-  front-of : take (3 * n) a ≡ flat ts
-  front-of = ap (take (3 * n)) h ∙ start-of (flat ts) before (3 * n) (omega (arith, flat-length ts))
-
-  front-within : 3 * n ≤ length a
-  front-within = front-in (flat ts) before a (3 * n) (omega (arith, flat-length ts)) h
 
 -- a whole text of n points and m triangles
 module _ (scan : Scan) (words corners : List ℕ) (n m : ℕ) (e : scan ≡ Whole n m) where
   module _ (t : Taken scan words corners) where
-    here : Kept (t .text) n m words corners (t .words-before) (t .corners-before)
-    here = kept (t .text) scan n m words corners (t .words-before) (t .corners-before) (t .scanned) e
+    here : Kept flat flat parse (t .text) n m words corners (t .words-before) (t .corners-before)
+    here = kept flat flat parse (t .text) scan n m words corners (t .words-before) (t .corners-before) (t .scanned) e
 
     pub points-few : n ≤ limits.points
-    points-few = few-points here
+    points-few = deliver.few-points here
 
     pub triangles-few : m ≤ limits.triangles
-    triangles-few = few-triangles here
+    triangles-few = deliver.few-triangles here
 
     -- the buffers hold all of them
     pub words-within : 3 * n ≤ length words
-    words-within = front-within (here .ps) words (t .words-before) n (here .words-are) (here .points-are)
+    words-within = deliver.words-in here
 
     pub corners-within : 3 * m ≤ length corners
-    corners-within = front-within (here .ts) corners (t .corners-before) m (here .corners-are) (here .triangles-are)
+    corners-within = deliver.corners-in here
 
     pub words-cut : 3 * n ≡ length (take (3 * n) words)
     words-cut = sym (length-take-le (3 * n) words words-within)
@@ -88,7 +79,7 @@ module _ (scan : Scan) (words corners : List ℕ) (n m : ℕ) (e : scan ≡ Whol
         of-set = λ ps ts x ss us y. on ps ts (rw (parse-text x) at (t .scanned)) .of-set ss us y;
       }
     where
-      on : (ps ts : List Three) → Scanned (said ps ts) scan words corners (t .words-before) (t .corners-before) → HearsSet (flat ps) (flat ts) patches a
+      on : (ps ts : List Three) → Scanned flat flat (said ps ts) scan words corners (t .words-before) (t .corners-before) → HearsSet (flat ps) (flat ts) patches a
       on ps ts s =
           let d : Whole n m ≡ Whole (length ps) (length ts) = sym e ∙ s .0 in
           let f : take (3 * n) words ≡ flat ps = front-of ps words (t .words-before) n (s .1) cc in

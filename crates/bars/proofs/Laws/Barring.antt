@@ -7,7 +7,7 @@ use lib.Dec.{eqb, ltb}
 use lib.ListN.{length, getD}
 use borrow.Author.Tests.{lt-ltb}
 use Rattle.bars.specs.Bars.{follows, diagonal, between, barred}
-use Rattle.bars.specs.Chains.{Edge, joins, Walkable, Tells, touches, met, clearedBelow, MarkDone, RowsRoom, AllDone, SidesDone, BarsRoom, BarsDone}
+use Rattle.bars.specs.Workings.Chains.{Edge, joins, Walkable, Tells, touches, met, clearedBelow, MarkDone, RowsRoom, AllDone, SidesDone, BarsRoom, BarsDone}
 use Rattle.bars.proofs.Laws.Rows.{rows-same}
 
 -- what tells something can be walked

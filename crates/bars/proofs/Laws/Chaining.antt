@@ -4,7 +4,7 @@ use mathlib.Core.Bool.{Bool, true, false}
 use mathlib.Core.List.{List, [], _∷_, _++_}
 use mathlib.Core.Logic.{⊎-elim}
 use Prim.Native.Nat.{ℕ, zero, suc, _+_, _<_, _≤_}
-use native.Mathlib.Nat.{lt-irrefl, not-suc-le-zero, le-refl}
+use native.Mathlib.Nat.{not-suc-le-zero, le-refl}
 use native.Mathlib.Omega.{arith}
 use lib.ListN.{length, getD, set, length-set, length-append, List·getD-append}
 use lib.Seq.{getD-set-same, getD-set-other, getD-append-seam}
@@ -12,9 +12,10 @@ use borrow.Author.Count.{below-more}
 use borrow.Author.Tests.{eq-eqb, ne-eqb}
 use Rattle.limits.specs.Limits as limits
 use Rattle.surface.proofs.Laws.Tests.{eq-or-not}
-use Rattle.twins.specs.Chains.{top}
+use Rattle.surface.proofs.Laws.Lists.{next-set}
+use Rattle.twins.specs.Workings.Chains.{top}
 use Rattle.twins.proofs.Laws.Tops.{top-none, top-hit, top-miss}
-use Rattle.bars.specs.Chains.{Edge, edgeOf, leaves, Chained, ChainRoom, ChainDone}
+use Rattle.bars.specs.Workings.Chains.{Edge, edgeOf, leaves, Chained, ChainRoom, ChainDone}
 
 -- two properties that agree below n have the same top
 pub top-same : (p q : ℕ → Bool) (n : ℕ) → ((k : ℕ) → k < n → p k ≡ q k) → top p n ≡ top q n
@@ -52,13 +53,6 @@ module _ (es : List Edge) (x : Edge) where
 
   top-old : (u k : ℕ) → k ≤ length es → top (leaves (es ++ (x ∷ [])) u) k ≡ top (leaves es u) k
   top-old u k l = top-same (leaves (es ++ (x ∷ [])) u) (leaves es u) k (λ i m. leaves-old u i (omega arith))
-
--- a list that gets its next entry
-next-set : (P : ℕ → ℕ → Type 0) (l : List ℕ) (n x : ℕ) → n < length l → ((k : ℕ) → k < n → P k (getD l k 0)) → P n x → (k : ℕ) → k < n + 1 → P k (getD (set l n x) k 0)
-next-set P l n x s w e =
-    below-more (λ (k : ℕ). P k (getD (set l n x) k 0)) n
-    (λ k m. subst (P k) (sym (getD-set-other l n k x 0 (λ q. lt-irrefl n (subst (λ (z : ℕ). z < n) q m)))) (w k m))
-    (subst (P n) (sym (getD-set-same l n x 0 s)) e)
 
 module _ (es : List Edge) (heads links ends : List ℕ) (c : Chained es heads links ends) (u v : ℕ) (room : ChainRoom (length es) u v heads links ends) where
   all : List Edge

@@ -9,7 +9,7 @@ use Rattle.limits.specs.Limits as limits
 use Rattle.surface.specs.Edges.{following}
 use Rattle.surface.proofs.Laws.Edges.{following-first, following-second, following-third}
 use Rattle.bars.specs.Bars.{between}
-use Rattle.bars.specs.Chains.{edgeOf, Chained, ChainRoom, ChainDone, InputRoom, Tells}
+use Rattle.bars.specs.Workings.Chains.{edgeOf, Chained, ChainRoom, ChainDone, InputRoom, Tells}
 use Rattle.bars.proofs.Laws.Joins.{sides, sides-none, sides-more, sides-length, sides-between, between-none}
 use Rattle.bars.proofs.Laws.Chaining.{chained-none}
 

@@ -1,6 +1,6 @@
 -- What a list of edges joins, and that the half-edges of triangles as such a list join what the triangles do.
 use mathlib.Core.Path.{_≡_, refl, sym, ap, ap₂, _∙_}
-use mathlib.Core.Bool.{Bool, true, false, _&&_, _||_, or-assoc, or-false}
+use mathlib.Core.Bool.{Bool, true, false, _&&_, _||_, or-assoc, or-false, cond}
 use mathlib.Core.List.{List, [], _∷_, _++_}
 use Prim.Native.Nat.{ℕ, zero, suc, _+_}
 use native.Mathlib.Numerals.{add-one}
@@ -9,10 +9,10 @@ use lib.ListN.{length, length-append}
 use native.Mathlib.Omega.{arith}
 use Rattle.surface.specs.declared.Found.{Found}
 use Rattle.surface.specs.declared.Found.the-variants.{At, Nothing}
-use Rattle.surface.specs.Smallest.{least, any, orElse, hit}
+use Rattle.surface.specs.Smallest.{least, any, orElse}
 use Rattle.surface.specs.Edges.{startOf, endOf, runs}
 use Rattle.bars.specs.Bars.{edge, between}
-use Rattle.bars.specs.Chains.{Edge, edgeOf, joins}
+use Rattle.bars.specs.Workings.Chains.{Edge, edgeOf, joins}
 use Rattle.bars.proofs.Laws.Tests.{exchanged}
 
 -- ---- lists of edges
@@ -26,7 +26,7 @@ joins-append (e ∷ es) fs u v =
 
 -- ---- searches
 
-any-or : (f : Found) (t : Bool) (n : ℕ) → any (orElse f (hit t n)) ≡ (any f || t)
+any-or : (f : Found) (t : Bool) (n : ℕ) → any (orElse f (cond t (At n) Nothing)) ≡ (any f || t)
 any-or (At i) t n = refl
 any-or Nothing true n = refl
 any-or Nothing false n = refl

@@ -13,7 +13,7 @@ use Rattle.covers.specs.Covers.{Cover, empty, apex, Covers, triangles, cornersO
 use Rattle.covers.proofs.Laws.Counted.{covers-forward}
 use Rattle.covers.proofs.Laws.Corners.{corners-append, corners-whole}
 use Rattle.bars.specs.Bars.{between}
-use Rattle.bars.specs.Chains.{Edge, joins, firsts}
+use Rattle.bars.specs.Workings.Chains.{Edge, joins, firsts}
 use Rattle.bars.proofs.Laws.Joins.{joins-append, between-none}
 use Rattle.bars.proofs.Laws.Tests.{either-true, or-left, or-right, same-truth}
 use Rattle.bars.proofs.Laws.Triples.{ends-of, between-append, between-turned, between-one, firsts-append}

@@ -9,7 +9,7 @@ use lib.ListN.{length, getD, take, drop, length-append}
 use lib.Seq.{slice, slice-empty, length-slice, take-add, drop-append-le, drop-cons, length-take-le}
 use Rattle.limits.specs.Limits as limits
 use Rattle.covers.specs.Covers.{patchOf}
-use Rattle.bars.specs.Chains.{Edge, edgeOf, joins, Chained, ChainRoom, ChainDone, firsts, LaidRoom, LaidDone}
+use Rattle.bars.specs.Workings.Chains.{Edge, edgeOf, joins, Chained, ChainRoom, ChainDone, firsts, LaidRoom, LaidDone}
 use Rattle.bars.proofs.Laws.Joins.{joins-append}
 use Rattle.bars.proofs.Laws.Triples.{firsts-append, firsts-length}
 use Rattle.bars.proofs.Laws.Laid.{laid-same}

@@ -10,7 +10,7 @@ use lib.Seq.{getD-set-same, getD-set-other}
 use borrow.Author.Count.{below-more}
 use Rattle.limits.specs.Limits as limits
 use Rattle.surface.proofs.Laws.Tests.{eq-or-not}
-use Rattle.bars.specs.Chains.{MarkRoom, MarkDone}
+use Rattle.bars.specs.Workings.Chains.{MarkRoom, MarkDone}
 
 -- the vertices below j are marked, and their rows are clear
 pub record Marking (ring marks₀ : List ℕ) (base : ℕ) (rows₀ : List ℕ) (j : ℕ) (marks rows : List ℕ) : Type 0 where

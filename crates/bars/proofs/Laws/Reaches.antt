@@ -7,9 +7,9 @@ use native.Mathlib.Omega.{arith}
 use lib.Dec.{eqb}
 use lib.ListN.{length, getD, drop}
 use lib.Seq.{drop-cons, drop-length}
-use Rattle.twins.specs.Chains.{top}
+use Rattle.twins.specs.Workings.Chains.{top}
 use Rattle.twins.proofs.Laws.Tops.{top-le, top-never}
-use Rattle.bars.specs.Chains.{Edge, edgeOf, joins, reaches, leaves}
+use Rattle.bars.specs.Workings.Chains.{Edge, edgeOf, joins, reaches, leaves}
 use Rattle.bars.proofs.Laws.Tests.{exchanged}
 
 -- edges join two points if one of them runs between the two, either way

@@ -11,7 +11,7 @@ use lib.ListN.{length, getD, set, length-set}
 use lib.Seq.{getD-set-same, getD-set-other}
 use borrow.Author.Tests.{eq-eqb, ne-eqb}
 use Rattle.limits.specs.Limits as limits
-use Rattle.masks.specs.Masks.{bit, Rows}
+use Rattle.masks.specs.Workings.Masks.{bit, Rows}
 use Rattle.masks.proofs.Laws.Masks.{with-bit, less-bit, bit-zero}
 use Rattle.surface.proofs.Laws.Tests.{eq-or-not}
 

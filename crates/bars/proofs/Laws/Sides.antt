@@ -11,8 +11,8 @@ use lib.ListN.{length, getD, set, length-set}
 use lib.Pow.{pow-pos}
 use borrow.Author.Tests.{lt-ltb, le-ltb, ne-eqb}
 use Rattle.limits.specs.Limits as limits
-use Rattle.masks.specs.Masks.{bit, Rows}
-use Rattle.bars.specs.Chains.{touches, clearedBelow, SidesDone}
+use Rattle.masks.specs.Workings.Masks.{bit, Rows}
+use Rattle.bars.specs.Workings.Chains.{touches, clearedBelow, SidesDone}
 use Rattle.bars.proofs.Laws.Neighbours.{inner-mask, first-mask, last-mask}
 use Rattle.bars.proofs.Laws.Tests.{ltb-more}
 use Rattle.bars.proofs.Laws.Rows.{rows-same, rows-less}

@@ -12,7 +12,7 @@ use Rattle.surface.specs.Edges.{following, runs}
 use Rattle.surface.proofs.Laws.Smallest.{least-same}
 use Rattle.surface.proofs.Laws.Edges.{following-below, following-on}
 use Rattle.bars.specs.Bars.{edge, between}
-use Rattle.bars.specs.Chains.{Edge, edgeOf, firsts}
+use Rattle.bars.specs.Workings.Chains.{Edge, edgeOf, firsts}
 use Rattle.bars.proofs.Laws.Joins.{any-more}
 use Rattle.bars.proofs.Laws.Tests.{exchanged}
 

@@ -1,8 +1,9 @@
 -- `judge` refuses by the counts, or hands on what they let pass.
 use mathlib.Core.Path.{sym, _∙_}
 use borrow.Author.Needs.{needs}
+use Rattle.surface.proofs.Laws.Deciding.{counts-pass}
 use Rattle.survey.specs.Outcome.{buffers}
-use Rattle.trial.proofs.Laws.Judging.{counts-refuse, counts-done}
+use Rattle.trial.proofs.Laws.Judging.{counts-refuse}
 use Rattle.checker.proofs.judge.Statement.{statement}
 use Rattle.checker.proofs.judge.Tie as tie
 
@@ -16,10 +17,10 @@ refused-requires : tie.Need-refused-requires
 refused-requires c κs = search needs
 
 returns : tie.Need-returns
-returns c = counts-refuse _ _ (buffers (c .before .before .before .before .before .before .before .before .before .before .args .grid .now) (c .before .before .before .before .before .before .before .before .before .before .args .rings .now) (c .before .before .before .before .before .before .before .before .before .before .args .lengths .now)) _ _ _ _ (c .refused .ensures) (c .before .before .before .check-counts .ensures) (sym (c .before .before .refuses .ensures) ∙ c .before .if1 .taken)
+returns c = counts-refuse _ _ _ _ (buffers (c .before .before .before .before .before .before .before .before .before .before .args .grid .now) (c .before .before .before .before .before .before .before .before .before .before .args .rings .now) (c .before .before .before .before .before .before .before .before .before .before .args .lengths .now)) _ _ (c .refused .ensures) (c .before .before .before .check-counts .ensures) (sym (c .before .before .refuses .ensures) ∙ c .before .if1 .taken)
 
 judge-few-requires : tie.Need-judge-few-requires
-judge-few-requires c κs = (counts-done (c .before .before .before .before .before .before .before .before .before .before .before .before .before .before .args .words .now) (c .before .before .before .before .before .before .before .before .before .before .before .before .before .before .args .corners .now) (buffers (c .before .before .before .before .before .before .before .before .before .before .before .before .before .before .args .grid .now) (c .before .before .before .before .before .before .before .before .before .before .before .before .before .before .args .rings .now) (c .before .before .before .before .before .before .before .before .before .before .before .before .before .before .args .lengths .now)) _ (c .before .before .before .before .before .before .before .check-counts .ensures) (sym (c .before .before .before .before .before .before .refuses .ensures) ∙ c .before .before .before .before .before .if1 .left), c .before .before .before .before .if2 .taken, c .before .before .before .if3 .taken)
+judge-few-requires c κs = (counts-pass _ _ _ (c .before .before .before .before .before .before .before .check-counts .ensures) (sym (c .before .before .before .before .before .before .refuses .ensures) ∙ c .before .before .before .before .before .if1 .left), c .before .before .before .before .if2 .taken, c .before .before .before .if3 .taken)
 
 same-length : tie.Need-same-length
 same-length c = search needs
@@ -34,7 +35,7 @@ returns-2 : tie.Need-returns-2
 returns-2 c = search needs
 
 judge-many-requires : tie.Need-judge-many-requires
-judge-many-requires c κs = counts-done (c .before .before .before .before .before .before .before .before .before .before .before .before .before .args .words .now) (c .before .before .before .before .before .before .before .before .before .before .before .before .before .args .corners .now) (buffers (c .before .before .before .before .before .before .before .before .before .before .before .before .before .args .grid .now) (c .before .before .before .before .before .before .before .before .before .before .before .before .before .args .rings .now) (c .before .before .before .before .before .before .before .before .before .before .before .before .before .args .lengths .now)) _ (c .before .before .before .before .before .before .check-counts .ensures) (sym (c .before .before .before .before .before .refuses .ensures) ∙ c .before .before .before .before .if1 .left)
+judge-many-requires c κs = counts-pass _ _ _ (c .before .before .before .before .before .before .check-counts .ensures) (sym (c .before .before .before .before .before .refuses .ensures) ∙ c .before .before .before .before .if1 .left)
 
 same-length-4 : tie.Need-same-length-4
 same-length-4 c = search needs

@@ -6,7 +6,7 @@ use mathlib.Core.Logic.{inl, inr}
 use mathlib.Core.List.{List, [], _∷_, _++_}
 use native.Mathlib.Omega.{arith}
 use Rattle.covers.specs.Covers.{Triangle}
-use Rattle.covers.specs.Sets.{turned, Alike, Lists}
+use Rattle.covers.specs.Sets.{turned, Alike, ListsTriangles}
 use Rattle.covers.proofs.Laws.Pairs.{hit, count, count-append}
 use Rattle.covers.proofs.Laws.Wound.{edges, edges-append}
 
@@ -31,7 +31,7 @@ module _ (u v : ℕ) where
   count-joined : (a b : List Triangle) → count u v (edges (a ++ b)) ≡ count u v (edges a) + count u v (edges b)
   count-joined a b = ap (count u v) (edges-append a b) ∙ count-append u v (edges a) (edges b)
 
-  pub listed-count : (ts s : List Triangle) → Lists s ts → count u v (edges s) ≡ count u v (edges ts)
+  pub listed-count : (ts s : List Triangle) → ListsTriangles s ts → count u v (edges s) ≡ count u v (edges ts)
   listed-count [] s h = ap (λ (l : List Triangle). count u v (edges l)) h
   listed-count (t ∷ ts) s h =
       omega (

@@ -8,11 +8,12 @@ use mathlib.Core.List.{List, []}
 use native.Mathlib.Omega.{arith}
 use lib.ListN.{length}
 use Rattle.covers.specs.Covers.{Cover, Allowed, vertexOf}
-use Rattle.covers.specs.Sets.{Covered, triples}
+use Rattle.surface.specs.Threes.{threes}
+use Rattle.covers.specs.Sets.{Covered}
 use Rattle.covers.proofs.Laws.Counted.{InnerUse}
 use Rattle.covers.proofs.Laws.Closed.{Different}
 use Rattle.bars.specs.Bars.{between, barred}
-use Rattle.closing.specs.Filling.{Fills, nothing, cover}
+use Rattle.closing.specs.Filling.{FillsRing, nothing, cover}
 use Rattle.closing.proofs.Laws.Times.{times, times-none, apart-times}
 use Rattle.closing.proofs.Laws.Diagonals.{inner-free}
 use Rattle.closing.proofs.Laws.Patches.{Turn, Edge, side, along, against, covered-edge, covered-side, covered-along, covered-against, covered-once}
@@ -46,7 +47,7 @@ nothing-lies input laid Side p e =
 
 module _ (input laid ring p : List ℕ) (input-whole : length input % 3 ≡ 0) (laid-whole : length laid % 3 ≡ 0)
     (different : Different (length ring) (vertexOf ring)) (three : 2 < length ring) where
-  module _ (c : Cover) (many : length p ≡ 3 * (length ring - 2)) (covered : Covered (length ring) (vertexOf ring) (triples p) c)
+  module _ (c : Cover) (many : length p ≡ 3 * (length ring - 2)) (covered : Covered (length ring) (vertexOf ring) (threes p) c)
       (allowed : Allowed (barred input laid ring) 0 (length ring - 1) c) where
     free : (a b : ℕ) → InnerUse 0 (length ring - 1) c a b → (u v : ℕ) → vertexOf ring a ≡ u → vertexOf ring b ≡ v
         → (between input u v ≡ false) × (between laid u v ≡ false)
@@ -62,7 +63,7 @@ module _ (input laid ring p : List ℕ) (input-whole : length input % 3 ≡ 0) (
         let s = apart-times input input-whole u v (r .0) in
         let t = apart-times laid laid-whole u v (r .1) in
         inr (record {
-          runs-back = covered-against (length ring) (vertexOf ring) different three (triples p) c covered a b v u i f e;
+          runs-back = covered-against (length ring) (vertexOf ring) different three (threes p) c covered a b v u i f e;
           not-input = s .0;
           not-turned = s .1;
           not-laid = t .0;
@@ -72,7 +73,7 @@ module _ (input laid ring p : List ℕ) (input-whole : length input % 3 ≡ 0) (
         let s = apart-times input input-whole v u (r .0) in
         let t = apart-times laid laid-whole v u (r .1) in
         inr (record {
-          runs-back = covered-along (length ring) (vertexOf ring) different three (triples p) c covered a b v u i f e;
+          runs-back = covered-along (length ring) (vertexOf ring) different three (threes p) c covered a b v u i f e;
           not-input = s .1;
           not-turned = s .0;
           not-laid = t .1;
@@ -83,12 +84,12 @@ module _ (input laid ring p : List ℕ) (input-whole : length input % 3 ≡ 0) (
     cover-lies =
         record {
           whole = omega arith;
-          once = covered-once (length ring) (vertexOf ring) different three (triples p) c covered;
-          kind = λ u v l. told u v (covered-edge (length ring) (vertexOf ring) different three (triples p) c covered u v l);
-          closes = inr (covered-side (length ring) (vertexOf ring) different three (triples p) c covered);
+          once = covered-once (length ring) (vertexOf ring) different three (threes p) c covered;
+          kind = λ u v l. told u v (covered-edge (length ring) (vertexOf ring) different three (threes p) c covered u v l);
+          closes = inr (covered-side (length ring) (vertexOf ring) different three (threes p) c covered);
         }
 
   -- what fills a loop lies in it
-  pub fills-lies : Fills input laid ring p → Lies input laid (Turn (length ring) (vertexOf ring)) p
+  pub fills-lies : FillsRing input laid ring p → Lies input laid (Turn (length ring) (vertexOf ring)) p
   fills-lies (nothing e) = nothing-lies input laid (Turn (length ring) (vertexOf ring)) p e
   fills-lies (cover c many covered allowed) = cover-lies c many covered allowed

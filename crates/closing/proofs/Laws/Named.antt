@@ -9,7 +9,7 @@ use native.Mathlib.Omega.{arith}
 use native.Mathlib.Decide.{decLt, ℕ-discrete}
 use Rattle.covers.specs.Covers.{Triangle}
 use Rattle.covers.specs.Sets.{named}
-use Rattle.covers.specs.Reading.{In}
+use Rattle.covers.specs.Workings.Reading.{In}
 use Rattle.covers.proofs.Laws.Pairs.{hit, count, hit-same, hit-other, hit-of}
 use Rattle.covers.proofs.Laws.Wound.{edges}
 use Rattle.covers.proofs.Laws.Closed.{Below, Different}

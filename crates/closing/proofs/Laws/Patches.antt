@@ -8,7 +8,7 @@ use native.Mathlib.Omega.{arith}
 use native.Mathlib.Decide.{decLt}
 use Rattle.covers.specs.Covers.{Cover, Triangle, triangles}
 use Rattle.covers.specs.Sets.{named, Covered}
-use Rattle.covers.specs.Reading.{In}
+use Rattle.covers.specs.Workings.Reading.{In}
 use Rattle.covers.proofs.Laws.Chords.{uses-in}
 use Rattle.covers.proofs.Laws.Pairs.{count}
 use Rattle.covers.proofs.Laws.Counted.{InnerUse}

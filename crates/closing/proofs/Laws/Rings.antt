@@ -12,7 +12,7 @@ use Rattle.surface.proofs.Laws.Lists.{map-at}
 use Rattle.surface.proofs.Laws.Edges.{one-edge}
 use Rattle.loops.specs.Loops.{loops, ring}
 use Rattle.loops.proofs.Laws.Distinct.{Distinct}
-use Rattle.loops.proofs.Laws.Linked.{Linked, Closed}
+use Rattle.loops.proofs.Laws.Linked.{Closed, closed-next}
 use Rattle.loops.proofs.Laws.Places.{Place}
 use Rattle.loops.proofs.Theorems.{one-loop, no-vertex-twice, three-or-more, loop-closes}
 use Rattle.covers.specs.Covers.{vertexOf}
@@ -38,10 +38,6 @@ module _ (corners loop : List ℕ) (closed : Closed corners loop) (some : 0 < le
   vertex-at : (i : ℕ) → i < length loop → vertex i ≡ startOf corners (getD loop i 0)
   vertex-at i l = map-at (startOf corners) 0 0 loop i l
 
-  next-of : (j : ℕ) → suc j < length loop → endOf corners (getD loop j 0) ≡ startOf corners (getD loop (suc j) 0)
-  unfolding Linked
-  next-of = closed .linked
-
   pub turn-against : (u v : ℕ) → Turn (length (ring corners loop)) (vertexOf (ring corners loop)) u v → EdgeAgainst corners loop u v
   turn-against u v (back j l e f) =
       let m : suc j < length loop = omega (arith, long) in
@@ -49,7 +45,7 @@ module _ (corners loop : List ℕ) (closed : Closed corners loop) (some : 0 < le
         at = j;
         at-below = omega arith;
         starts = sym (vertex-at j (omega arith)) ∙ f;
-        ends = next-of j m ∙ sym (vertex-at (suc j) m) ∙ e;
+        ends = closed-next corners loop closed j m ∙ sym (vertex-at (suc j) m) ∙ e;
       }
   turn-against u v (round e f) =
       let k : length loop - 1 ≡ length (ring corners loop) - 1 = omega (arith, long) in
@@ -65,7 +61,7 @@ module _ (corners loop : List ℕ) (closed : Closed corners loop) (some : 0 < le
       let b : a .at < length loop = a .at-below in
       ⊎-elim
       (λ (l : suc (a .at) < length loop).
-      back (a .at) (omega (arith, long)) (vertex-at (suc (a .at)) l ∙ sym (next-of (a .at) l) ∙ a .ends) (vertex-at (a .at) b ∙ a .starts))
+      back (a .at) (omega (arith, long)) (vertex-at (suc (a .at)) l ∙ sym (closed-next corners loop closed (a .at) l) ∙ a .ends) (vertex-at (a .at) b ∙ a .starts))
       (λ (l : length loop ≤ suc (a .at)).
       let k : length (ring corners loop) - 1 ≡ a .at = omega (arith, long) in
       round (vertex-at 0 some ∙ sym (closed .closes (a .at) (omega arith)) ∙ a .ends) (ap vertex k ∙ vertex-at (a .at) b ∙ a .starts))

@@ -14,7 +14,7 @@ use Rattle.surface.proofs.Laws.Tests.{not-so, either-false}
 use Rattle.surface.proofs.Laws.Smallest.{any-index, index-any}
 use Rattle.surface.proofs.Laws.Edges.{runs-says, runs-from, twin-says, not-open, opposed}
 use Rattle.covers.specs.Covers.{Triangle, on}
-use Rattle.covers.specs.Sets.{triples}
+use Rattle.surface.specs.Threes.{threes}
 use Rattle.covers.proofs.Laws.Pairs.{Pair, pair, count, count-append}
 use Rattle.covers.proofs.Laws.Wound.{edges, edges-append}
 use Rattle.bars.specs.Bars.{edge, between}
@@ -23,11 +23,11 @@ use Rattle.closing.proofs.Laws.Places.{pairAt, Here, here-counted, coun
 
 -- how often the edge u to v occurs
 unfoldable pub times : List ℕ → ℕ → ℕ → ℕ
-times l u v = count u v (edges (triples l))
+times l u v = count u v (edges (threes l))
 
 -- ---- one list after another
 
-triples-append : (l m : List ℕ) → length l % 3 ≡ 0 → triples (l ++ m) ≡ triples l ++ triples m
+triples-append : (l m : List ℕ) → length l % 3 ≡ 0 → threes (l ++ m) ≡ threes l ++ threes m
 triples-append [] m w = refl
 triples-append (a ∷ []) m w = absurd (omega arith)
 triples-append (a ∷ (b ∷ [])) m w = absurd (omega arith)
@@ -37,8 +37,8 @@ pub times-append : (l m : List ℕ) → length l % 3 ≡ 0 → (u v : ℕ) → t
 unfolding times
 times-append l m w u v =
     ap (λ (ts : List Triangle). count u v (edges ts)) (triples-append l m w)
-    ∙ ap (count u v) (edges-append (triples l) (triples m))
-    ∙ count-append u v (edges (triples l)) (edges (triples m))
+    ∙ ap (count u v) (edges-append (threes l) (threes m))
+    ∙ count-append u v (edges (threes l)) (edges (threes m))
 
 pub times-none : (u v : ℕ) → times [] u v ≡ 0
 unfolding times count
@@ -46,13 +46,13 @@ times-none u v = refl
 
 -- ---- half-edges
 
-edges-many : (l : List ℕ) → length l % 3 ≡ 0 → length (edges (triples l)) ≡ length l
+edges-many : (l : List ℕ) → length l % 3 ≡ 0 → length (edges (threes l)) ≡ length l
 edges-many [] w = refl
 edges-many (a ∷ []) w = absurd (omega arith)
 edges-many (a ∷ (b ∷ [])) w = absurd (omega arith)
 edges-many (a ∷ (b ∷ (c ∷ l))) w = omega (arith, edges-many l (omega arith))
 
-edge-at : (l : List ℕ) → length l % 3 ≡ 0 → (h : ℕ) → h < length l → pairAt (edges (triples l)) h ≡ pair (startOf l h) (endOf l h)
+edge-at : (l : List ℕ) → length l % 3 ≡ 0 → (h : ℕ) → h < length l → pairAt (edges (threes l)) h ≡ pair (startOf l h) (endOf l h)
 unfolding following
 edge-at [] w h s = absurd (not-suc-le-zero s)
 edge-at (a ∷ []) w h s = absurd (omega arith)
@@ -75,7 +75,7 @@ pub half : (l : List ℕ) (h : ℕ) → h < length l → Half l (startOf l h) (e
 half l h s = record { in-list = s; starts = refl; ends = refl }
 
 module _ (l : List ℕ) (whole : length l % 3 ≡ 0) (u v : ℕ) where
-  half-here : (h : ℕ) → Half l u v h → Here u v (edges (triples l)) h
+  half-here : (h : ℕ) → Half l u v h → Here u v (edges (threes l)) h
   half-here h k =
       let e = edge-at l whole h (k .in-list) in
       let s : h < length l = k .in-list in
@@ -85,10 +85,10 @@ module _ (l : List ℕ) (whole : length l % 3 ≡ 0) (u v : ℕ) where
         to-here = ap (λ (p : Pair). p .to) e ∙ k .ends;
       }
 
-  here-half : (h : ℕ) → Here u v (edges (triples l)) h → Half l u v h
+  here-half : (h : ℕ) → Here u v (edges (threes l)) h → Half l u v h
   here-half h k =
       let n = edges-many l whole in
-      let b : h < length (edges (triples l)) = k .below in
+      let b : h < length (edges (threes l)) = k .below in
       let s : h < length l = omega arith in
       let e = edge-at l whole h s in
       record {
@@ -99,20 +99,20 @@ module _ (l : List ℕ) (whole : length l % 3 ≡ 0) (u v : ℕ) where
 
   pub half-times : (h : ℕ) → Half l u v h → 0 < times l u v
   unfolding times
-  half-times h k = here-counted u v (edges (triples l)) h (half-here h k)
+  half-times h k = here-counted u v (edges (threes l)) h (half-here h k)
 
   pub times-half : 0 < times l u v → (h : ℕ) × Half l u v h
   unfolding times
-  times-half s = let y = counted-here u v (edges (triples l)) s in (y .0, here-half (y .0) (y .1))
+  times-half s = let y = counted-here u v (edges (threes l)) s in (y .0, here-half (y .0) (y .1))
 
   -- an edge that occurs once is one half-edge
   pub times-single : times l u v ≤ 1 → (g h : ℕ) → Half l u v g → Half l u v h → g ≡ h
   unfolding times
-  times-single s g h j k = counted-once u v (edges (triples l)) s g h (half-here g j) (half-here h k)
+  times-single s g h j k = counted-once u v (edges (threes l)) s g h (half-here g j) (half-here h k)
 
   pub single-times : ((g h : ℕ) → Half l u v g → Half l u v h → g ≡ h) → times l u v ≤ 1
   unfolding times
-  single-times f = once-counted u v (edges (triples l)) (λ g h j k. f g h (here-half g j) (here-half h k))
+  single-times f = once-counted u v (edges (threes l)) (λ g h j k. f g h (here-half g j) (here-half h k))
 
   -- ---- what the tests say
 

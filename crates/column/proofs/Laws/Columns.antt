@@ -10,8 +10,8 @@ use lib.Seq.{getD-set-same, getD-set-other}
 use borrow.Author.Count.{below-more}
 use lib.Ieee.{Float, nan, binary64, add, lt}
 use Rattle.limits.specs.Limits.{longest}
-use Rattle.exact.specs.Whole.{sizeOf}
-use Rattle.column.specs.Columns.{cell, lesserOf, Long, pairs, farFloat, noughtFloat, productOf, ProductsRoom, Multiplied, gapOf, byWay, WayRoom, RelaxRoom, Relaxed}
+use Rattle.exact.specs.Workings.Whole.{sizeOf}
+use Rattle.column.specs.Workings.Columns.{cell, lesserOf, Long, pairs, farFloat, noughtFloat, productOf, ProductsRoom, Multiplied, gapOf, byWay, WayRoom, RelaxRoom, Relaxed}
 
 pub lesser-first : (a b : Float) → lt a b ≡ true → a ≡ lesserOf a b
 unfolding lesserOf

@@ -8,7 +8,7 @@ use lib.Seq.{getD-set-same, getD-set-other}
 use borrow.Author.Count.{below-more}
 use lib.Ieee.{Float, nan}
 use Rattle.limits.specs.Limits.{longest}
-use Rattle.column.specs.Columns.{cell, Table, row, pairs, CopyRoom, Copied}
+use Rattle.column.specs.Workings.Columns.{cell, Table, row, pairs, CopyRoom, Copied}
 use Rattle.column.proofs.Laws.Rows.{row-inside}
 
 -- the table once the products with i are written, where the row begins at `at`

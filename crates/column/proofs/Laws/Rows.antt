@@ -5,7 +5,7 @@ use Prim.Native.Nat.{ℕ, zero, suc, _+_, _-_, _*_, _/_, _≤_, _<_, zero-le}
 use native.Mathlib.Nat.{suc-mul, mul-suc, mul-le-mul, add-mul-div-right, eq-or-lt-of-le, le-of-suc-le-suc, zero-lt-suc}
 use native.Mathlib.Omega.{arith}
 use Rattle.limits.specs.Limits.{longest}
-use Rattle.column.specs.Columns.{row, pairs}
+use Rattle.column.specs.Workings.Columns.{row, pairs}
 
 -- a number is no greater than its square
 pub at-most-square : (k : ℕ) → k ≤ k * k

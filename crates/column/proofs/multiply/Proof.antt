@@ -4,7 +4,7 @@ use Prim.Native.Nat.{_-_}
 use native.Mathlib.Omega.{arith}
 use lib.ListN.{length-set}
 use borrow.Author.Needs.{needs}
-use Rattle.column.specs.Columns.{productOf}
+use Rattle.column.specs.Workings.Columns.{productOf}
 use Rattle.column.proofs.Laws.Columns.{Multiplying, multiplying-begins, multiplying-more, multiplied}
 use Rattle.column.proofs.multiply.Statement.{statement}
 use Rattle.column.proofs.multiply.Tie as tie

@@ -1,7 +1,7 @@
 -- `row_of` squares no more than the longest loop, and no number is greater than its square.
 use mathlib.Core.Path.{refl}
 use native.Mathlib.Omega.{arith}
-use Rattle.column.specs.Columns.{row}
+use Rattle.column.specs.Workings.Columns.{row}
 use Rattle.column.proofs.Laws.Rows.{at-most-square, square-most}
 use Rattle.column.proofs.row_of.Statement.{statement}
 use Rattle.column.proofs.row_of.Tie as tie

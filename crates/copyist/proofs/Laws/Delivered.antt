@@ -5,13 +5,14 @@ use Prim.Native.Nat.{ℕ, _/_, _≤_}
 use native.Mathlib.Omega.{arith}
 use lib.ListN.{length}
 use Rattle.limits.specs.Limits as limits
-use Rattle.terms.specs.declared.Answer.the-variants.{Done, Unnamed}
+use Rattle.answers.specs.declared.Answer.the-variants.{Done, Unnamed}
 use Rattle.surface.specs.Buffers.{over}
 use Rattle.surface.specs.Refusals.{bufferRefusal, unnamedRefusal}
 use Rattle.surface.proofs.Laws.Thens.{two-long}
 use Rattle.texts.specs.Text.{TextOf}
-use Rattle.sheet.specs.Sheet.{Three, flat, points, triangles}
-use Rattle.sheet.proofs.Laws.Threes.{flat-length}
+use Rattle.surface.specs.Threes.{Three, flat}
+use Rattle.sheet.specs.Sheet.{points, triangles}
+use Rattle.surface.proofs.Laws.Threes.{flat-length}
 use Rattle.intake.specs.Outcome.{notRead, deliver}
 
 module _ {bytes : List ℕ} {ps ts : List Three} (t : TextOf points triangles bytes ps ts) where

@@ -2,15 +2,15 @@
 use Prim.Native.Nat.{ℕ}
 use mathlib.Core.Path.{_≡_, sym}
 use mathlib.Core.Bool.{Bool}
-use Rattle.covers.specs.Weights.{Weights}
+use Rattle.covers.specs.Weights.{Weights, Lawful}
 use Rattle.covers.specs.Covers.{Cover, weight, Allowed, Best, Patch}
 use Rattle.covers.proofs.Laws.Order.{antisym}
 use Rattle.covers.proofs.Laws.Sooner.{sooner-antisym}
 
-module _ (𝓦 : Weights) (tri : ℕ → ℕ → ℕ → 𝓦 .W) where
+module _ (𝓦 : Weights) (𝓛 : Lawful 𝓦) (tri : ℕ → ℕ → ℕ → 𝓦 .W) where
   module _ (i k : ℕ) (P : Cover → Type 0) (c d : Cover) (p : Best 𝓦 tri i k P c) (q : Best 𝓦 tri i k P d) where
     pub best-weigh-same : weight 𝓦 tri i k c ≡ weight 𝓦 tri i k d
-    best-weigh-same = antisym 𝓦 (weight 𝓦 tri i k c) (weight 𝓦 tri i k d) (p .least d (q .among)) (q .least c (p .among))
+    best-weigh-same = antisym 𝓦 𝓛 (weight 𝓦 tri i k c) (weight 𝓦 tri i k d) (p .least d (q .among)) (q .least c (p .among))
 
     -- any two best covers among the same ones are equal
     pub unique : c ≡ d

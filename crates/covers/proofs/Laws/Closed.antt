@@ -8,7 +8,7 @@ use native.Mathlib.Omega.{arith}
 use lib.ListN.{length, length-map}
 use Rattle.covers.specs.Covers.{Cover, empty, apex, Covers, Uses, Triangle, on, triangles}
 use Rattle.covers.specs.Sets.{turned, Alike, named, Covered}
-use Rattle.covers.specs.Reading.{In, Stands, Keyed, Laid, side, laid, Parted}
+use Rattle.covers.specs.Workings.Reading.{In, Stands, Keyed, Laid, side, laid, Parted}
 use Rattle.covers.proofs.Laws.Counted.{loop-triangles}
 use Rattle.covers.proofs.Laws.Listed.{in-left, in-right, in-cases, listed-of, listed-in, Apart, lists}
 use Rattle.covers.proofs.Laws.Sets.{inside, corners-of, by-corners, alike-both, cover-apart, one-within}

@@ -6,14 +6,14 @@ use mathlib.Core.Logic.{inl}
 use mathlib.Core.Bool.{Bool, false}
 use native.Mathlib.Omega.{arith}
 use native.Mathlib.Decide.{decLt}
-use Rattle.covers.specs.Weights.{Weights}
+use Rattle.covers.specs.Weights.{Weights, Lawful}
 use Rattle.covers.specs.Covers.{Cover, empty, apex, Sooner, weight, Allowed, Best, Patch}
-use Rattle.covers.specs.Least.{Least}
+use Rattle.covers.specs.Workings.Least.{Least, MadeAt}
 use Rattle.covers.proofs.Laws.Order.{antisym}
 use Rattle.covers.proofs.Laws.Parts.{allowed-before, allowed-after, allowed-free, other-before, other-after, lighter-before, lighter-after}
 use Rattle.covers.proofs.Laws.Steps.{AllowedAt, apex-best, patch-side}
 
-module _ (𝓦 : Weights) (tri : ℕ → ℕ → ℕ → 𝓦 .W) (barred : ℕ → ℕ → Bool) where
+module _ (𝓦 : Weights) (𝓛 : Lawful 𝓦) (tri : ℕ → ℕ → ℕ → 𝓦 .W) (barred : ℕ → ℕ → Bool) where
   open Weights 𝓦 using (W, none, add, _≺_)
 
   abbrev wt : ℕ → ℕ → Cover → W
@@ -21,7 +21,7 @@ module _ (𝓦 : Weights) (tri : ℕ → ℕ → ℕ → 𝓦 .W) (barred : ℕ 
 
   pub least-unique : (i k : ℕ) (v w : W) → Least 𝓦 tri barred i k v → Least 𝓦 tri barred i k w → v ≡ w
   least-unique i k v w p q =
-      antisym 𝓦 v w
+      antisym 𝓦 𝓛 v w
       (λ l. p .least (q .cover) (q .among) (rw (q .weighs) l))
       (λ l. q .least (p .cover) (p .among) (rw (p .weighs) l))
 
@@ -35,7 +35,7 @@ module _ (𝓦 : Weights) (tri : ℕ → ℕ → ℕ → 𝓦 .W) (barred : ℕ 
 
   -- a side weighs nothing
   pub least-side : (i k : ℕ) → k ≡ suc i → Least 𝓦 tri barred i k none
-  least-side i k e = patch-least i k empty (patch-side 𝓦 tri barred i k e)
+  least-side i k e = patch-least i k empty (patch-side 𝓦 𝓛 tri barred i k e)
 
   pub patch-weighs : (i k : ℕ) (w : W) (c : Cover) → Least 𝓦 tri barred i k w → Patch 𝓦 tri barred i k c → wt i k c ≡ w
   patch-weighs i k w c q p = least-unique i k (wt i k c) w (patch-least i k c p) q
@@ -45,26 +45,16 @@ module _ (𝓦 : Weights) (tri : ℕ → ℕ → ℕ → 𝓦 .W) (barred : ℕ 
     pub least-before : Least 𝓦 tri barred i m (wt i m c)
     least-before =
         least-of i m c (allowed-before barred i k m c d a)
-        (λ y h g. l (apex m y d) (other-before barred i k m c d a y h) (lighter-before 𝓦 tri i k m c d y g))
+        (λ y h g. l (apex m y d) (other-before barred i k m c d a y h) (lighter-before 𝓦 𝓛 tri i k m c d y g))
 
     pub least-after : Least 𝓦 tri barred m k (wt m k d)
     least-after =
         least-of m k d (allowed-after barred i k m c d a)
-        (λ y h g. l (apex m c y) (other-after barred i k m c d a y h) (lighter-after 𝓦 tri i k m c d y g))
-
-  -- the triangle on i..k with the apex m and the least weights of its two parts make up w
-  pub record MadeAt (i k : ℕ) (w : W) (m : ℕ) : Type 0 where
-    pub low : i < m
-    pub high : m < k
-    pub left : W
-    pub right : W
-    pub left-least : Least 𝓦 tri barred i m left
-    pub right-least : Least 𝓦 tri barred m k right
-    pub makes : add (tri i k m) (add left right) ≡ w
+        (λ y h g. l (apex m c y) (other-after barred i k m c d a y h) (lighter-after 𝓦 𝓛 tri i k m c d y g))
 
   -- an allowed cover of the least weight makes it up at its apex
   pub made-at : (i k : ℕ) (w : W) → Least 𝓦 tri barred i k w → (m : ℕ) (c d : Cover) → Allowed barred i k (apex m c d)
-      → wt i k (apex m c d) ≡ w → MadeAt i k w m
+      → wt i k (apex m c d) ≡ w → MadeAt 𝓦 tri barred i k w m
   made-at i k w q m c d a e =
       let l : (x : Cover) → Allowed barred i k x → wt i k x ≺ wt i k (apex m c d) → ⊥ = λ x h g. q .least x h (rw e at g) in
       record {
@@ -78,10 +68,10 @@ module _ (𝓦 : Weights) (tri : ℕ → ℕ → ℕ → 𝓦 .W) (barred : ℕ 
       }
 
   -- so there is such an apex, wherever the stretch is longer than a side
-  pub some-apex : (i k : ℕ) (w : W) → suc i < k → Least 𝓦 tri barred i k w → (m : ℕ) × MadeAt i k w m
+  pub some-apex : (i k : ℕ) (w : W) → suc i < k → Least 𝓦 tri barred i k w → (m : ℕ) × MadeAt 𝓦 tri barred i k w m
   some-apex i k w s q = go (q .cover) (q .among) (q .weighs)
     where
-      go : (c : Cover) → Allowed barred i k c → wt i k c ≡ w → (m : ℕ) × MadeAt i k w m
+      go : (c : Cover) → Allowed barred i k c → wt i k c ≡ w → (m : ℕ) × MadeAt 𝓦 tri barred i k w m
       go empty a e = let f : k ≡ suc i = a .covers in absurd (omega arith)
       go (apex m c d) a e = (m, made-at i k w q m c d a e)
 
@@ -94,8 +84,8 @@ module _ (𝓦 : Weights) (tri : ℕ → ℕ → ℕ → 𝓦 .W) (barred : ℕ 
       go (apex n c d) a = allowed-free barred i k n c d a
 
   -- the smallest such apex, with the patches of its parts, is the patch
-  pub least-apex : (i k : ℕ) (w : W) (m : ℕ) → Least 𝓦 tri barred i k w → MadeAt i k w m
-      → ((n : ℕ) → n < m → MadeAt i k w n → ⊥)
+  pub least-apex : (i k : ℕ) (w : W) (m : ℕ) → Least 𝓦 tri barred i k w → MadeAt 𝓦 tri barred i k w m
+      → ((n : ℕ) → n < m → MadeAt 𝓦 tri barred i k w n → ⊥)
       → (c d : Cover) → Patch 𝓦 tri barred i m c → Patch 𝓦 tri barred m k d → Patch 𝓦 tri barred i k (apex m c d)
   least-apex i k w m q a first c d p r = record {
     among = best .among .0;
@@ -104,7 +94,7 @@ module _ (𝓦 : Weights) (tri : ℕ → ℕ → ℕ → 𝓦 .W) (barred : ℕ 
   }
     where
       best : Best 𝓦 tri i k (AllowedAt barred i k m) (apex m c d)
-      best = apex-best 𝓦 tri barred i k m (a .low) (a .high) (least-free i k m w q (a .low) (a .high)) c d p r
+      best = apex-best 𝓦 𝓛 tri barred i k m (a .low) (a .high) (least-free i k m w q (a .low) (a .high)) c d p r
 
       weighs : wt i k (apex m c d) ≡ w
       weighs =

@@ -7,8 +7,8 @@ use mathlib.Core.List.{List, [], _∷_, _++_}
 use native.Mathlib.Omega.{arith}
 use lib.ListN.{length, length-append}
 use Rattle.covers.specs.Covers.{Triangle}
-use Rattle.covers.specs.Sets.{Alike, Lists}
-use Rattle.covers.specs.Reading.{In, Stands}
+use Rattle.covers.specs.Sets.{Alike, ListsTriangles}
+use Rattle.covers.specs.Workings.Reading.{In, Stands}
 
 pub in-left : (t : Triangle) (a b : List Triangle) → In t a → In t (a ++ b)
 in-left t [] b h = absurd h
@@ -34,7 +34,7 @@ in-rest : (x u : Triangle) (a b : List Triangle) → In x (a ++ (u ∷ b)) → (
 in-rest x u a b h = ⊎-elim (λ g. inr (in-left x a b g)) (⊎-elim inl (λ g. inr (in-right x a b g))) (in-cases x a (u ∷ b) h)
 
 -- what stands in the set is one of the listed triangles
-pub listed-of : (ts s : List Triangle) → Lists s ts → (u : Triangle) → In u s → (t : Triangle) × In t ts × Alike u t
+pub listed-of : (ts s : List Triangle) → ListsTriangles s ts → (u : Triangle) → In u s → (t : Triangle) × In t ts × Alike u t
 listed-of [] s h u g = absurd (subst (In u) h g)
 listed-of (t ∷ ts) s h u g =
     ⊎-elim
@@ -43,7 +43,7 @@ listed-of (t ∷ ts) s h u g =
     (in-rest u (h .2) (h .0) (h .1) (subst (In u) (h .3) g))
 
 -- a listed triangle stands in the set
-pub listed-in : (ts s : List Triangle) → Lists s ts → (t : Triangle) → In t ts → Stands s t
+pub listed-in : (ts s : List Triangle) → ListsTriangles s ts → (t : Triangle) → In t ts → Stands s t
 listed-in [] s h t g = absurd g
 listed-in (x ∷ ts) s h t (inl e) =
     (h .2, subst (In (h .2)) (sym (h .3)) (in-right (h .2) (h .0) (h .2 ∷ h .1) (inl refl)), subst (λ (y : Triangle). Alike (h .2) y) (sym e) (h .4))
@@ -59,7 +59,7 @@ without : (a b : List Triangle) (u : Triangle) (s : List Triangle) (n : ℕ) →
 without a b u s n e f = omega (arith, ap length e, length-append a (u ∷ b), length-append a b)
 
 -- the set has as many as are listed
-pub listed-length : (ts s : List Triangle) → Lists s ts → length s ≡ length ts
+pub listed-length : (ts s : List Triangle) → ListsTriangles s ts → length s ≡ length ts
 listed-length [] s h = ap length h
 listed-length (t ∷ ts) s h =
     omega (arith, ap length (h .3), length-append (h .0) (h .2 ∷ h .1), length-append (h .0) (h .1), listed-length ts (h .0 ++ h .1) (h .5))
@@ -82,7 +82,7 @@ empty-of [] h = refl
 empty-of (x ∷ s) h = absurd (omega arith)
 
 -- each stands in the set, and the set has as many: the set lists them
-pub lists : (ts s : List Triangle) → Apart ts → length s ≡ length ts → ((t : Triangle) → In t ts → Stands s t) → Lists s ts
+pub lists : (ts s : List Triangle) → Apart ts → length s ≡ length ts → ((t : Triangle) → In t ts → Stands s t) → ListsTriangles s ts
 lists [] s d e h = empty-of s e
 lists (t ∷ ts) s d e h =
     let y = h t (inl refl) in

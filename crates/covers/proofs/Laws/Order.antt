@@ -1,14 +1,18 @@
 -- What follows from the laws of a weight alone: sums compare and cancel part by part, because adding keeps the strict order and the order is total.
 use mathlib.Core.Path.{_≡_, sym}
 use mathlib.Core.Logic.{_⊎_, inl, inr, ⊎-elim}
-use Rattle.covers.specs.Weights.{Weights}
+use Rattle.covers.specs.Weights.{Weights, Lawful}
 
 module _ (𝓦 : Weights) where
-  open Weights 𝓦 using (W, none, add, _≺_, none-add, comm, assoc, total, irrefl, trans, keeps)
+  open Weights 𝓦 using (W, _≺_)
 
   -- a is no heavier than b: b is not lighter than a
   abbrev pub AtMost : W → W → Type 0
   AtMost a b = b ≺ a → ⊥
+
+module _ (𝓦 : Weights) (𝓛 : Lawful 𝓦) where
+  open Weights 𝓦 using (W, none, add, _≺_)
+  open Lawful 𝓛 using (none-add, comm, assoc, total, irrefl, trans, keeps)
 
   pub keeps-left : (a b c : W) → a ≺ b → add a c ≺ add b c
   keeps-left a b c h = rw (comm a c, comm b c) (keeps a b c h)
@@ -16,20 +20,20 @@ module _ (𝓦 : Weights) where
   pub same-not-lighter : (a b : W) → a ≡ b → a ≺ b → ⊥
   same-not-lighter a b e h = irrefl b (rw e at h)
 
-  pub at-most-cases : (a b : W) → AtMost a b → (a ≺ b) ⊎ (a ≡ b)
+  pub at-most-cases : (a b : W) → AtMost 𝓦 a b → (a ≺ b) ⊎ (a ≡ b)
   at-most-cases a b h = ⊎-elim inl (⊎-elim inr (λ g. absurd (h g))) (total a b)
 
-  pub antisym : (a b : W) → AtMost a b → AtMost b a → a ≡ b
+  pub antisym : (a b : W) → AtMost 𝓦 a b → AtMost 𝓦 b a → a ≡ b
   antisym a b h g = ⊎-elim (λ l. absurd (g l)) (λ e. e) (at-most-cases a b h)
 
-  pub lighter-add : (a b c d : W) → a ≺ b → AtMost c d → add a c ≺ add b d
+  pub lighter-add : (a b c d : W) → a ≺ b → AtMost 𝓦 c d → add a c ≺ add b d
   lighter-add a b c d l h =
       ⊎-elim
       (λ m. trans (add a c) (add a d) (add b d) (keeps c d a m) (keeps-left a b d l))
       (λ e. rw e (keeps-left a b d l))
       (at-most-cases c d h)
 
-  pub at-most-add : (a b c d : W) → AtMost a b → AtMost c d → AtMost (add a c) (add b d)
+  pub at-most-add : (a b c d : W) → AtMost 𝓦 a b → AtMost 𝓦 c d → AtMost 𝓦 (add a c) (add b d)
   at-most-add a b c d h g l =
       ⊎-elim
       (λ m. irrefl (add a c) (trans (add a c) (add b d) (add a c) (lighter-add a b c d m g) l))
@@ -41,7 +45,7 @@ module _ (𝓦 : Weights) where
       (at-most-cases a b h)
 
   -- where neither part is heavier and the sums agree, the parts agree
-  pub parts-agree : (a b c d : W) → AtMost a b → AtMost c d → add a c ≡ add b d → (a ≡ b) × (c ≡ d)
+  pub parts-agree : (a b c d : W) → AtMost 𝓦 a b → AtMost 𝓦 c d → add a c ≡ add b d → (a ≡ b) × (c ≡ d)
   parts-agree a b c d h g e =
       ⊎-elim
       (λ m. absurd (same-not-lighter (add a c) (add b d) e (lighter-add a b c d m g)))
@@ -59,14 +63,14 @@ module _ (𝓦 : Weights) where
       (⊎-elim (λ p. p) (λ l. absurd (same-not-lighter (add c b) (add c a) (sym e) (keeps b a c l))))
       (total a b)
 
-  pub at-most-keeps : (a b c : W) → AtMost a b → AtMost (add c a) (add c b)
+  pub at-most-keeps : (a b c : W) → AtMost 𝓦 a b → AtMost 𝓦 (add c a) (add c b)
   at-most-keeps a b c h l =
       ⊎-elim
       (λ m. irrefl (add c a) (trans (add c a) (add c b) (add c a) (keeps a b c m) l))
       (λ e. same-not-lighter (add c b) (add c a) (cc) l)
       (at-most-cases a b h)
 
-  pub at-most-trans : (a b c : W) → AtMost a b → AtMost b c → AtMost a c
+  pub at-most-trans : (a b c : W) → AtMost 𝓦 a b → AtMost 𝓦 b c → AtMost 𝓦 a c
   at-most-trans a b c h g l =
       ⊎-elim
       (λ m. g (trans c a b l m))

@@ -3,7 +3,7 @@ use Prim.Native.Nat.{ℕ, _<_}
 use mathlib.Core.Path.{_≡_, refl, ap}
 use mathlib.Core.Logic.{inl, inr, ⊎-elim}
 use mathlib.Core.Bool.{Bool, false}
-use Rattle.covers.specs.Weights.{Weights}
+use Rattle.covers.specs.Weights.{Weights, Lawful}
 use Rattle.covers.specs.Covers.{Cover, apex, weight, Allowed, Patch}
 use Rattle.covers.proofs.Laws.Order.{keeps-left}
 use Rattle.covers.proofs.Laws.Sooner.{sooner-parts}
@@ -34,7 +34,7 @@ module _ (barred : ℕ → ℕ → Bool) where
     pub other-after : (y : Cover) → Allowed barred m k y → Allowed barred i k (apex m c y)
     other-after y h = allowed-apex i k m c y (x .covers .0) (x .covers .1) allowed-free allowed-before h
 
-module _ (𝓦 : Weights) (tri : ℕ → ℕ → ℕ → 𝓦 .W) where
+module _ (𝓦 : Weights) (𝓛 : Lawful 𝓦) (tri : ℕ → ℕ → ℕ → 𝓦 .W) where
   open Weights 𝓦 using (W, add, _≺_)
 
   abbrev wt : ℕ → ℕ → Cover → W
@@ -43,10 +43,10 @@ module _ (𝓦 : Weights) (tri : ℕ → ℕ → ℕ → 𝓦 .W) where
   module _ (i k m : ℕ) (c d y : Cover) where
     -- a lighter part makes a lighter whole
     pub lighter-before : wt i m y ≺ wt i m c → wt i k (apex m y d) ≺ wt i k (apex m c d)
-    lighter-before l = 𝓦 .keeps _ _ _ (keeps-left 𝓦 _ _ _ l)
+    lighter-before l = 𝓛 .keeps _ _ _ (keeps-left 𝓦 𝓛 _ _ _ l)
 
     pub lighter-after : wt m k y ≺ wt m k d → wt i k (apex m c y) ≺ wt i k (apex m c d)
-    lighter-after l = 𝓦 .keeps _ _ _ (𝓦 .keeps _ _ _ l)
+    lighter-after l = 𝓛 .keeps _ _ _ (𝓛 .keeps _ _ _ l)
 
   module _ (barred : ℕ → ℕ → Bool) (i k m : ℕ) (c d : Cover) (p : Patch 𝓦 tri barred i k (apex m c d)) where
     pub patch-before : Patch 𝓦 tri barred i m c

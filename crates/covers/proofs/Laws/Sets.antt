@@ -6,7 +6,7 @@ use mathlib.Core.List.{List}
 use native.Mathlib.Omega.{arith}
 use Rattle.covers.specs.Covers.{Cover, empty, apex, Covers, Triangle, on, triangles}
 use Rattle.covers.specs.Sets.{turned, Alike, ListsCover}
-use Rattle.covers.specs.Reading.{In, Stands}
+use Rattle.covers.specs.Workings.Reading.{In, Stands}
 use Rattle.covers.proofs.Laws.Listed.{in-left, in-right, in-cases, listed-of, listed-in, Apart, apart-append}
 
 -- where the triangles of a cover of i..k lie: the third corner between the other two

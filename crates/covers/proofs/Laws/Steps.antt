@@ -7,7 +7,7 @@ use mathlib.Core.Logic.{_⊎_, inl, inr, ⊎-elim}
 use mathlib.Core.Bool.{Bool, true, false, true≢false}
 use native.Mathlib.Omega.{arith}
 use native.Mathlib.Decide.{decLt}
-use Rattle.covers.specs.Weights.{Weights}
+use Rattle.covers.specs.Weights.{Weights, Lawful}
 use Rattle.covers.specs.Covers.{Cover, empty, apex, Sooner, weight, Allowed, Best, Patch, NoCover}
 use Rattle.covers.proofs.Laws.Order.{AtMost, same-not-lighter, at-most-add, parts-agree, at-most-keeps, at-most-trans, cancel}
 use Rattle.covers.proofs.Laws.Parts.{allowed-apex, allowed-before, allowed-after, allowed-free}
@@ -86,11 +86,6 @@ module _ (barred : ℕ → ℕ → Bool) where
   none-barred i k l e (apex m y z) h = true≢false (sym e ∙ allowed-free barred i k m y z h)
 
 module _ (𝓦 : Weights) (tri : ℕ → ℕ → ℕ → 𝓦 .W) (barred : ℕ → ℕ → Bool) where
-  open Weights 𝓦 using (W, none, _≺_)
-
-  abbrev wt : ℕ → ℕ → Cover → W
-  wt = weight 𝓦 tri
-
   -- the best allowed cover with an apex below b, and the best with the apex b
   abbrev pub BestBelow : ℕ → ℕ → ℕ → Cover → Type 0
   BestBelow i k b = Best 𝓦 tri i k (AllowedBelow barred i k b)
@@ -98,9 +93,23 @@ module _ (𝓦 : Weights) (tri : ℕ → ℕ → ℕ → 𝓦 .W) (barred : ℕ 
   abbrev pub BestAt : ℕ → ℕ → ℕ → Cover → Type 0
   BestAt i k b = Best 𝓦 tri i k (AllowedAt barred i k b)
 
+  -- the best of the covers P of i..k, or that there is none
+  abbrev pub Answer : ℕ → ℕ → (Cover → Type 0) → Type 0
+  Answer i k P = ((c : Cover) × Best 𝓦 tri i k P c) ⊎ NoneOf P
+
+  -- i..k has a patch, or no allowed cover
+  abbrev pub Patched : ℕ → ℕ → Type 0
+  Patched i k = ((c : Cover) × Patch 𝓦 tri barred i k c) ⊎ NoCover barred i k
+
+module _ (𝓦 : Weights) (𝓛 : Lawful 𝓦) (tri : ℕ → ℕ → ℕ → 𝓦 .W) (barred : ℕ → ℕ → Bool) where
+  open Weights 𝓦 using (W, none, _≺_)
+
+  abbrev wt : ℕ → ℕ → Cover → W
+  wt = weight 𝓦 tri
+
   -- patches of the parts make the best cover with this apex
   pub apex-best : (i k b : ℕ) → i < b → b < k → barred i k ≡ false → (c d : Cover)
-      → Patch 𝓦 tri barred i b c → Patch 𝓦 tri barred b k d → BestAt i k b (apex b c d)
+      → Patch 𝓦 tri barred i b c → Patch 𝓦 tri barred b k d → BestAt 𝓦 tri barred i k b (apex b c d)
   apex-best i k b lo hi free c d p q = record {
     among = (allowed-apex barred i k b c d lo hi free (p .among) (q .among), refl);
     least = lighter;
@@ -113,7 +122,7 @@ module _ (𝓦 : Weights) (tri : ℕ → ℕ → ℕ → 𝓦 .W) (barred : ℕ 
           let y′ : Allowed barred i b y = subst (λ (m : ℕ). Allowed barred i m y) (h .1) (allowed-before barred i k m y z (h .0)) in
           let z′ : Allowed barred b k z = subst (λ (m : ℕ). Allowed barred m k z) (h .1) (allowed-after barred i k m y z (h .0)) in
           let l′ : wt i k (apex b y z) ≺ wt i k (apex b c d) = subst (λ (m : ℕ). wt i k (apex m y z) ≺ wt i k (apex b c d)) (h .1) l in
-          at-most-keeps 𝓦 _ _ (tri i k b) (at-most-add 𝓦 (wt i b c) (wt i b y) (wt b k d) (wt b k z) (p .least y y′) (q .least z z′)) l′
+          at-most-keeps 𝓦 𝓛 _ _ (tri i k b) (at-most-add 𝓦 𝓛 (wt i b c) (wt i b y) (wt b k d) (wt b k z) (p .least y y′) (q .least z z′)) l′
 
       first : (x : Cover) → AllowedAt barred i k b x → wt i k x ≡ wt i k (apex b c d) → Sooner (apex b c d) x
       first empty h e = absurd (h .1)
@@ -122,7 +131,7 @@ module _ (𝓦 : Weights) (tri : ℕ → ℕ → ℕ → 𝓦 .W) (barred : ℕ 
           let z′ : Allowed barred b k z = subst (λ (m : ℕ). Allowed barred m k z) (h .1) (allowed-after barred i k m y z (h .0)) in
           let e′ : wt i k (apex b y z) ≡ wt i k (apex b c d) = subst (λ (m : ℕ). wt i k (apex m y z) ≡ wt i k (apex b c d)) (h .1) e in
           let s : (wt i b c ≡ wt i b y) × (wt b k d ≡ wt b k z) =
-          parts-agree 𝓦 (wt i b c) (wt i b y) (wt b k d) (wt b k z) (p .least y y′) (q .least z z′) (cancel 𝓦 _ _ (tri i k b) (sym e′)) in
+          parts-agree 𝓦 𝓛 (wt i b c) (wt i b y) (wt b k d) (wt b k z) (p .least y y′) (q .least z z′) (cancel 𝓦 𝓛 _ _ (tri i k b) (sym e′)) in
           inr (sym (h .1), p .soonest y y′ (sym (s .0)), q .soonest z z′ (sym (s .1)))
 
   -- One more apex: what is best below b and what is best at b give what is best below b + 1.
@@ -130,36 +139,36 @@ module _ (𝓦 : Weights) (tri : ℕ → ℕ → ℕ → 𝓦 .W) (barred : ℕ 
     pub none-more : NoneOf (AllowedBelow barred i k b) → NoneOf (AllowedAt barred i k b) → NoneOf (AllowedBelow barred i k (suc b))
     none-more p q x h = ⊎-elim (p x) (q x) (below-split barred i k b x h)
 
-    pub keep-none : (c : Cover) → BestBelow i k b c → NoneOf (AllowedAt barred i k b) → BestBelow i k (suc b) c
+    pub keep-none : (c : Cover) → BestBelow 𝓦 tri barred i k b c → NoneOf (AllowedAt barred i k b) → BestBelow 𝓦 tri barred i k (suc b) c
     keep-none c p q = record {
       among = (p .among .0, below-suc b c (p .among .1));
       least = λ x h. ⊎-elim (p .least x) (λ g. absurd (q x g)) (below-split barred i k b x h);
       soonest = λ x h. ⊎-elim (p .soonest x) (λ g. absurd (q x g)) (below-split barred i k b x h);
     }
 
-    pub take-first : (d : Cover) → NoneOf (AllowedBelow barred i k b) → BestAt i k b d → BestBelow i k (suc b) d
+    pub take-first : (d : Cover) → NoneOf (AllowedBelow barred i k b) → BestAt 𝓦 tri barred i k b d → BestBelow 𝓦 tri barred i k (suc b) d
     take-first d p q = record {
       among = (q .among .0, at-suc b d (q .among .1));
       least = λ x h. ⊎-elim (λ g. absurd (p x g)) (q .least x) (below-split barred i k b x h);
       soonest = λ x h. ⊎-elim (λ g. absurd (p x g)) (q .soonest x) (below-split barred i k b x h);
     }
 
-    pub take-lighter : (c d : Cover) → BestBelow i k b c → BestAt i k b d → wt i k d ≺ wt i k c → BestBelow i k (suc b) d
+    pub take-lighter : (c d : Cover) → BestBelow 𝓦 tri barred i k b c → BestAt 𝓦 tri barred i k b d → wt i k d ≺ wt i k c → BestBelow 𝓦 tri barred i k (suc b) d
     take-lighter c d p q l = record {
       among = (q .among .0, at-suc b d (q .among .1));
-      least = λ x h. ⊎-elim (λ g m. p .least x g (𝓦 .trans _ _ _ m l)) (q .least x) (below-split barred i k b x h);
+      least = λ x h. ⊎-elim (λ g m. p .least x g (𝓛 .trans _ _ _ m l)) (q .least x) (below-split barred i k b x h);
       soonest = λ x h. ⊎-elim (λ g e. absurd (p .least x g (rw e l))) (q .soonest x) (below-split barred i k b x h);
     }
 
-    pub keep-lighter : (c d : Cover) → BestBelow i k b c → BestAt i k b d → AtMost 𝓦 (wt i k c) (wt i k d) → BestBelow i k (suc b) c
+    pub keep-lighter : (c d : Cover) → BestBelow 𝓦 tri barred i k b c → BestAt 𝓦 tri barred i k b d → AtMost 𝓦 (wt i k c) (wt i k d) → BestBelow 𝓦 tri barred i k (suc b) c
     keep-lighter c d p q l = record {
       among = (p .among .0, below-suc b c (p .among .1));
-      least = λ x h. ⊎-elim (p .least x) (λ g m. at-most-trans 𝓦 (wt i k c) (wt i k d) (wt i k x) l (q .least x g) m) (below-split barred i k b x h);
+      least = λ x h. ⊎-elim (p .least x) (λ g m. at-most-trans 𝓦 𝓛 (wt i k c) (wt i k d) (wt i k x) l (q .least x g) m) (below-split barred i k b x h);
       soonest = λ x h. ⊎-elim (p .soonest x) (λ g e. sooner-below b c x (p .among .1) (g .1)) (below-split barred i k b x h);
     }
 
   -- all apexes below k are all apexes
-  pub best-all : (i k : ℕ) → suc i < k → (c : Cover) → BestBelow i k k c → Patch 𝓦 tri barred i k c
+  pub best-all : (i k : ℕ) → suc i < k → (c : Cover) → BestBelow 𝓦 tri barred i k k c → Patch 𝓦 tri barred i k c
   best-all i k l c p = record {
     among = p .among .0;
     least = λ x h. p .least x (below-all barred i k l x h);
@@ -170,7 +179,7 @@ module _ (𝓦 : Weights) (tri : ℕ → ℕ → ℕ → 𝓦 .W) (barred : ℕ 
   pub patch-side : (i k : ℕ) → k ≡ suc i → Patch 𝓦 tri barred i k empty
   patch-side i k e = record {
     among = record { covers = e; free = λ a b u. absurd u };
-    least = λ x h l. 𝓦 .irrefl _ (subst (λ (y : Cover). wt i k y ≺ none) (only x h) l);
+    least = λ x h l. 𝓛 .irrefl _ (subst (λ (y : Cover). wt i k y ≺ none) (only x h) l);
     soonest = λ x h e. tt;
   }
     where
@@ -178,62 +187,54 @@ module _ (𝓦 : Weights) (tri : ℕ → ℕ → ℕ → 𝓦 .W) (barred : ℕ 
       only empty h = refl
       only (apex m y z) h = let a : i < m = h .covers .0 in let b : m < k = h .covers .1 in absurd (omega arith)
 
-  -- the best of the covers P of i..k, or that there is none
-  abbrev pub Answer : ℕ → ℕ → (Cover → Type 0) → Type 0
-  Answer i k P = ((c : Cover) × Best 𝓦 tri i k P c) ⊎ NoneOf P
-
-  -- i..k has a patch, or no allowed cover
-  abbrev pub Patched : ℕ → ℕ → Type 0
-  Patched i k = ((c : Cover) × Patch 𝓦 tri barred i k c) ⊎ NoCover barred i k
-
-  pub step : (i k b : ℕ) → i < b → b < k → barred i k ≡ false → Patched i b → Patched b k
-      → Answer i k (AllowedBelow barred i k b) → Answer i k (AllowedBelow barred i k (suc b))
+  pub step : (i k b : ℕ) → i < b → b < k → barred i k ≡ false → Patched 𝓦 tri barred i b → Patched 𝓦 tri barred b k
+      → Answer 𝓦 tri barred i k (AllowedBelow barred i k b) → Answer 𝓦 tri barred i k (AllowedBelow barred i k (suc b))
   step i k b lo hi f (inr p) q (inl r) = inl (r .0, keep-none i k b (r .0) (r .1) (none-at-before barred i k b p))
   step i k b lo hi f (inr p) q (inr r) = inr (none-more i k b r (none-at-before barred i k b p))
   step i k b lo hi f (inl p) (inr q) (inl r) = inl (r .0, keep-none i k b (r .0) (r .1) (none-at-after barred i k b q))
   step i k b lo hi f (inl p) (inr q) (inr r) = inr (none-more i k b r (none-at-after barred i k b q))
   step i k b lo hi f (inl p) (inl q) (inr r) = inl (apex b (p .0) (q .0), take-first i k b _ r (apex-best i k b lo hi f (p .0) (q .0) (p .1) (q .1)))
-  step i k b lo hi f (inl p) (inl q) (inl r) = go (𝓦 .total (wt i k d) (wt i k (r .0)))
+  step i k b lo hi f (inl p) (inl q) (inl r) = go (𝓛 .total (wt i k d) (wt i k (r .0)))
     where
       d : Cover
       d = apex b (p .0) (q .0)
 
-      new : BestAt i k b d
+      new : BestAt 𝓦 tri barred i k b d
       new = apex-best i k b lo hi f (p .0) (q .0) (p .1) (q .1)
 
       go : (wt i k d ≺ wt i k (r .0)) ⊎ ((wt i k d ≡ wt i k (r .0)) ⊎ (wt i k (r .0) ≺ wt i k d))
-          → Answer i k (AllowedBelow barred i k (suc b))
+          → Answer 𝓦 tri barred i k (AllowedBelow barred i k (suc b))
       go (inl l) = inl (d, take-lighter i k b (r .0) d (r .1) new l)
-      go (inr (inl e)) = inl (r .0, keep-lighter i k b (r .0) d (r .1) new (λ m. same-not-lighter 𝓦 _ _ e m))
-      go (inr (inr g)) = inl (r .0, keep-lighter i k b (r .0) d (r .1) new (λ m. 𝓦 .irrefl _ (𝓦 .trans _ _ _ m g)))
+      go (inr (inl e)) = inl (r .0, keep-lighter i k b (r .0) d (r .1) new (λ m. same-not-lighter 𝓦 𝓛 _ _ e m))
+      go (inr (inr g)) = inl (r .0, keep-lighter i k b (r .0) d (r .1) new (λ m. 𝓛 .irrefl _ (𝓛 .trans _ _ _ m g)))
 
   -- the first n apexes
-  scan : (i k : ℕ) → barred i k ≡ false → ((b : ℕ) → i < b → b < k → Patched i b × Patched b k)
-      → (n : ℕ) → suc i + n ≤ k → Answer i k (AllowedBelow barred i k (suc i + n))
+  scan : (i k : ℕ) → barred i k ≡ false → ((b : ℕ) → i < b → b < k → Patched 𝓦 tri barred i b × Patched 𝓦 tri barred b k)
+      → (n : ℕ) → suc i + n ≤ k → Answer 𝓦 tri barred i k (AllowedBelow barred i k (suc i + n))
   scan i k f parts zero h = rw add-zero (inr (none-below barred i k))
   scan i k f parts (suc n) h =
       let b : ℕ = suc i + n in
-      let p : Patched i b × Patched b k = parts b (omega arith) (omega arith) in
+      let p : Patched 𝓦 tri barred i b × Patched 𝓦 tri barred b k = parts b (omega arith) (omega arith) in
       rw add-suc (step i k b (omega arith) (omega arith) f (p .0) (p .1) (scan i k f parts n (omega arith)))
 
-  choose : (i k : ℕ) → i < k → ((b : ℕ) → i < b → b < k → Patched i b × Patched b k) → Patched i k
+  choose : (i k : ℕ) → i < k → ((b : ℕ) → i < b → b < k → Patched 𝓦 tri barred i b × Patched 𝓦 tri barred b k) → Patched 𝓦 tri barred i k
   choose i k lo parts = go (decLt (suc i) k)
     where
-      by-bar : suc i < k → (t : Bool) → barred i k ≡ t → Patched i k
+      by-bar : suc i < k → (t : Bool) → barred i k ≡ t → Patched 𝓦 tri barred i k
       by-bar l true e = inr (none-barred barred i k l e)
       by-bar l false e =
-          let s : Answer i k (AllowedBelow barred i k k) =
-          subst (λ (b : ℕ). Answer i k (AllowedBelow barred i k b)) (omega arith) (scan i k e parts (k - suc i) (omega arith)) in
+          let s : Answer 𝓦 tri barred i k (AllowedBelow barred i k k) =
+          subst (λ (b : ℕ). Answer 𝓦 tri barred i k (AllowedBelow barred i k b)) (omega arith) (scan i k e parts (k - suc i) (omega arith)) in
           ⊎-elim (λ p. inl (p .0, best-all i k l (p .0) (p .1))) (λ p. inr (none-all barred i k l p)) s
 
-      go : Dec (suc i < k) → Patched i k
+      go : Dec (suc i < k) → Patched 𝓦 tri barred i k
       go (yes l) = by-bar l (barred i k) refl
       go (no g) = inl (empty, patch-side i k (omega arith))
 
   -- by the length of the stretch, at most n
-  within : (n i k : ℕ) → i < k → k ≤ i + n → Patched i k
+  within : (n i k : ℕ) → i < k → k ≤ i + n → Patched 𝓦 tri barred i k
   within zero i k lo hi = absurd (omega arith)
   within (suc n) i k lo hi = choose i k lo (λ b u v. (within n i b u (omega arith), within n b k v (omega arith)))
 
-  pub patched : (i k : ℕ) → i < k → Patched i k
+  pub patched : (i k : ℕ) → i < k → Patched 𝓦 tri barred i k
   patched i k lo = within k i k lo (omega arith)

@@ -12,8 +12,8 @@ use Rattle.surface.proofs.Laws.Over.{over-none, over-snoc, over-twice, over-sel
 use Rattle.surface.proofs.Laws.Laid.{laid-over}
 use Rattle.cutting.specs.declared.Listed.{Listed}
 use Rattle.loops.specs.Loops.{ring}
-use Rattle.cutting.specs.Listing.{ringsOf, firstOf, Lists}
-use Rattle.cutting.specs.Growing.{part, CutRoom, WasCut}
+use Rattle.cutting.specs.Listing.{ringsOf, firstOf, ListsLoops}
+use Rattle.cutting.specs.Workings.Growing.{part, CutRoom, WasCut}
 use Rattle.surface.proofs.Laws.Lists.{flatten-append}
 use Rattle.loops.proofs.Laws.Kept.{flatten-snoc}
 use Rattle.cutting.proofs.Laws.Laid.{part-length}
@@ -46,8 +46,8 @@ was-cut corners path j end rings lengths firsts at room rings′ w =
     n : length l ≡ end - j
     n = part-length path j end (room .ring .long)
 
-    listed : (ls : List (List ℕ)) (rings₀ lengths₀ firsts₀ : List ℕ) → Lists corners ls rings₀ lengths₀ firsts₀ at rings lengths firsts
-        → Lists corners (ls ++ (part path j end ∷ [])) rings₀ lengths₀ firsts₀ (record { loops = at .loops + 1; vertices = at .vertices + (end - j); path = j }) rings′ (set lengths (at .loops) (end - j)) (set firsts (at .loops) (getD path j 0))
+    listed : (ls : List (List ℕ)) (rings₀ lengths₀ firsts₀ : List ℕ) → ListsLoops corners ls rings₀ lengths₀ firsts₀ at rings lengths firsts
+        → ListsLoops corners (ls ++ (part path j end ∷ [])) rings₀ lengths₀ firsts₀ (record { loops = at .loops + 1; vertices = at .vertices + (end - j); path = j }) rings′ (set lengths (at .loops) (end - j)) (set firsts (at .loops) (getD path j 0))
     listed ls rings₀ lengths₀ firsts₀ h =
         record {
           count = ap (λ (k : ℕ). k + 1) (h .count) ∙ sym (length-append ls (l ∷ []));
@@ -71,14 +71,14 @@ was-cut corners path j end rings lengths firsts at room rings′ w =
 
 -- ---- listings put together
 
-pub lists-none : (corners rings lengths firsts : List ℕ) → Lists corners [] rings lengths firsts (record { loops = 0; vertices = 0; path = 0 }) rings lengths firsts
+pub lists-none : (corners rings lengths firsts : List ℕ) → ListsLoops corners [] rings lengths firsts (record { loops = 0; vertices = 0; path = 0 }) rings lengths firsts
 unfolding ringsOf flatten
 lists-none corners rings lengths firsts =
     record { count = refl; vertices = refl; all-rings = sym (over-none rings); all-lengths = sym (over-none lengths); all-firsts = sym (over-none firsts) }
 
-module _ (corners : List ℕ) (a : List (List ℕ)) (rings₀ lengths₀ firsts₀ : List ℕ) (at : Listed) (rings lengths firsts : List ℕ) (h : Lists corners a rings₀ lengths₀ firsts₀ at rings lengths firsts) where
+module _ (corners : List ℕ) (a : List (List ℕ)) (rings₀ lengths₀ firsts₀ : List ℕ) (at : Listed) (rings lengths firsts : List ℕ) (h : ListsLoops corners a rings₀ lengths₀ firsts₀ at rings lengths firsts) where
   -- a listing is one over itself
-  pub lists-self : Lists corners a rings lengths firsts at rings lengths firsts
+  pub lists-self : ListsLoops corners a rings lengths firsts at rings lengths firsts
   lists-self =
       record {
         count = h .count;
@@ -92,7 +92,7 @@ module _ (corners : List ℕ) (a : List (List ℕ)) (rings₀ lengths₀ firsts�
       again x w₀ w q = q ∙ sym (over-self x w₀) ∙ ap (over x) (sym q)
 
   -- and what goes on from it goes on from where it began
-  pub lists-on : (b : List (List ℕ)) (r : Listed) (rings′ lengths′ firsts′ : List ℕ) → Lists corners (a ++ b) rings lengths firsts r rings′ lengths′ firsts′ → Lists corners (a ++ b) rings₀ lengths₀ firsts₀ r rings′ lengths′ firsts′
+  pub lists-on : (b : List (List ℕ)) (r : Listed) (rings′ lengths′ firsts′ : List ℕ) → ListsLoops corners (a ++ b) rings lengths firsts r rings′ lengths′ firsts′ → ListsLoops corners (a ++ b) rings₀ lengths₀ firsts₀ r rings′ lengths′ firsts′
   lists-on b r rings′ lengths′ firsts′ k =
       record {
         count = k .count;

@@ -10,7 +10,7 @@ use Rattle.surface.specs.Buffers.{laid}
 use Rattle.surface.proofs.Laws.Laid.{laid-none, laid-more}
 use Rattle.surface.specs.Edges.{startOf}
 use Rattle.loops.specs.Loops.{ring}
-use Rattle.cutting.specs.Growing.{part}
+use Rattle.cutting.specs.Workings.Growing.{part}
 
 pub part-length : (path : List ℕ) (j end : ℕ) → end ≤ length path → length (part path j end) ≡ end - j
 part-length path j end l = length-drop j (take end path) ∙ ap (λ (z : ℕ). z - j) (length-take-le end path l)

@@ -14,8 +14,8 @@ use Rattle.surface.specs.Edges.{startOf, endOf}
 use Rattle.surface.proofs.Laws.Smallest.{least-sound}
 use Rattle.cutting.specs.declared.Listed.{Listed}
 use Rattle.loops.specs.Loops.{Split, startsAt, cut, grow}
-use Rattle.cutting.specs.Listing.{Lists}
-use Rattle.cutting.specs.Growing.{Path, Sought, CutRoom, WasCut, Stands, GrowRoom, Grew}
+use Rattle.cutting.specs.Listing.{ListsLoops}
+use Rattle.cutting.specs.Workings.Growing.{Path, Sought, CutRoom, WasCut, Stands, GrowRoom, Grew}
 
 -- a shorter path
 path-shorter : (corners path : List ℕ) (d : ℕ) (places : List ℕ) (j : ℕ) → Path corners path d places → j ≤ d → Path corners path j places
@@ -128,7 +128,7 @@ module _ (corners : List ℕ) (e f : ℕ) (path places rings lengths firsts : Li
               ap (λ (k : ℕ). take k (set path (at .path) e)) (w .back)
               ∙ sym (take-take j (at .path + 1) (set path (at .path) e) (omega arith))
               ∙ ap (take j) along-grown;
-          lists = subst (λ (p : List ℕ). Lists corners (t .listed ++ (drop j p ∷ [])) rings₀ lengths₀ firsts₀ r rings′ lengths′ firsts′) along-grown (w .lists (t .listed) rings₀ lengths₀ firsts₀ (s .lists));
+          lists = subst (λ (p : List ℕ). ListsLoops corners (t .listed ++ (drop j p ∷ [])) rings₀ lengths₀ firsts₀ r rings′ lengths′ firsts′) along-grown (w .lists (t .listed) rings₀ lengths₀ firsts₀ (s .lists));
         })
 
   pub grew-on : (r : Found) → r ≡ startsAt corners (take (at .path + 1) (set path (at .path) e)) (getD corners f 0) → r ≡ Nothing

@@ -8,7 +8,7 @@ use lib.Dec.{ltb, eqb}
 use lib.ListN.{length, drop, getD}
 use borrow.Author.Tests.{ltb-true, ltb-false, eqb-true, eqb-false}
 use Rattle.digits.specs.Numeral.{size}
-use Rattle.digits.specs.Reading.{Read, wrong, got, valueOf, until, readDecimal}
+use Rattle.digits.specs.Workings.Reading.{Read, wrong, got, valueOf, until, readDecimal}
 use Rattle.digits.proofs.Laws.Digit.{value-under, size-pos}
 use Rattle.decimals.proofs.Laws.Decimals.{dec-end, dec-zeros, dec-bad, dec-big, dec-more}
 use Rattle.digits.proofs.Laws.Sizes.{size-four}

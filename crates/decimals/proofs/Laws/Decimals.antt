@@ -7,7 +7,7 @@ use lib.ListN.{length, drop, getD, drop-of-length-le}
 use lib.Seq.{drop-cons}
 use borrow.Author.Tests.{lt-ltb, le-ltb, le-leb, lt-leb, eq-eqb, ne-eqb}
 use Rattle.digits.specs.Numeral.{size}
-use Rattle.digits.specs.Reading.{Read, wrong, got, valueOf, until, readDecimal}
+use Rattle.digits.specs.Workings.Reading.{Read, wrong, got, valueOf, until, readDecimal}
 
 module _ (text : List ℕ) where
   pub dec-begin : (e limit at : ℕ) → readDecimal e limit (drop at text) ≡ until e limit 0 0 (drop at text)

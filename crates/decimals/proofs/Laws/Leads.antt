@@ -11,7 +11,7 @@ use lib.ListN.{length, drop, getD}
 use lib.Seq.{drop-cons}
 use borrow.Author.Tests.{lt-leb, ne-eqb, ltb-true}
 use Rattle.digits.specs.Numeral.{size}
-use Rattle.digits.specs.Reading.{Read, wrong, valueOf, until}
+use Rattle.digits.specs.Workings.Reading.{Read, wrong, valueOf, until}
 use Rattle.digits.proofs.Laws.Sizes.{size-below}
 
 both : {A : Type 0} (t : Bool) → _≡_ {A = Read A} (cond t wrong wrong) wrong

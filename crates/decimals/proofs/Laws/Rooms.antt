@@ -3,7 +3,7 @@ use Prim.Native.Nat.{ℕ, _≤_}
 use native.Mathlib.Omega.{arith}
 use Rattle.digits.specs.declared.Number.{Number}
 use Rattle.digits.specs.declared.Number.the-variants.{Is, Wrong}
-use Rattle.digits.specs.Reading.{UpTo}
+use Rattle.digits.specs.Workings.Reading.{UpTo}
 
 pub up-to : (m n : ℕ) (r : Number) → m ≤ n → UpTo m r → UpTo n r
 up-to m n (Is v next) h u = omega (arith, u)

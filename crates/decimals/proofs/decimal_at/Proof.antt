@@ -5,7 +5,7 @@ use Prim.Native.Nat.{_≤_, _-_}
 use mathlib.Core.Path.{_≡_, sym, refl, _∙_}
 use borrow.Author.Needs.{needs}
 use native.Mathlib.Omega.{arith}
-use Rattle.digits.specs.Reading.{readDecimal, until}
+use Rattle.digits.specs.Workings.Reading.{readDecimal, until}
 use Rattle.decimals.proofs.Laws.Chain.{digit-from, chain-bad, chain-big, chain-more}
 use Rattle.decimals.proofs.Laws.Decimals.{dec-begin, dec-short, dec-end, dec-zeros}
 use Rattle.decimals.proofs.decimal_at.Statement.{statement}

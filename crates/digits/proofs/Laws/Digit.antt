@@ -8,7 +8,7 @@ use native.Mathlib.Omega.{arith}
 use lib.Dec.{ltb, leb}
 use borrow.Author.Tests.{lt-ltb, le-ltb, le-leb, lt-leb, ltb-true, ltb-false}
 use Rattle.digits.specs.Numeral.{byteOf, size, sizeIn}
-use Rattle.digits.specs.Reading.{valueOf}
+use Rattle.digits.specs.Workings.Reading.{valueOf}
 
 pub lt-or-ge : (a b : ℕ) → (a < b) ⊎ (b ≤ a)
 lt-or-ge a b = go (ltb a b) refl

@@ -7,10 +7,10 @@ use native.Mathlib.Nat.{pow-succ', pow-zero, div-lt-iff-lt-mul, one-le-pow, mod-
 use native.Mathlib.Omega.{arith}
 use lib.Arith.{digits-lt, digits-div, digits-mod}
 use lib.Dec.{ltb, leb, eqb}
-use lib.ListN.{length}
+use lib.ListN.{length, length-append}
 use borrow.Author.Tests.{lt-ltb, le-leb, eq-eqb, ne-eqb, ltb-true, leb-true, eqb-true}
 use Rattle.digits.specs.Numeral.{byteOf, size, places, hex, decimal}
-use Rattle.digits.specs.Reading.{Read, wrong, got, Exact, valueOf, digits, ending, then, readHex, until, readDecimal, readKey}
+use Rattle.digits.specs.Workings.Reading.{Read, wrong, got, Exact, valueOf, digits, ending, then, readHex, until, readDecimal, readKey}
 use Rattle.digits.proofs.Laws.Digit.{value-byte, byte-value, size-fits}
 
 pub wrong-not-got : {A : Type 0} {a : A} {rest : List ℕ} → wrong ≡ got a rest → ⊥
@@ -25,6 +25,10 @@ pub length-places : (b k n : ℕ) → length (places b k n) ≡ k
 unfolding places
 length-places b zero n = refl
 length-places b (suc k) n = ap suc (length-places b k (n % b ^ k))
+
+-- a number with the byte that ends it
+pub ended-length : (n e : ℕ) → length (decimal n ++ (e ∷ [])) ≡ size n + 1
+ended-length n e = length-append (decimal n) (e ∷ []) ∙ omega (arith, length-places 10 (size n) n)
 
 -- k digits stand in front of rest, and take the value v to u
 pub record Spelt (b k v : ℕ) (bytes : List ℕ) (u : ℕ) (rest : List ℕ) : Type 0 where

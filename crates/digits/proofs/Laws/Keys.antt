@@ -6,7 +6,7 @@ use native.Mathlib.Numerals.{add-one}
 use lib.ListN.{length, drop, getD, drop-of-length-le}
 use lib.Seq.{drop-cons}
 use borrow.Author.Tests.{eq-eqb, ne-eqb}
-use Rattle.digits.specs.Reading.{Read, wrong, got, readKey}
+use Rattle.digits.specs.Workings.Reading.{Read, wrong, got, readKey}
 
 module _ (text : List ℕ) where
   module _ (key : List ℕ) (k i : ℕ) (r : Read (Unit {0})) where

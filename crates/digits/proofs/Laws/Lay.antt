@@ -5,8 +5,8 @@ use Prim.Native.Nat.{ℕ, suc, _+_, _<_, _≤_}
 use native.Mathlib.Nat.{add-zero}
 use native.Mathlib.Numerals.{add-one}
 use native.Mathlib.Omega.{arith}
-use lib.ListN.{length, take, drop, getD, set, drop-of-length-le}
-use lib.Seq.{take-suc-set, drop-set-lt, append-snoc, drop-cons, take-append-seam}
+use lib.ListN.{length, drop, getD, set, drop-of-length-le}
+use lib.Seq.{take-suc-set, drop-set-lt, append-snoc, drop-cons}
 use Rattle.surface.specs.Buffers.{laid}
 use Rattle.surface.proofs.Laws.Laid.{laid-none, laid-length, laid-then}
 
@@ -22,10 +22,6 @@ copy-more src i text whole h l q = q ∙ rw (drop-cons src i 0, add-one i) (rw (
 
 pub copy-end : (src : List ℕ) (i : ℕ) (text whole : List ℕ) → length src ≤ i → whole ≡ laid i (drop i src) text → text ≡ whole
 copy-end src i text whole h q = sym (q ∙ rw (drop-of-length-le src h) (laid-none i text))
-
-pub laid-front : (front whole : List ℕ) (k : ℕ) → k ≡ length front → take k (laid 0 front whole) ≡ front
-unfolding laid
-laid-front front whole k e = rw e (take-append-seam front (drop (0 + length front) whole))
 
 -- two writings, the second right after the first, are one
 pub lay-two : (at k : ℕ) (a b text middle after : List ℕ) → at + length a ≤ length text → k ≡ at + length a → middle ≡ laid at a text → after ≡ laid k b middle → after ≡ laid at (a ++ b) text

@@ -3,7 +3,7 @@ use lib.ListN.{length, drop}
 use mathlib.Core.Path.{_≡_, refl}
 use Prim.Native.Nat.{_≤_, _-_}
 use borrow.Author.Needs.{needs}
-use Rattle.digits.specs.Reading.{readKey}
+use Rattle.digits.specs.Workings.Reading.{readKey}
 use Rattle.digits.proofs.Laws.Keys.{key-end, key-more, key-short, key-bad}
 use Rattle.digits.proofs.key_at.Statement.{statement}
 use Rattle.digits.proofs.key_at.Tie as tie

@@ -15,7 +15,7 @@ use mir.Val.{SFits, toZ, ofZ}
 use mir.ValLaws.{toZ-ofZ}
 use Rattle.grid.specs.Units.{signed}
 use Rattle.grid.proofs.Laws.Signs.{split, abs-signed, sfits-signed}
-use Rattle.exact.specs.Whole.{Whole, Natural}
+use Rattle.exact.specs.Workings.Whole.{Whole, Natural}
 use Rattle.exact.proofs.Laws.Sums.{in-float, whole-of-int}
 use Rattle.exact.proofs.Laws.Orders.{natural-same}
 

@@ -9,7 +9,7 @@ use lib.IntN.{ℤ, natAbs}
 use lib.Ieee.{Float, nan, inf, fin, Format, binary64, fits, up, down, low, prec, hid, top, size, toBits, ofBits, isNan, nanBits}
 use lib.Ieee.Bits.{ofBits-toBits, toBits-lt, nanBits-is}
 use lib.Ieee.Exact.{HasValue}
-use Rattle.exact.specs.Whole.{Whole, Natural, sizeOf}
+use Rattle.exact.specs.Workings.Whole.{Whole, Natural, sizeOf}
 
 -- ---- the sign's bit
 

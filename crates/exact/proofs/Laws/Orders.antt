@@ -12,7 +12,7 @@ use lib.Ieee.Exact.{HasValue}
 use lib.Ieee.Back.{whole-unique}
 use Rattle.grid.specs.Units.{signed}
 use Rattle.grid.proofs.Laws.Floats.{same-test, same-less, cross-left, cross-right, eq-is}
-use Rattle.exact.specs.Whole.{Whole, Natural}
+use Rattle.exact.specs.Workings.Whole.{Whole, Natural}
 
 -- ---- one number
 

@@ -14,7 +14,7 @@ use lib.Ieee.Scale.{round-same}
 use Rattle.grid.specs.Units.{signed}
 use Rattle.grid.proofs.Laws.Signs.{abs-signed, signed-under, signed-over}
 use Rattle.grid.proofs.Laws.Floats.{add-is, sub-is}
-use Rattle.exact.specs.Whole.{Whole, Natural}
+use Rattle.exact.specs.Workings.Whole.{Whole, Natural}
 
 -- ---- what a rounding gives
 

@@ -1,7 +1,7 @@
 -- `size` reads and writes bits that are no NaN's, and what it reads back is the float without its sign.
 use Rattle.exact.proofs.Laws.Clearing.{whole-number, size-number}
 use mathlib.Core.Path.{refl}
-use Rattle.exact.specs.Whole.{sizeOf}
+use Rattle.exact.specs.Workings.Whole.{sizeOf}
 use Rattle.exact.proofs.size.Statement.{statement}
 use Rattle.exact.proofs.size.Tie as tie
 

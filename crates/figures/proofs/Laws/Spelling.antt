@@ -10,7 +10,7 @@ use lib.Seq.{getD-set-same, getD-set-other}
 use Rattle.surface.proofs.Laws.Tests.{eq-or-not}
 use Rattle.surface.specs.Buffers.{laid}
 use Rattle.digits.specs.Numeral.{byteOf, places, hex}
-use Rattle.figures.specs.Tables.{pairOf, Spelled, four}
+use Rattle.figures.specs.Workings.Tables.{pairOf, Spelled, four}
 use Rattle.digits.proofs.Laws.Digit.{byte-small}
 use Rattle.figures.proofs.Laws.Parts.{part-div, part-mod}
 use Rattle.surface.proofs.Laws.Laid.{laid-none, laid-length}

@@ -3,7 +3,7 @@ use Prim.Native.Nat.{_≤_, _*_, _-_}
 use mathlib.Core.Path.{sym, _∙_}
 use borrow.Author.Needs.{needs}
 use native.Mathlib.Omega.{arith}
-use Rattle.figures.specs.Tables.{Spelled}
+use Rattle.figures.specs.Workings.Tables.{Spelled}
 use Rattle.figures.proofs.Laws.Spelling.{spell-end}
 use Rattle.figures.proofs.spell_bytes.Statement.{statement}
 use Rattle.figures.proofs.spell_bytes.Tie as tie

@@ -3,7 +3,7 @@ use mathlib.Core.Path.{_∙_, _≡_, sym}
 use Prim.Native.Nat.{_≤_, _-_, _+_, _*_}
 use borrow.Author.Needs.{needs}
 use native.Mathlib.Omega.{arith}
-use Rattle.figures.specs.Tables.{Spelled}
+use Rattle.figures.specs.Workings.Tables.{Spelled}
 use Rattle.digits.specs.Numeral.{byteOf}
 use Rattle.figures.proofs.Laws.Spelling.{row-pair, spell-more, spell-end}
 use Rattle.digits.proofs.Laws.Digit.{byte-small}

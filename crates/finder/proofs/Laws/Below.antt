@@ -8,10 +8,10 @@ use lib.ListN.{length, getD}
 use Rattle.limits.specs.Limits as limits
 use Rattle.surface.specs.Edges.{Sound}
 use Rattle.surface.proofs.Laws.Tests.{not-so}
-use Rattle.twins.specs.Turns.{openMark}
+use Rattle.twins.specs.Workings.Turns.{openMark}
 use Rattle.loops.specs.Loops.{leads, loopsBelow}
-use Rattle.leaders.specs.Leading.{Quiet}
-use Rattle.finder.specs.Walking.{Turned}
+use Rattle.leaders.specs.Workings.Leading.{Quiet}
+use Rattle.finder.specs.Workings.Walking.{Turned}
 use Rattle.loops.proofs.Laws.Leaders.{leads-open}
 use Rattle.loops.proofs.Laws.Surfaces.{edgesBelow, edges-other, loops-other, leader-new, new-leads}
 use Rattle.finder.proofs.Laws.Marks.{among-holds, open-at, walked-at, turned-same}

@@ -11,14 +11,14 @@ use lib.Seq.{getD-take, take-all, length-take-le}
 use Rattle.surface.specs.declared.Found.the-variants.{At}
 use Rattle.surface.specs.Edges.{Sound, following, startOf, endOf, isOpen}
 use Rattle.surface.proofs.Laws.Edges.{below-after}
-use Rattle.twins.specs.Turns.{openMark}
+use Rattle.twins.specs.Workings.Turns.{openMark}
 use Rattle.cutting.specs.declared.Listed.{Listed}
 use Rattle.loops.specs.Next.{next}
 use Rattle.loops.specs.Loops.{Split, startsAt, grow, cycle, loopsOf, loopsBelow}
-use Rattle.cutting.specs.Listing.{Lists, ringsOf}
-use Rattle.leaders.specs.Leading.{walkedMark, Landing, Landed}
-use Rattle.cutting.specs.Growing.{Path, Stands, GrowRoom, Grew}
-use Rattle.finder.specs.Walking.{Turned, CycleRoom, CycleListed}
+use Rattle.cutting.specs.Listing.{ListsLoops, ringsOf}
+use Rattle.leaders.specs.Workings.Leading.{walkedMark, Landing, Landed}
+use Rattle.cutting.specs.Workings.Growing.{Path, Stands, GrowRoom, Grew}
+use Rattle.finder.specs.Workings.Walking.{Turned, CycleRoom, CycleListed}
 use Rattle.loops.proofs.Laws.Distinct.{Distinct}
 use Rattle.loops.proofs.Laws.Counts.{Among}
 use Rattle.loops.proofs.Laws.Places.{among-back}
@@ -233,7 +233,7 @@ module _ (corners : List ℕ) (h : ℕ) (turns₀ path₀ places₀ rings₀ len
               (go .turned);
           no-path = go .stands .depth ∙ ap (λ (z : Split). length (z .path)) s;
           lists =
-              subst (λ (ls : List (List ℕ)). Lists corners ls rings₀ lengths₀ firsts₀ at rings lengths firsts)
+              subst (λ (ls : List (List ℕ)). ListsLoops corners ls rings₀ lengths₀ firsts₀ at rings lengths firsts)
               (ap (λ (z : Split). z .listed) s ∙ sym (loops-leader corners h (pre .leading)))
               (go .stands .lists);
         }

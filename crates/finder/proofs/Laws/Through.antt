@@ -6,13 +6,13 @@ use Prim.Native.Nat.{ℕ, suc, _+_, _-_, _<_, _≤_}
 use native.Mathlib.Numerals.{add-one}
 use native.Mathlib.Omega.{arith}
 use lib.ListN.{length, getD}
-use Rattle.twins.specs.Turns.{openMark}
+use Rattle.twins.specs.Workings.Turns.{openMark}
 use Rattle.cutting.specs.declared.Listed.{Listed}
 use Rattle.loops.specs.Loops.{leads, loops, loopsOf, loopsBelow}
-use Rattle.cutting.specs.Listing.{Lists}
-use Rattle.finder.specs.Asked.{Ready, Lent}
-use Rattle.leaders.specs.Leading.{Quiet}
-use Rattle.finder.specs.Walking.{Turned, CycleRoom, CycleListed}
+use Rattle.cutting.specs.Listing.{ListsLoops}
+use Rattle.finder.specs.Workings.Asked.{Ready, Lent}
+use Rattle.leaders.specs.Workings.Leading.{Quiet}
+use Rattle.finder.specs.Workings.Walking.{Turned, CycleRoom, CycleListed}
 use Rattle.loops.proofs.Laws.Surfaces.{edgesBelow, loops-leader}
 use Rattle.cutting.proofs.Laws.Cuts.{lists-none, lists-self, lists-on}
 use Rattle.finder.proofs.Laws.Marks.{turned-begins}
@@ -23,7 +23,7 @@ pub record Through (corners turns₀ rings₀ lengths₀ firsts₀ path₀ place
   pub within : h ≤ length corners
   pub turned : Turned corners (edgesBelow corners h) turns
   pub no-path : at .path ≡ 0
-  pub lists : Lists corners (loopsBelow corners h) rings₀ lengths₀ firsts₀ at rings lengths firsts
+  pub lists : ListsLoops corners (loopsBelow corners h) rings₀ lengths₀ firsts₀ at rings lengths firsts
   pub turns-same : length turns ≡ length turns₀
   pub rings-same : length rings ≡ length rings₀
   pub lengths-same : length lengths ≡ length lengths₀
@@ -49,7 +49,7 @@ module _ (corners turns₀ rings₀ lengths₀ firsts₀ path₀ places₀ : Lis
       }
 
   module _ (turns rings lengths firsts path places : List ℕ) (at : Listed) (h : ℕ) (th : Through corners turns₀ rings₀ lengths₀ firsts₀ path₀ places₀ turns rings lengths firsts path places at h) where
-    pub through-ends : length corners ≤ h → Lists corners (loops corners) rings₀ lengths₀ firsts₀ at rings lengths firsts
+    pub through-ends : length corners ≤ h → ListsLoops corners (loops corners) rings₀ lengths₀ firsts₀ at rings lengths firsts
     unfolding loops
     through-ends l = let w = th .within in let q : length corners ≡ h = omega arith in rw q (th .lists)
 
@@ -66,7 +66,7 @@ module _ (corners turns₀ rings₀ lengths₀ firsts₀ path₀ places₀ : Lis
           within = b;
           turned = subst (λ (es : List ℕ). Turned corners es turns) (sym (s .0) ∙ ap (edgesBelow corners) z) (th .turned);
           no-path = th .no-path;
-          lists = subst (λ (ls : List (List ℕ)). Lists corners ls rings₀ lengths₀ firsts₀ at rings lengths firsts) (sym (s .1) ∙ ap (loopsBelow corners) z) (th .lists);
+          lists = subst (λ (ls : List (List ℕ)). ListsLoops corners ls rings₀ lengths₀ firsts₀ at rings lengths firsts) (sym (s .1) ∙ ap (loopsBelow corners) z) (th .lists);
           turns-same = th .turns-same;
           rings-same = th .rings-same;
           lengths-same = th .lengths-same;
@@ -112,7 +112,7 @@ module _ (corners turns₀ rings₀ lengths₀ firsts₀ path₀ places₀ : Lis
             lists =
                 rw (add-one, s)
                 (lists-on corners (loopsBelow corners h) rings₀ lengths₀ firsts₀ at rings lengths firsts (th .lists) (loopsOf corners h) r rings′ lengths′ firsts′
-                (subst (λ (ls : List (List ℕ)). Lists corners ls rings lengths firsts r rings′ lengths′ firsts′) s (w .lists)));
+                (subst (λ (ls : List (List ℕ)). ListsLoops corners ls rings lengths firsts r rings′ lengths′ firsts′) s (w .lists)));
             turns-same = a ∙ th .turns-same;
             rings-same = b ∙ th .rings-same;
             lengths-same = c ∙ th .lengths-same;

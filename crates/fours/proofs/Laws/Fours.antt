@@ -14,19 +14,20 @@ use lib.ListN.{length, getD}
 use Rattle.surface.specs.Buffers.{laid}
 use Rattle.surface.proofs.Laws.Laid.{laid-then}
 use Rattle.covers.specs.Covers.{Cover, empty, apex, Covers, Allowed, NoCover, Sooner, weight, Patch, vertexOf}
-use Rattle.covers.specs.Least as covers
+use Rattle.covers.specs.Workings.Least as covers
 use Rattle.covers.proofs.Laws.Least.{patch-least}
 use Rattle.covers.proofs.Laws.Parts.{allowed-apex, allowed-after, allowed-before, allowed-free}
 use Rattle.weight.specs.Weight.{Coordinates}
 use Rattle.weight.specs.Edition.{naturals, triOf, along}
+use Rattle.weight.proofs.Laws.Naturals.{naturals-lawful}
 use Rattle.weight.proofs.Laws.Named.{named-on-grid}
 use Rattle.weight.proofs.Laws.Bounds.{weight-most}
-use Rattle.masks.specs.Masks.{bit}
+use Rattle.masks.specs.Workings.Masks.{bit}
 use Rattle.table.specs.declared.Least.the-variants.{Weight, Nothing}
 use Rattle.table.specs.declared.Least.{Least}
-use Rattle.table.specs.Loops.{Barring, LoopRoom}
-use Rattle.tracing.specs.Patches.{LaysPatch, FindsLeast}
-use Rattle.fours.specs.Fours.{oneWay, twoWay, FourOn, FourRoom, byOne, byTwo, GoesByTwo}
+use Rattle.table.specs.Workings.Loops.{Barring, LoopRoom}
+use Rattle.tracing.specs.Workings.Patches.{LaysPatch, FindsLeast}
+use Rattle.fours.specs.Workings.Fours.{oneWay, twoWay, FourOn, FourRoom, byOne, byTwo, GoesByTwo}
 
 -- ---- there are no others
 
@@ -154,7 +155,7 @@ module _ (grid : List ℤ) (ring bars : List ℕ) (r : FourOn grid ring bars) wh
         (λ h. let m : byTwo grid ring < byOne grid ring = l (told barred k 1 3 (lit< tt) (lit< tt) ∙ h) in omega arith)
 
   patch-weighs : (barred : ℕ → ℕ → Bool) (c : Cover) → Patch naturals at barred 0 3 c → (w : ℕ) → w ≡ weight naturals at 0 3 c → covers.Least naturals at barred 0 3 w
-  patch-weighs barred c p w e = subst (covers.Least naturals at barred 0 3) (sym e) (patch-least naturals at barred 0 3 c p)
+  patch-weighs barred c p w e = subst (covers.Least naturals at barred 0 3) (sym e) (patch-least naturals naturals-lawful at barred 0 3 c p)
 
   pub least-one : bit (getD bars 0 0) 3 ≡ false → bit (getD bars 1 0) 3 ≡ false → (bit (getD bars 0 0) 2 ≡ false → byOne grid ring ≤ byTwo grid ring)
       → (w : ℕ) → w ≡ byOne grid ring → FindsLeast grid ring bars (Weight w)

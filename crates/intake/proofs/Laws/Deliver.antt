@@ -2,30 +2,29 @@
 use mathlib.Core.Path.{_≡_, refl, sym, ap, ap₂, _∙_}
 use mathlib.Core.Bool.{true, false}
 use mathlib.Core.List.{List, [], _∷_}
-use Prim.Native.Nat.{ℕ, _*_, _/_, _<_, _≤_}
+use Prim.Native.Nat.{ℕ, _*_, _/_, _≤_}
 use native.Mathlib.Omega.{arith}
-use lib.ListN.{length, take, drop, getD, length-append, length-drop}
+use lib.ListN.{length, take}
 use Rattle.limits.specs.Limits as limits
-use Rattle.terms.specs.Answers.{refusing}
-use Rattle.terms.specs.declared.Answer.{Answer}
-use Rattle.terms.specs.declared.Answer.the-variants.{Done, Line, Unnamed}
+use Rattle.answers.specs.Numbers.{refusing}
+use Rattle.answers.specs.declared.Answer.{Answer}
+use Rattle.answers.specs.declared.Answer.the-variants.{Done, Line, Unnamed}
 use Rattle.surface.specs.declared.Found.{Found}
 use Rattle.surface.specs.declared.Found.the-variants.{At, Nothing}
 use Rattle.surface.specs.Smallest.{least}
 use Rattle.surface.specs.Buffers.{over}
 use Rattle.surface.specs.Refusals.{unnamed, refuseAt, thenCheck, bufferRefusal, unnamedRefusal}
-use Rattle.surface.proofs.Laws.Thens.{then-refused, then-next, buffer-plain, done-of, buffers-long}
-use Rattle.digits.proofs.Laws.Lay.{laid-front}
-use Rattle.texts.specs.Parse.{Parsed, said, fault}
-use Rattle.sheet.specs.Sheet.{Three, flat, points, triangles}
-use Rattle.sheet.specs.Parse.{parse}
-use Rattle.intake.specs.Scanning.{Scanned}
+use Rattle.surface.proofs.Laws.Thens.{then-refused, then-next}
+use Rattle.texts.specs.Workings.Parse.{Parsed, said, fault}
+use Rattle.texts.specs.Workings.Scanning.{Scanned}
+use Rattle.texts.specs.declared.Scan.{Scan}
+use Rattle.texts.specs.declared.Scan.the-variants.{Wrong}
+use Rattle.texts.proofs.Laws.Scanning.{wrong-parsed, Kept}
+use Rattle.surface.specs.Threes.{Three, flat}
+use Rattle.sheet.specs.Workings.Parse.{parse}
 use Rattle.intake.specs.Outcome.{ReadOutcome, readOutcome, notRead, deliver, Reads}
 use Rattle.intake.specs.declared.ReadSheet.{ReadSheet}
-use Rattle.intake.specs.declared.Scan.{Scan}
-use Rattle.intake.specs.declared.Scan.the-variants.{Whole, Wrong}
-use Rattle.sheet.proofs.Laws.Threes.{flat-length}
-use Rattle.sheet.proofs.Laws.Going.{over-laid}
+use Rattle.surface.proofs.Laws.Threes.{front-of, front-within}
 use Rattle.sheet.proofs.Laws.Texts.{parse-text, text-parse, fault-only}
 
 -- an answer that refuses
@@ -55,20 +54,6 @@ module _ (ws cs words corners : List ℕ) where
         not-read r s words corners k
         ∙ sym (refuse-is s (ap (λ (x : Answer). thenCheck x (unnamedRefusal cs (length ws / 3))) (sym e) ∙ then-refused s (unnamedRefusal cs (length ws / 3)) h) h)
 
-    -- where neither buffer is short, what is copied has room
-    module _ (h : refusing s ≡ false) where
-      enough : (i : ℕ) → i < 2 → getD (length ws ∷ length cs ∷ []) i 0 ≤ getD (length words ∷ length corners ∷ []) i 0
-      enough i l =
-          let lent : List ℕ = length words ∷ length corners ∷ [] in
-          let needs : List ℕ = length ws ∷ length cs ∷ [] in
-          buffers-long lent needs (done-of (bufferRefusal lent needs) (buffer-plain lent needs) (ap refusing (sym e) ∙ h)) i l
-
-      pub words-fit : length ws ≤ length words
-      words-fit = enough 0 (omega arith)
-
-      pub corners-fit : length cs ≤ length corners
-      corners-fit = enough 1 (omega arith)
-
     module _ (h : refusing s ≡ false) (p : ℕ) (d : length ws ≡ 3 * p) (f : Found) (m : f ≡ least (unnamed cs p) (length cs)) where
       named : thenCheck needed (unnamedRefusal cs (length ws / 3)) ≡ refuseAt Unnamed f
       unfolding needed
@@ -97,63 +82,35 @@ promised bytes words corners o e =
       of-fault = λ line f. e ∙ ap (outcomeOf words corners) (fault-only f);
     }
 
-whole-wrong : {n t l : ℕ} → Whole n t ≡ Wrong l → ⊥
-whole-wrong h = let z : _≡_ {A = ℕ} 0 1 = cc in omega arith
-
-pub fault-promised : (text : List ℕ) (s : Scan) (l : ℕ) (a b ws cs words corners : List ℕ) (r : ReadSheet) → Scanned (parse text) s a b ws cs → s ≡ Wrong l → Refused r (Line l)
+pub fault-promised : (text : List ℕ) (s : Scan) (l : ℕ) (a b ws cs words corners : List ℕ) (r : ReadSheet) → Scanned flat flat (parse text) s a b ws cs → s ≡ Wrong l → Refused r (Line l)
     → Reads text words corners (readOutcome r words corners)
-unfolding Scanned outcomeOf
-fault-promised text s l a b ws cs words corners r h e k = promised text words corners (readOutcome r words corners) (not-read r (Line l) words corners k ∙ go (parse text) h)
-  where
-    go : (p : Parsed Three Three) → Scanned p s a b ws cs → notRead (Line l) words corners ≡ outcomeOf words corners p
-    go (fault k) g = let f : l ≡ k = cc in ap (λ (x : ℕ). notRead (Line x) words corners) f
-    go (said ps ts) g = absurd (whole-wrong (sym (g .0) ∙ e))
+unfolding outcomeOf
+fault-promised text s l a b ws cs words corners r h e k =
+    promised text words corners (readOutcome r words corners)
+    (not-read r (Line l) words corners k ∙ sym (ap (outcomeOf words corners) (wrong-parsed flat flat (parse text) s l a b ws cs h e)))
 
 -- a text that was taken in
-pub record Kept (text : List ℕ) (n t : ℕ) (a b ws cs : List ℕ) : Type 0 where
-  pub ps : List Three
-  pub ts : List Three
-  pub is : parse text ≡ said ps ts
-  pub points-are : n ≡ length ps
-  pub triangles-are : t ≡ length ts
-  pub words-are : a ≡ over (flat ps) ws
-  pub corners-are : b ≡ over (flat ts) cs
-
-pub kept : (text : List ℕ) (s : Scan) (n t : ℕ) (a b ws cs : List ℕ) → Scanned (parse text) s a b ws cs → s ≡ Whole n t → Kept text n t a b ws cs
-unfolding Scanned
-kept text s n t a b ws cs h e = go (parse text) refl h
-  where
-    go : (p : Parsed Three Three) → parse text ≡ p → Scanned p s a b ws cs → Kept text n t a b ws cs
-    go (fault l) d k = absurd (whole-wrong (sym e ∙ k))
-    go (said ps ts) d k =
-        let z : Whole n t ≡ Whole (length ps) (length ts) = sym e ∙ k .0 in
-        record { ps = ps; ts = ts; is = d; points-are = cc; triangles-are = cc; words-are = k .1; corners-are = k .2 }
-
-front-is : (l : List Three) (a words : List ℕ) (n w : ℕ) → a ≡ over (flat l) words → n ≡ length l → w ≡ 3 * n → take w a ≡ flat l
-front-is l a words n w h e f = ap (take w) (h ∙ over-laid (flat l) words) ∙ laid-front (flat l) words w (f ∙ ap (λ (x : ℕ). 3 * x) e ∙ sym (flat-length l))
-
--- what is laid over a buffer and leaves its length as it was is no longer than it
-over-fits : (l : List Three) (a words : List ℕ) (n : ℕ) → a ≡ over (flat l) words → n ≡ length l → length a ≡ length words → 3 * n ≤ length a
-unfolding over
-over-fits l a words n h e f =
-    omega (arith, e, f, ap length h, length-append (flat l) (drop (length (flat l)) words), length-drop (length (flat l)) words, flat-length l)
-
-module _ {text : List ℕ} {n t : ℕ} {a b ws cs : List ℕ} (k : Kept text n t a b ws cs) where
+module _ {text : List ℕ} {n t : ℕ} {a b ws cs : List ℕ} (k : Kept flat flat parse text n t a b ws cs) where
   pub few-points : n ≤ limits.points
-  few-points = omega (arith, k .points-are, text-parse (k .is) .says .first-few)
+  few-points = omega (arith, k .first-count, text-parse (k .is) .says .first-few)
 
   pub few-triangles : t ≤ limits.triangles
-  few-triangles = omega (arith, k .triangles-are, text-parse (k .is) .says .second-few)
+  few-triangles = omega (arith, k .second-count, text-parse (k .is) .says .second-few)
 
-  pub words-in : length a ≡ length ws → 3 * n ≤ length a
-  words-in = over-fits (k .ps) a ws n (k .words-are) (k .points-are)
+  -- its words and corners lie at the starts of two buffers
+  pub words-in : 3 * n ≤ length a
+  words-in = front-within (k .xs) a ws n (k .first-over) (k .first-count)
 
-  pub corners-in : length b ≡ length cs → 3 * t ≤ length b
-  corners-in = over-fits (k .ts) b cs t (k .corners-are) (k .triangles-are)
+  pub corners-in : 3 * t ≤ length b
+  corners-in = front-within (k .ys) b cs t (k .second-over) (k .second-count)
 
-  pub delivered : (o : ReadOutcome) (words corners : List ℕ) (w c : ℕ) → w ≡ 3 * n → c ≡ 3 * t → o ≡ deliver (take w a) (take c b) words corners → Reads text words corners o
+  pub words-are : take (3 * n) a ≡ flat (k .xs)
+  words-are = front-of (k .xs) a ws n (k .first-over) (k .first-count)
+
+  pub corners-are : take (3 * t) b ≡ flat (k .ys)
+  corners-are = front-of (k .ys) b cs t (k .second-over) (k .second-count)
+
+  pub delivered : (o : ReadOutcome) (words corners : List ℕ) → o ≡ deliver (take (3 * n) a) (take (3 * t) b) words corners → Reads text words corners o
   unfolding outcomeOf
-  delivered o words corners w c hw hc q =
-      let f : take w a ≡ flat (k .ps) = front-is (k .ps) a ws n w (k .words-are) (k .points-are) hw in
-      let g : take c b ≡ flat (k .ts) = front-is (k .ts) b cs t c (k .corners-are) (k .triangles-are) hc in
-      promised text words corners o (q ∙ ap₂ (λ (x y : List ℕ). deliver x y words corners) f g ∙ sym (ap (outcomeOf words corners) (k .is)))
+  delivered o words corners q =
+      promised text words corners o (q ∙ ap₂ (λ (x y : List ℕ). deliver x y words corners) words-are corners-are ∙ sym (ap (outcomeOf words corners) (k .is)))

@@ -1,17 +1,18 @@
 -- What reading counts is no more than its buffers have.
 use mathlib.Core.Path.{_≡_, refl, sym, subst}
 use mathlib.Core.Bool.{Bool, true, false}
-use mathlib.Core.Logic.{_⊎_, inl, inr}
+use mathlib.Core.Logic.{inl, inr}
 use mathlib.Core.List.{List, [], _∷_}
 use Prim.Native.Nat.{ℕ, _/_, _≤_}
 use native.Mathlib.Omega.{arith}
-use lib.ListN.{length, drop, length-append}
-use Rattle.terms.specs.Answers.{refusing}
+use lib.ListN.{length}
+use Rattle.answers.specs.Numbers.{refusing}
 use Rattle.surface.specs.Buffers.{over}
 use Rattle.surface.specs.Refusals.{thenCheck, bufferRefusal, unnamedRefusal}
-use Rattle.texts.specs.Text.{TextOf}
-use Rattle.texts.specs.Fault.{Fault}
-use Rattle.sheet.specs.Sheet.{Three, flat, points, triangles}
+use Rattle.surface.proofs.Laws.Over.{front-in}
+use Rattle.texts.proofs.Theorems.{Known}
+use Rattle.surface.specs.Threes.{flat}
+use Rattle.sheet.specs.Sheet.{points, triangles}
 use Rattle.sheet.proofs.Laws.Texts.{text-or-fault}
 use Rattle.intake.specs.Outcome.{ReadOutcome, deliver, Reads}
 
@@ -20,16 +21,16 @@ pub record Within (o : ReadOutcome) : Type 0 where
   pub corners-in : o .corner-count ≤ length (o .corners)
 
 deliver-within : (ws cs words corners : List ℕ) → Within (deliver ws cs words corners)
-unfolding deliver over
+unfolding deliver
 deliver-within ws cs words corners = go (refusing (thenCheck (bufferRefusal (length words ∷ length corners ∷ []) (length ws ∷ length cs ∷ [])) (unnamedRefusal cs (length ws / 3)))) refl
   where
     go : (t : Bool) → refusing (thenCheck (bufferRefusal (length words ∷ length corners ∷ []) (length ws ∷ length cs ∷ [])) (unnamedRefusal cs (length ws / 3))) ≡ t → Within (deliver ws cs words corners)
     go true e = rw e (record { words-in = omega arith; corners-in = omega arith })
-    go false e = rw e (record { words-in = omega (arith, length-append ws (drop (length ws) words)); corners-in = omega (arith, length-append cs (drop (length cs) corners)) })
+    go false e = rw e (record { words-in = front-in ws words (over ws words) (length ws) refl refl; corners-in = front-in cs corners (over cs corners) (length cs) refl refl })
 
 pub read-within : (bytes words corners : List ℕ) (o : ReadOutcome) → Reads bytes words corners o → Within o
 read-within bytes words corners o r = go (text-or-fault bytes)
   where
-    go : ((ps : List Three) × (ts : List Three) × TextOf points triangles bytes ps ts) ⊎ ((line : ℕ) × Fault points triangles bytes line) → Within o
+    go : Known points triangles bytes → Within o
     go (inl t) = subst Within (sym (r .of-text (t .0) (t .1) (t .2))) (deliver-within (flat (t .0)) (flat (t .1)) words corners)
     go (inr f) = subst Within (sym (r .of-fault (f .0) (f .1))) (record { words-in = omega arith; corners-in = omega arith })

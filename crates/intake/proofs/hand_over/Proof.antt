@@ -1,7 +1,8 @@
 -- `hand_over` refuses a short buffer, then a corner that names no point, and writes only after both.
 use mathlib.Core.Path.{sym, _∙_}
 use borrow.Author.Needs.{needs}
-use Rattle.intake.proofs.Laws.Deliver.{words-fit, corners-fit, short-handed, unnamed-handed, all-handed}
+use Rattle.sheet.proofs.Laws.Rooms.{two-fit}
+use Rattle.intake.proofs.Laws.Deliver.{short-handed, unnamed-handed, all-handed}
 use Rattle.intake.proofs.hand_over.Statement.{statement}
 use Rattle.intake.proofs.hand_over.Tie as tie
 
@@ -42,10 +43,10 @@ enum-told : tie.Need-enum-told
 enum-told c = search needs
 
 copy-words-requires : tie.Need-copy-words-requires
-copy-words-requires c κs = words-fit (c .before .before .before .before .before .before .before .before .before .before .before .before .before .args .ws .now) (c .before .before .before .before .before .before .before .before .before .before .before .before .before .args .cs .now) (c .before .before .before .before .before .before .before .before .before .before .before .before .before .args .words .now) (c .before .before .before .before .before .before .before .before .before .before .before .before .before .args .corners .now) _ (c .before .before .before .before .before .before .check-buffers .ensures) (sym (c .before .before .before .before .before .refuses .ensures) ∙ c .before .before .before .before .if1 .left)
+copy-words-requires c κs = two-fit _ _ _ _ _ (c .before .before .before .before .before .before .check-buffers .ensures) (sym (c .before .before .before .before .before .refuses .ensures) ∙ c .before .before .before .before .if1 .left) .0
 
 copy-corners-requires : tie.Need-copy-corners-requires
-copy-corners-requires c κs = corners-fit (c .before .before .before .before .before .before .before .before .before .before .before .before .before .before .before .before .before .args .ws .now) (c .before .before .before .before .before .before .before .before .before .before .before .before .before .before .before .before .before .args .cs .now) (c .before .before .before .before .before .before .before .before .before .before .before .before .before .before .before .before .before .args .words .now) (c .before .before .before .before .before .before .before .before .before .before .before .before .before .before .before .before .before .args .corners .now) _ (c .before .before .before .before .before .before .before .before .before .before .check-buffers .ensures) (sym (c .before .before .before .before .before .before .before .before .before .refuses .ensures) ∙ c .before .before .before .before .before .before .before .before .if1 .left)
+copy-corners-requires c κs = two-fit _ _ _ _ _ (c .before .before .before .before .before .before .before .before .before .before .check-buffers .ensures) (sym (c .before .before .before .before .before .before .before .before .before .refuses .ensures) ∙ c .before .before .before .before .before .before .before .before .if1 .left) .1
 
 same-length : tie.Need-same-length
 same-length c = search needs

@@ -1,9 +1,12 @@
 -- `read_by` refuses at the line of the fault, or hands on the fronts of its scratch.
-use mathlib.Core.Path.{sym, refl}
+use mathlib.Core.Path.{sym}
 use native.Mathlib.Omega.{arith}
 use lib.Seq.{length-take-le}
 use borrow.Author.Needs.{needs}
-use Rattle.intake.proofs.Laws.Deliver.{fault-promised, kept, few-points, few-triangles, words-in, corners-in, delivered}
+use Rattle.texts.proofs.Laws.Scanning.{kept}
+use Rattle.surface.specs.Threes.{flat}
+use Rattle.sheet.specs.Workings.Parse.{parse}
+use Rattle.intake.proofs.Laws.Deliver.{fault-promised, few-points, few-triangles, words-in, corners-in, delivered}
 use Rattle.intake.proofs.read_by.Statement.{statement}
 use Rattle.intake.proofs.read_by.Tie as tie
 
@@ -20,25 +23,25 @@ enum-known-points : tie.Need-enum-known-points
 enum-known-points c = search needs
 
 mul-w : tie.Need-mul-w
-mul-w c = omega (arith, few-points (kept (c .before .before .before .before .before .before .before .before .before .before .before .before .before .before .before .args .text .now) _ _ _ _ _ _ _ (c .before .before .before .before .before .before .before .take-in .ensures) (c .before .points .given .1)))
+mul-w c = omega (arith, few-points (kept flat flat parse (c .before .before .before .before .before .before .before .before .before .before .before .before .before .before .before .args .text .now) _ _ _ _ _ _ _ (c .before .before .before .before .before .before .before .take-in .ensures) (c .before .points .given .1)))
 
 mul-c : tie.Need-mul-c
-mul-c c = omega (arith, few-triangles (kept (c .before .before .before .before .before .before .before .before .before .before .before .before .before .before .before .args .text .now) _ _ _ _ _ _ _ (c .before .before .before .before .before .before .before .take-in .ensures) (c .before .points .given .1)))
+mul-c c = omega (arith, few-triangles (kept flat flat parse (c .before .before .before .before .before .before .before .before .before .before .before .before .before .before .before .args .text .now) _ _ _ _ _ _ _ (c .before .before .before .before .before .before .before .take-in .ensures) (c .before .points .given .1)))
 
 slice-reshare-prefix-hand-over : tie.Need-slice-reshare-prefix-hand-over
-slice-reshare-prefix-hand-over c = (words-in (kept (c .before .before .before .before .before .before .before .before .before .before .before .before .before .before .before .args .text .now) _ _ _ _ _ _ _ (c .before .before .before .before .before .before .before .take-in .ensures) (c .before .points .given .1)) (c .before .before .before .before .before .before .before .take-in .kept .1 .0))
+slice-reshare-prefix-hand-over c = (words-in (kept flat flat parse (c .before .before .before .before .before .before .before .before .before .before .before .before .before .before .before .args .text .now) _ _ _ _ _ _ _ (c .before .before .before .before .before .before .before .take-in .ensures) (c .before .points .given .1)))
 
 slice-aggregate-hand-over : tie.Need-slice-aggregate-hand-over
-slice-aggregate-hand-over c = sym (length-take-le _ _ (words-in (kept (c .before .before .before .before .before .before .before .before .before .before .before .before .before .before .before .before .args .text .now) _ _ _ _ _ _ _ (c .before .before .before .before .before .before .before .before .take-in .ensures) (c .before .before .points .given .1)) (c .before .before .before .before .before .before .before .before .take-in .kept .1 .0)))
+slice-aggregate-hand-over c = sym (length-take-le _ _ (words-in (kept flat flat parse (c .before .before .before .before .before .before .before .before .before .before .before .before .before .before .before .before .args .text .now) _ _ _ _ _ _ _ (c .before .before .before .before .before .before .before .before .take-in .ensures) (c .before .before .points .given .1))))
 
 slice-reshare-prefix-hand-over-2 : tie.Need-slice-reshare-prefix-hand-over-2
-slice-reshare-prefix-hand-over-2 c = (corners-in (kept (c .before .before .before .before .before .before .before .before .before .before .before .before .before .before .before .before .args .text .now) _ _ _ _ _ _ _ (c .before .before .before .before .before .before .before .before .take-in .ensures) (c .before .before .points .given .1)) (c .before .before .before .before .before .before .before .before .take-in .kept .1 .1 .0))
+slice-reshare-prefix-hand-over-2 c = (corners-in (kept flat flat parse (c .before .before .before .before .before .before .before .before .before .before .before .before .before .before .before .before .args .text .now) _ _ _ _ _ _ _ (c .before .before .before .before .before .before .before .before .take-in .ensures) (c .before .before .points .given .1)))
 
 slice-aggregate-hand-over-2 : tie.Need-slice-aggregate-hand-over-2
-slice-aggregate-hand-over-2 c = sym (length-take-le _ _ (corners-in (kept (c .before .before .before .before .before .before .before .before .before .before .before .before .before .before .before .before .before .args .text .now) _ _ _ _ _ _ _ (c .before .before .before .before .before .before .before .before .before .take-in .ensures) (c .before .before .before .points .given .1)) (c .before .before .before .before .before .before .before .before .before .take-in .kept .1 .1 .0)))
+slice-aggregate-hand-over-2 c = sym (length-take-le _ _ (corners-in (kept flat flat parse (c .before .before .before .before .before .before .before .before .before .before .before .before .before .before .before .before .before .args .text .now) _ _ _ _ _ _ _ (c .before .before .before .before .before .before .before .before .before .take-in .ensures) (c .before .before .before .points .given .1))))
 
 hand-over-requires : tie.Need-hand-over-requires
-hand-over-requires c κs = (length-take-le _ _ (words-in (kept (c .before .before .before .before .before .before .before .before .before .before .before .before .before .before .before .before .before .before .before .args .text .now) _ _ _ _ _ _ _ (c .before .before .before .before .before .before .before .before .before .before .before .take-in .ensures) (c .before .before .before .before .before .points .given .1)) (c .before .before .before .before .before .before .before .before .before .before .before .take-in .kept .1 .0)), omega (arith, few-points (kept (c .before .before .before .before .before .before .before .before .before .before .before .before .before .before .before .before .before .before .before .args .text .now) _ _ _ _ _ _ _ (c .before .before .before .before .before .before .before .before .before .before .before .take-in .ensures) (c .before .before .before .before .before .points .given .1))))
+hand-over-requires c κs = (length-take-le _ _ (words-in (kept flat flat parse (c .before .before .before .before .before .before .before .before .before .before .before .before .before .before .before .before .before .before .before .args .text .now) _ _ _ _ _ _ _ (c .before .before .before .before .before .before .before .before .before .before .before .take-in .ensures) (c .before .before .before .before .before .points .given .1))), omega (arith, few-points (kept flat flat parse (c .before .before .before .before .before .before .before .before .before .before .before .before .before .before .before .before .before .before .before .args .text .now) _ _ _ _ _ _ _ (c .before .before .before .before .before .before .before .before .before .before .before .take-in .ensures) (c .before .before .before .before .before .points .given .1))))
 
 same-length : tie.Need-same-length
 same-length c = search needs
@@ -62,7 +65,7 @@ same-length-6 : tie.Need-same-length-6
 same-length-6 c = search needs
 
 returns-2 : tie.Need-returns-2
-returns-2 c = delivered (kept (c .before .before .before .before .before .before .before .before .before .before .before .before .before .before .before .before .before .before .before .before .before .before .before .before .args .text .now) _ _ _ _ _ _ _ (c .before .before .before .before .before .before .before .before .before .before .before .before .before .before .before .before .take-in .ensures) (c .before .before .before .before .before .before .before .before .before .before .points .given .1)) _ _ _ _ _ refl refl (c .before .before .before .before .hand-over .ensures)
+returns-2 c = delivered (kept flat flat parse (c .before .before .before .before .before .before .before .before .before .before .before .before .before .before .before .before .before .before .before .before .before .before .before .before .args .text .now) _ _ _ _ _ _ _ (c .before .before .before .before .before .before .before .before .before .before .before .before .before .before .before .before .take-in .ensures) (c .before .before .before .before .before .before .before .before .before .before .points .given .1)) _ _ _ (c .before .before .before .before .hand-over .ensures)
 
 pub read-by-spec : {M : Type 1} → statement M
 read-by-spec =

@@ -1,4 +1,5 @@
 -- A short text has room in little scratch.
+use native.Mathlib.Omega.{arith}
 use borrow.Author.Needs.{needs}
 use Rattle.sheet.proofs.Laws.Rooms.{short-words, short-corners}
 use Rattle.intake.proofs.read_short.Statement.{statement}
@@ -11,7 +12,7 @@ slice-aggregate-read-by-2 : tie.Need-slice-aggregate-read-by-2
 slice-aggregate-read-by-2 c = search needs
 
 read-by-requires : tie.Need-read-by-requires
-read-by-requires c κs = (short-words _ (c .before .before .before .before .before .before .before .pre), short-corners _ (c .before .before .before .before .before .before .before .pre))
+read-by-requires c κs = (short-words _ _ (omega (arith, c .before .before .before .before .before .before .before .pre)), short-corners _ _ (omega (arith, c .before .before .before .before .before .before .before .pre)))
 
 same-length : tie.Need-same-length
 same-length c = search needs

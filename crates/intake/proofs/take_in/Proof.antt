@@ -1,15 +1,14 @@
 -- `take_in` stops at the first wrong line, or has read them all.
 use native.Mathlib.Omega.{arith}
-use lib.ListN.{drop-of-length-le}
-use lib.Seq.{drop-cons}
 use borrow.Author.Needs.{needs}
-use Rattle.sheet.specs.Sheet.{points=, triangles=}
-use Rattle.sheet.specs.Parse.{readPoint, readTriangle}
+use Rattle.surface.specs.Threes.{flat}
+use Rattle.sheet.specs.Sheet.{points, triangles}
+use Rattle.sheet.specs.Workings.Parse.{readPoint, readTriangle}
 use Rattle.sheet.proofs.Laws.Told.{number-is, number-not, number-by, pass-stuck, pass-through}
 use Rattle.sheet.proofs.Laws.Rooms.{room-less}
 use Rattle.sheet.proofs.Laws.Exactly.{count-few}
 use Rattle.texts.proofs.Laws.Taking.{stops-less}
-use Rattle.intake.proofs.Laws.Whole.{no-points, wrong-point, no-triangles, wrong-triangle, left-over, scanned, faulted}
+use Rattle.texts.proofs.Laws.Scanning.{no-first, wrong-first, no-second, wrong-second, text-left, all-read}
 use Rattle.intake.proofs.take_in.Statement.{statement}
 use Rattle.intake.proofs.take_in.Tie as tie
 
@@ -26,19 +25,19 @@ enum-told : tie.Need-enum-told
 enum-told c = search needs
 
 returns : tie.Need-returns
-returns c = faulted _ _ _ _ _ _ (no-points (c .before .before .before .before .before .before .before .args .text .now) (number-not (c .before .before .before .before .before .before .before .args .text .now) _ _ (c .before .before .count-at .ensures .0) (c .enum-told .given .1)))
+returns c = no-first flat flat points triangles readPoint readTriangle (c .before .before .before .before .before .before .before .args .text .now) _ _ _ _ (number-not (c .before .before .before .before .before .before .before .args .text .now) _ _ (c .before .before .count-at .ensures .0) (c .enum-told .given .1))
 
 cast-points : tie.Need-cast-points
 cast-points c = search needs
 
 read-points-requires : tie.Need-read-points-requires
-read-points-requires c κs = (number-by _ _ _ _ (c .before .before .before .before .count-at .ensures .1) (c .before .before .n .given .1), room-less _ _ _ _ _ (count-few points= _ _ _ _ (number-is (c .before .before .before .before .before .before .before .before .before .args .text .now) _ _ _ _ (c .before .before .before .before .count-at .ensures .0) (c .before .before .n .given .1))) (c .before .before .before .before .before .before .before .before .before .pre .0))
+read-points-requires c κs = (number-by _ _ _ _ (c .before .before .before .before .count-at .ensures .1) (c .before .before .n .given .1), room-less _ _ _ _ _ (count-few (points .key) _ _ _ _ (number-is (c .before .before .before .before .before .before .before .before .before .args .text .now) _ _ _ _ (c .before .before .before .before .count-at .ensures .0) (c .before .before .n .given .1))) (c .before .before .before .before .before .before .before .before .before .pre .0))
 
 enum-known-i : tie.Need-enum-known-i
 enum-known-i c = search needs
 
 add-t23 : tie.Need-add-t23
-add-t23 c = omega (arith, count-few points= _ _ _ _ (number-is (c .before .before .before .before .before .before .before .before .before .before .before .before .before .before .before .args .text .now) _ _ _ _ (c .before .before .before .before .before .before .before .before .before .before .count-at .ensures .0) (c .before .before .before .before .before .before .before .before .n .given .1)), stops-less readPoint _ _ _ (pass-stuck (c .before .before .before .before .before .before .before .before .before .before .before .before .before .before .before .args .text .now) _ _ _ (c .before .before .before .before .before .read-points .ensures .0) (c .before .i .given .1)))
+add-t23 c = omega (arith, count-few (points .key) _ _ _ _ (number-is (c .before .before .before .before .before .before .before .before .before .before .before .before .before .before .before .args .text .now) _ _ _ _ (c .before .before .before .before .before .before .before .before .before .before .count-at .ensures .0) (c .before .before .before .before .before .before .before .before .n .given .1)), stops-less readPoint _ _ _ (pass-stuck (c .before .before .before .before .before .before .before .before .before .before .before .before .before .before .before .args .text .now) _ _ _ (c .before .before .before .before .before .read-points .ensures .0) (c .before .i .given .1)))
 
 enum-known-middle : tie.Need-enum-known-middle
 enum-known-middle c = search needs
@@ -62,13 +61,13 @@ same-length : tie.Need-same-length
 same-length c = search needs
 
 returns-2 : tie.Need-returns-2
-returns-2 c = faulted _ _ _ _ _ _ (no-triangles (c .before .before .before .before .before .before .before .before .before .before .before .before .before .before .before .before .before .before .before .args .text .now) _ _ (number-is (c .before .before .before .before .before .before .before .before .before .before .before .before .before .before .before .before .before .before .before .args .text .now) _ _ _ _ (c .before .before .before .before .before .before .before .before .before .before .before .before .before .before .count-at .ensures .0) (c .before .before .before .before .before .before .before .before .before .before .before .before .n .given .1)) _ (pass-through (c .before .before .before .before .before .before .before .before .before .before .before .before .before .before .before .before .before .before .before .args .text .now) _ _ _ (c .before .before .before .before .before .before .before .before .before .read-points .ensures .0) (c .before .before .before .before .before .middle .given .1)) (number-not (c .before .before .before .before .before .before .before .before .before .before .before .before .before .before .before .before .before .before .before .args .text .now) _ _ (c .before .before .count-at2 .ensures .0) (c .enum-told2 .given .1)))
+returns-2 c = no-second flat flat points triangles readPoint readTriangle (c .before .before .before .before .before .before .before .before .before .before .before .before .before .before .before .before .before .before .before .args .text .now) _ _ _ _ _ _ (number-is (c .before .before .before .before .before .before .before .before .before .before .before .before .before .before .before .before .before .before .before .args .text .now) _ _ _ _ (c .before .before .before .before .before .before .before .before .before .before .before .before .before .before .count-at .ensures .0) (c .before .before .before .before .before .before .before .before .before .before .before .before .n .given .1)) _ (pass-through (c .before .before .before .before .before .before .before .before .before .before .before .before .before .before .before .before .before .before .before .args .text .now) _ _ _ (c .before .before .before .before .before .before .before .before .before .read-points .ensures .0) (c .before .before .before .before .before .middle .given .1)) (number-not (c .before .before .before .before .before .before .before .before .before .before .before .before .before .before .before .before .before .before .before .args .text .now) _ _ (c .before .before .count-at2 .ensures .0) (c .enum-told2 .given .1))
 
 cast-triangles : tie.Need-cast-triangles
 cast-triangles c = search needs
 
 read-triangles-requires : tie.Need-read-triangles-requires
-read-triangles-requires c κs = (number-by _ _ _ _ (c .before .before .before .before .count-at2 .ensures .1) (c .before .before .t .given .1), room-less _ _ _ _ _ (count-few triangles= _ _ _ _ (number-is (c .before .before .before .before .before .before .before .before .before .before .before .before .before .before .before .before .before .before .before .before .before .args .text .now) _ _ _ _ (c .before .before .before .before .count-at2 .ensures .0) (c .before .before .t .given .1))) (c .before .before .before .before .before .before .before .before .before .before .before .before .before .before .before .before .before .before .before .before .before .pre .1))
+read-triangles-requires c κs = (number-by _ _ _ _ (c .before .before .before .before .count-at2 .ensures .1) (c .before .before .t .given .1), room-less _ _ _ _ _ (count-few (triangles .key) _ _ _ _ (number-is (c .before .before .before .before .before .before .before .before .before .before .before .before .before .before .before .before .before .before .before .before .before .args .text .now) _ _ _ _ (c .before .before .before .before .count-at2 .ensures .0) (c .before .before .t .given .1))) (c .before .before .before .before .before .before .before .before .before .before .before .before .before .before .before .before .before .before .before .before .before .pre .1))
 
 enum-known-i-2 : tie.Need-enum-known-i-2
 enum-known-i-2 c = search needs
@@ -77,7 +76,7 @@ add-t32 : tie.Need-add-t32
 add-t32 c = search needs
 
 add-t33 : tie.Need-add-t33
-add-t33 c = omega (arith, count-few points= _ _ _ _ (number-is (c .before .before .before .before .before .before .before .before .before .before .before .before .before .before .before .before .before .before .before .before .before .before .before .before .before .before .before .args .text .now) _ _ _ _ (c .before .before .before .before .before .before .before .before .before .before .before .before .before .before .before .before .before .before .before .before .before .before .count-at .ensures .0) (c .before .before .before .before .before .before .before .before .before .before .before .before .before .before .before .before .before .before .before .before .n .given .1)), count-few triangles= _ _ _ _ (number-is (c .before .before .before .before .before .before .before .before .before .before .before .before .before .before .before .before .before .before .before .before .before .before .before .before .before .before .before .args .text .now) _ _ _ _ (c .before .before .before .before .before .before .before .before .before .before .count-at2 .ensures .0) (c .before .before .before .before .before .before .before .before .t .given .1)), stops-less readTriangle _ _ _ (pass-stuck (c .before .before .before .before .before .before .before .before .before .before .before .before .before .before .before .before .before .before .before .before .before .before .before .before .before .before .before .args .text .now) _ _ _ (c .before .before .before .before .before .read-triangles .ensures .0) (c .before .i2 .given .1)))
+add-t33 c = omega (arith, count-few (points .key) _ _ _ _ (number-is (c .before .before .before .before .before .before .before .before .before .before .before .before .before .before .before .before .before .before .before .before .before .before .before .before .before .before .before .args .text .now) _ _ _ _ (c .before .before .before .before .before .before .before .before .before .before .before .before .before .before .before .before .before .before .before .before .before .before .count-at .ensures .0) (c .before .before .before .before .before .before .before .before .before .before .before .before .before .before .before .before .before .before .before .before .n .given .1)), count-few (triangles .key) _ _ _ _ (number-is (c .before .before .before .before .before .before .before .before .before .before .before .before .before .before .before .before .before .before .before .before .before .before .before .before .before .before .before .args .text .now) _ _ _ _ (c .before .before .before .before .before .before .before .before .before .before .count-at2 .ensures .0) (c .before .before .before .before .before .before .before .before .t .given .1)), stops-less readTriangle _ _ _ (pass-stuck (c .before .before .before .before .before .before .before .before .before .before .before .before .before .before .before .before .before .before .before .before .before .before .before .before .before .before .before .args .text .now) _ _ _ (c .before .before .before .before .before .read-triangles .ensures .0) (c .before .i2 .given .1)))
 
 enum-known-end : tie.Need-enum-known-end
 enum-known-end c = search needs
@@ -92,7 +91,7 @@ same-length-2 : tie.Need-same-length-2
 same-length-2 c = search needs
 
 returns-3 : tie.Need-returns-3
-returns-3 c = faulted _ _ _ _ _ _ (wrong-point (c .before .before .before .before .before .before .before .before .before .before .before .before .before .before .before .args .text .now) _ _ (number-is (c .before .before .before .before .before .before .before .before .before .before .before .before .before .before .before .args .text .now) _ _ _ _ (c .before .before .before .before .before .before .before .before .before .before .count-at .ensures .0) (c .before .before .before .before .before .before .before .before .n .given .1)) _ (pass-stuck (c .before .before .before .before .before .before .before .before .before .before .before .before .before .before .before .args .text .now) _ _ _ (c .before .before .before .before .before .read-points .ensures .0) (c .before .i .given .1)))
+returns-3 c = wrong-first flat flat points triangles readPoint readTriangle (c .before .before .before .before .before .before .before .before .before .before .before .before .before .before .before .args .text .now) _ _ _ _ _ _ (number-is (c .before .before .before .before .before .before .before .before .before .before .before .before .before .before .before .args .text .now) _ _ _ _ (c .before .before .before .before .before .before .before .before .before .before .count-at .ensures .0) (c .before .before .before .before .before .before .before .before .n .given .1)) _ (pass-stuck (c .before .before .before .before .before .before .before .before .before .before .before .before .before .before .before .args .text .now) _ _ _ (c .before .before .before .before .before .read-points .ensures .0) (c .before .i .given .1))
 
 same-length-3 : tie.Need-same-length-3
 same-length-3 c = search needs
@@ -101,7 +100,7 @@ same-length-4 : tie.Need-same-length-4
 same-length-4 c = search needs
 
 returns-4 : tie.Need-returns-4
-returns-4 c = faulted _ _ _ _ _ _ (wrong-triangle (c .before .before .before .before .before .before .before .before .before .before .before .before .before .before .before .before .before .before .before .before .before .before .before .before .before .before .before .args .text .now) _ _ (number-is (c .before .before .before .before .before .before .before .before .before .before .before .before .before .before .before .before .before .before .before .before .before .before .before .before .before .before .before .args .text .now) _ _ _ _ (c .before .before .before .before .before .before .before .before .before .before .before .before .before .before .before .before .before .before .before .before .before .before .count-at .ensures .0) (c .before .before .before .before .before .before .before .before .before .before .before .before .before .before .before .before .before .before .before .before .n .given .1)) _ (pass-through (c .before .before .before .before .before .before .before .before .before .before .before .before .before .before .before .before .before .before .before .before .before .before .before .before .before .before .before .args .text .now) _ _ _ (c .before .before .before .before .before .before .before .before .before .before .before .before .before .before .before .before .before .read-points .ensures .0) (c .before .before .before .before .before .before .before .before .before .before .before .before .before .middle .given .1)) _ _ (number-is (c .before .before .before .before .before .before .before .before .before .before .before .before .before .before .before .before .before .before .before .before .before .before .before .before .before .before .before .args .text .now) _ _ _ _ (c .before .before .before .before .before .before .before .before .before .before .count-at2 .ensures .0) (c .before .before .before .before .before .before .before .before .t .given .1)) _ (pass-stuck (c .before .before .before .before .before .before .before .before .before .before .before .before .before .before .before .before .before .before .before .before .before .before .before .before .before .before .before .args .text .now) _ _ _ (c .before .before .before .before .before .read-triangles .ensures .0) (c .before .i2 .given .1)))
+returns-4 c = wrong-second flat flat points triangles readPoint readTriangle (c .before .before .before .before .before .before .before .before .before .before .before .before .before .before .before .before .before .before .before .before .before .before .before .before .before .before .before .args .text .now) _ _ _ _ _ _ (number-is (c .before .before .before .before .before .before .before .before .before .before .before .before .before .before .before .before .before .before .before .before .before .before .before .before .before .before .before .args .text .now) _ _ _ _ (c .before .before .before .before .before .before .before .before .before .before .before .before .before .before .before .before .before .before .before .before .before .before .count-at .ensures .0) (c .before .before .before .before .before .before .before .before .before .before .before .before .before .before .before .before .before .before .before .before .n .given .1)) _ (pass-through (c .before .before .before .before .before .before .before .before .before .before .before .before .before .before .before .before .before .before .before .before .before .before .before .before .before .before .before .args .text .now) _ _ _ (c .before .before .before .before .before .before .before .before .before .before .before .before .before .before .before .before .before .read-points .ensures .0) (c .before .before .before .before .before .before .before .before .before .before .before .before .before .middle .given .1)) _ _ (number-is (c .before .before .before .before .before .before .before .before .before .before .before .before .before .before .before .before .before .before .before .before .before .before .before .before .before .before .before .args .text .now) _ _ _ _ (c .before .before .before .before .before .before .before .before .before .before .count-at2 .ensures .0) (c .before .before .before .before .before .before .before .before .t .given .1)) _ (pass-stuck (c .before .before .before .before .before .before .before .before .before .before .before .before .before .before .before .before .before .before .before .before .before .before .before .before .before .before .before .args .text .now) _ _ _ (c .before .before .before .before .before .read-triangles .ensures .0) (c .before .i2 .given .1))
 
 same-length-5 : tie.Need-same-length-5
 same-length-5 c = search needs
@@ -110,7 +109,7 @@ same-length-6 : tie.Need-same-length-6
 same-length-6 c = search needs
 
 returns-5 : tie.Need-returns-5
-returns-5 c = faulted _ _ _ _ _ _ (left-over (c .before .before .before .before .before .before .before .before .before .before .before .before .before .before .before .before .before .before .before .before .before .before .before .before .before .before .before .before .args .text .now) _ _ (number-is (c .before .before .before .before .before .before .before .before .before .before .before .before .before .before .before .before .before .before .before .before .before .before .before .before .before .before .before .before .args .text .now) _ _ _ _ (c .before .before .before .before .before .before .before .before .before .before .before .before .before .before .before .before .before .before .before .before .before .before .before .count-at .ensures .0) (c .before .before .before .before .before .before .before .before .before .before .before .before .before .before .before .before .before .before .before .before .before .n .given .1)) _ (pass-through (c .before .before .before .before .before .before .before .before .before .before .before .before .before .before .before .before .before .before .before .before .before .before .before .before .before .before .before .before .args .text .now) _ _ _ (c .before .before .before .before .before .before .before .before .before .before .before .before .before .before .before .before .before .before .read-points .ensures .0) (c .before .before .before .before .before .before .before .before .before .before .before .before .before .before .middle .given .1)) _ _ (number-is (c .before .before .before .before .before .before .before .before .before .before .before .before .before .before .before .before .before .before .before .before .before .before .before .before .before .before .before .before .args .text .now) _ _ _ _ (c .before .before .before .before .before .before .before .before .before .before .before .count-at2 .ensures .0) (c .before .before .before .before .before .before .before .before .before .t .given .1)) _ (pass-through (c .before .before .before .before .before .before .before .before .before .before .before .before .before .before .before .before .before .before .before .before .before .before .before .before .before .before .before .before .args .text .now) _ _ _ (c .before .before .before .before .before .before .read-triangles .ensures .0) (c .before .before .end .given .1)) _ _ (drop-cons _ _ 0 (c .if1 .taken)))
+returns-5 c = text-left flat flat points triangles readPoint readTriangle (c .before .before .before .before .before .before .before .before .before .before .before .before .before .before .before .before .before .before .before .before .before .before .before .before .before .before .before .before .args .text .now) _ _ _ _ _ _ (number-is (c .before .before .before .before .before .before .before .before .before .before .before .before .before .before .before .before .before .before .before .before .before .before .before .before .before .before .before .before .args .text .now) _ _ _ _ (c .before .before .before .before .before .before .before .before .before .before .before .before .before .before .before .before .before .before .before .before .before .before .before .count-at .ensures .0) (c .before .before .before .before .before .before .before .before .before .before .before .before .before .before .before .before .before .before .before .before .before .n .given .1)) _ (pass-through (c .before .before .before .before .before .before .before .before .before .before .before .before .before .before .before .before .before .before .before .before .before .before .before .before .before .before .before .before .args .text .now) _ _ _ (c .before .before .before .before .before .before .before .before .before .before .before .before .before .before .before .before .before .before .read-points .ensures .0) (c .before .before .before .before .before .before .before .before .before .before .before .before .before .before .middle .given .1)) _ _ (number-is (c .before .before .before .before .before .before .before .before .before .before .before .before .before .before .before .before .before .before .before .before .before .before .before .before .before .before .before .before .args .text .now) _ _ _ _ (c .before .before .before .before .before .before .before .before .before .before .before .count-at2 .ensures .0) (c .before .before .before .before .before .before .before .before .before .t .given .1)) _ (pass-through (c .before .before .before .before .before .before .before .before .before .before .before .before .before .before .before .before .before .before .before .before .before .before .before .before .before .before .before .before .args .text .now) _ _ _ (c .before .before .before .before .before .before .read-triangles .ensures .0) (c .before .before .end .given .1)) (c .if1 .taken)
 
 same-length-7 : tie.Need-same-length-7
 same-length-7 c = search needs
@@ -119,7 +118,7 @@ same-length-8 : tie.Need-same-length-8
 same-length-8 c = search needs
 
 returns-6 : tie.Need-returns-6
-returns-6 c = scanned (c .before .before .before .before .before .before .before .before .before .before .before .before .before .before .before .before .before .before .before .before .before .before .before .before .before .before .before .before .args .text .now) _ _ (number-is (c .before .before .before .before .before .before .before .before .before .before .before .before .before .before .before .before .before .before .before .before .before .before .before .before .before .before .before .before .args .text .now) _ _ _ _ (c .before .before .before .before .before .before .before .before .before .before .before .before .before .before .before .before .before .before .before .before .before .before .before .count-at .ensures .0) (c .before .before .before .before .before .before .before .before .before .before .before .before .before .before .before .before .before .before .before .before .before .n .given .1)) _ (pass-through (c .before .before .before .before .before .before .before .before .before .before .before .before .before .before .before .before .before .before .before .before .before .before .before .before .before .before .before .before .args .text .now) _ _ _ (c .before .before .before .before .before .before .before .before .before .before .before .before .before .before .before .before .before .before .read-points .ensures .0) (c .before .before .before .before .before .before .before .before .before .before .before .before .before .before .middle .given .1)) _ _ (number-is (c .before .before .before .before .before .before .before .before .before .before .before .before .before .before .before .before .before .before .before .before .before .before .before .before .before .before .before .before .args .text .now) _ _ _ _ (c .before .before .before .before .before .before .before .before .before .before .before .count-at2 .ensures .0) (c .before .before .before .before .before .before .before .before .before .t .given .1)) _ (pass-through (c .before .before .before .before .before .before .before .before .before .before .before .before .before .before .before .before .before .before .before .before .before .before .before .before .before .before .before .before .args .text .now) _ _ _ (c .before .before .before .before .before .before .read-triangles .ensures .0) (c .before .before .end .given .1)) _ _ _ _ (drop-of-length-le (c .before .before .before .before .before .before .before .before .before .before .before .before .before .before .before .before .before .before .before .before .before .before .before .before .before .before .before .before .args .text .now) (c .if1 .left)) (c .before .before .before .before .before .before .before .before .before .before .before .before .before .before .before .before .before .before .read-points .ensures .1) (c .before .before .before .before .before .before .read-triangles .ensures .1)
+returns-6 c = all-read flat flat points triangles readPoint readTriangle (c .before .before .before .before .before .before .before .before .before .before .before .before .before .before .before .before .before .before .before .before .before .before .before .before .before .before .before .before .args .text .now) _ _ _ _ _ _ (number-is (c .before .before .before .before .before .before .before .before .before .before .before .before .before .before .before .before .before .before .before .before .before .before .before .before .before .before .before .before .args .text .now) _ _ _ _ (c .before .before .before .before .before .before .before .before .before .before .before .before .before .before .before .before .before .before .before .before .before .before .before .count-at .ensures .0) (c .before .before .before .before .before .before .before .before .before .before .before .before .before .before .before .before .before .before .before .before .before .n .given .1)) _ (pass-through (c .before .before .before .before .before .before .before .before .before .before .before .before .before .before .before .before .before .before .before .before .before .before .before .before .before .before .before .before .args .text .now) _ _ _ (c .before .before .before .before .before .before .before .before .before .before .before .before .before .before .before .before .before .before .read-points .ensures .0) (c .before .before .before .before .before .before .before .before .before .before .before .before .before .before .middle .given .1)) _ _ (number-is (c .before .before .before .before .before .before .before .before .before .before .before .before .before .before .before .before .before .before .before .before .before .before .before .before .before .before .before .before .args .text .now) _ _ _ _ (c .before .before .before .before .before .before .before .before .before .before .before .count-at2 .ensures .0) (c .before .before .before .before .before .before .before .before .before .t .given .1)) _ (pass-through (c .before .before .before .before .before .before .before .before .before .before .before .before .before .before .before .before .before .before .before .before .before .before .before .before .before .before .before .before .args .text .now) _ _ _ (c .before .before .before .before .before .before .read-triangles .ensures .0) (c .before .before .end .given .1)) (c .if1 .left) (c .before .before .before .before .before .before .before .before .before .before .before .before .before .before .before .before .before .before .read-points .ensures .1) (c .before .before .before .before .before .before .read-triangles .ensures .1)
 
 pub take-in-spec : {M : Type 1} → statement M
 take-in-spec =

@@ -6,13 +6,14 @@ use mathlib.Core.List.{List}
 use lib.ListN.{length, getD}
 use Rattle.limits.specs.Limits as limits
 use Rattle.covers.specs.Covers.{Cover, Triangle, on, vertexOf}
-use Rattle.covers.specs.Sets.{Alike, named, triples}
+use Rattle.surface.specs.Threes.{threes}
+use Rattle.covers.specs.Sets.{Alike, named}
 use Rattle.covers.proofs.Laws.Sets.{corners-of, by-corners}
 use Rattle.covers.proofs.Laws.Closed.{Below, begun, below, below-alike, alike-named, key-alike, covered-key, cover-keyed}
 use Rattle.keys.specs.declared.Key.{Key}
 use Rattle.keys.specs.declared.Key.the-variants.{Of, Not}
-use Rattle.keys.specs.Keys.{Ringed, Lies, Turned, Fits, KeyOf, tripleAt, Found}
-use Rattle.keys.specs.Covering.{Covering}
+use Rattle.keys.specs.Workings.Keys.{Ringed, Lies, Turned, Fits, KeyOf, tripleAt, Found}
+use Rattle.keys.specs.Workings.Covering.{Covering}
 use Rattle.keys.proofs.Laws.Places.{different, lies-short, lies-at}
 use Rattle.keys.proofs.Laws.Passed.{Passed, passed-in}
 
@@ -74,9 +75,9 @@ module _ (set marks : List ℕ) (base q a b c : ℕ)
 
 -- a triangle of the set that has no key
 pub keyless : (corners marks : List ℕ) (base q : ℕ) (front : List Triangle) → Passed corners q front → q < length corners
-    → Found corners q marks base Not → (ring : List ℕ) → Ringed ring base marks → (c : Cover) → Covering ring (triples corners) c → ⊥
+    → Found corners q marks base Not → (ring : List ℕ) → Ringed ring base marks → (c : Cover) → Covering ring (threes corners) c → ⊥
 keyless corners marks base q front p l f ring h c v =
     let t = tripleAt corners q in
     let d = different ring base marks h in
-    let x = covered-key (length ring) (vertexOf ring) d (triples corners) c v t (passed-in corners q front p l) in
+    let x = covered-key (length ring) (vertexOf ring) d (threes corners) c v t (passed-in corners q front p l) in
     f .key ring h (x .0) (cover-keyed (length ring) c (v .0) (x .0) (x .1)) (x .2)

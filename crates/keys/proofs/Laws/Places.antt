@@ -7,7 +7,7 @@ use lib.ListN.{length, getD}
 use Rattle.limits.specs.Limits as limits
 use Rattle.covers.proofs.Laws.Closed.{Different}
 use Rattle.covers.specs.Covers.{vertexOf}
-use Rattle.keys.specs.Keys.{Ringed, Lies, on-ring, off-ring}
+use Rattle.keys.specs.Workings.Keys.{Ringed, Lies, on-ring, off-ring}
 
 module _ (ring : List ℕ) (base : ℕ) (marks : List ℕ) (h : Ringed ring base marks) where
   pub different : Different (length ring) (vertexOf ring)

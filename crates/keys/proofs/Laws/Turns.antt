@@ -7,7 +7,7 @@ use Rattle.covers.specs.Covers.{on}
 use Rattle.covers.specs.Sets.{turned}
 use Rattle.covers.proofs.Laws.Sets.{corners-of}
 use Rattle.keys.specs.declared.Key.the-variants.{Of, Not}
-use Rattle.keys.specs.Keys.{Turned}
+use Rattle.keys.specs.Workings.Keys.{Turned}
 
 module _ (a b c : ℕ) where
   pub from-first : a < c → c < b → Turned (on a b c) (Of a b c)

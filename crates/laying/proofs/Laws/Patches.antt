@@ -10,24 +10,25 @@ use lib.ListN.{length}
 use lib.Ieee.{Float}
 use Rattle.surface.specs.Buffers.{laid}
 use Rattle.covers.specs.Covers.{Cover, empty, apex, triangles, cornersOf, vertexOf, patchOf}
-use Rattle.covers.specs.Least as covers
+use Rattle.covers.specs.Workings.Least as covers
 use Rattle.covers.proofs.Laws.Best.{patch-unique}
 use Rattle.covers.proofs.Laws.Least.{patch-least, patch-weighs}
 use Rattle.covers.proofs.Laws.Steps.{patched, Patched}
 use Rattle.weight.specs.Weight.{weightOf, Names}
 use Rattle.weight.specs.Edition.{naturals, triOf, along}
+use Rattle.weight.proofs.Laws.Naturals.{naturals-lawful}
 use Rattle.weight.proofs.Laws.Named.{named-on-grid}
 use Rattle.table.specs.declared.Least.{Least}
 use Rattle.table.specs.declared.Least.the-variants.{Weight, Nothing}
-use Rattle.table.specs.Table.{OnLoop}
-use Rattle.table.specs.Loops.{OnGrid, Barring, LeastIs, Found}
+use Rattle.table.specs.Workings.Table.{OnLoop}
+use Rattle.table.specs.Workings.Loops.{OnGrid, Barring, LeastIs, Found}
 use Rattle.table.proofs.Laws.Once.{least-once}
-use Rattle.tracing.specs.Ways.{Weighed}
-use Rattle.tracing.specs.Lists.{ListRoom, Lists}
-use Rattle.tracing.specs.Patches.{LaysIf, LaysPatch, FindsLeast}
-use Rattle.fours.specs.Fours.{FourRoom}
+use Rattle.tracing.specs.Workings.Ways.{Weighed}
+use Rattle.tracing.specs.Workings.Lists.{ListRoom, ListsPatch}
+use Rattle.tracing.specs.Workings.Patches.{LaysIf, LaysPatch, FindsLeast}
+use Rattle.fours.specs.Workings.Fours.{FourRoom}
 use Rattle.fours.proofs.Laws.Fours.{four-there}
-use Rattle.laying.specs.Patches.{PatchRoom, ThreeRoom, LaysThree}
+use Rattle.laying.specs.Workings.Patches.{PatchRoom, ThreeRoom, LaysThree}
 
 -- ---- the patch of a loop
 
@@ -64,8 +65,8 @@ module _ (grid : List ℤ) (ring bars : List ℕ) (table : List Float) (buffer :
         room = let l = long in let h : p + 3 * (length ring - 2) ≤ length buffer = r .room in omega arith;
       }
 
-      pub lays-some : (o : ℕ) (buffer′ : List ℕ) → Lists table′ ring buffer p 0 (length ring - 1) o buffer′ → LaysPatch grid ring bars buffer p least buffer′
-      lays-some o buffer′ l barred b = subst (λ (x : Least). LaysIf grid ring barred buffer p x buffer′) (sym e) (go (patched naturals (triOf (along grid ring)) barred 0 (length ring - 1) (x .low)))
+      pub lays-some : (o : ℕ) (buffer′ : List ℕ) → ListsPatch table′ ring buffer p 0 (length ring - 1) o buffer′ → LaysPatch grid ring bars buffer p least buffer′
+      lays-some o buffer′ l barred b = subst (λ (x : Least). LaysIf grid ring barred buffer p x buffer′) (sym e) (go (patched naturals naturals-lawful (triOf (along grid ring)) barred 0 (length ring - 1) (x .low)))
         where
           x : Weighed (along grid ring) barred (length ring) table′ 0 (length ring - 1) w
           x = weighed barred b
@@ -74,7 +75,7 @@ module _ (grid : List ℤ) (ring bars : List ℕ) (table : List Float) (buffer :
           go (inl (c, q)) = (
             c,
             q,
-            sym (patch-weighs naturals (triOf (along grid ring)) barred 0 (length ring - 1) w c (x .least) q),
+            sym (patch-weighs naturals naturals-lawful (triOf (along grid ring)) barred 0 (length ring - 1) w c (x .least) q),
             l .1 (along grid ring) barred (length ring) w x c q,
           )
           go (inr n) = absurd (n (x .least .cover) (x .least .among))
@@ -90,13 +91,13 @@ module _ (grid : List ℤ) (ring bars : List ℕ) (table : List Float) (buffer :
   lays-least : (barred : ℕ → ℕ → Bool) (x : Least) (b : List ℕ) → LaysIf grid ring barred buffer p x b → LeastIs grid ring barred x
   lays-least barred (Weight w) b h =
       subst (covers.Least naturals (triOf (along grid ring)) barred 0 (length ring - 1)) (sym (h .2))
-      (patch-least naturals (triOf (along grid ring)) barred 0 (length ring - 1) (h .0) (h .1))
+      (patch-least naturals naturals-lawful (triOf (along grid ring)) barred 0 (length ring - 1) (h .0) (h .1))
   lays-least barred Nothing b h = h .0
 
   same-buffer : (barred : ℕ → ℕ → Bool) (x : Least) (b c : List ℕ) → LaysIf grid ring barred buffer p x b → LaysIf grid ring barred buffer p x c → b ≡ c
   same-buffer barred (Weight w) b c h g =
       h .3
-      ∙ ap (λ (u : Cover). laid p (patchOf ring u) buffer) (patch-unique naturals (triOf (along grid ring)) barred 0 (length ring - 1) (h .0) (g .0) (h .1) (g .1))
+      ∙ ap (λ (u : Cover). laid p (patchOf ring u) buffer) (patch-unique naturals naturals-lawful (triOf (along grid ring)) barred 0 (length ring - 1) (h .0) (g .0) (h .1) (g .1))
       ∙ sym (g .3)
   same-buffer barred Nothing b c h g = h .1 ∙ sym (g .1)
 

@@ -9,7 +9,7 @@ use native.Mathlib.Omega.{arith}
 use lib.Dec.{ltb}
 use lib.ListN.{length, getD}
 use borrow.Author.Tests.{lt-ltb, le-ltb}
-use Rattle.leaders.specs.Leading.{walkedMark, jump, Lands, Landing, Landed}
+use Rattle.leaders.specs.Workings.Leading.{walkedMark, jump, Lands, Landing, Landed}
 
 jump-first : (turns : List ℕ) (k e : ℕ) → jump turns k (getD turns e 0) ≡ jump turns (suc k) e
 unfolding jump

@@ -10,8 +10,8 @@ use lib.Dec.{ltb}
 use lib.ListN.{getD}
 use borrow.Author.Tests.{ltb-true}
 use Rattle.surface.proofs.Laws.Tests.{lt-or-le}
-use Rattle.twins.specs.Turns.{openMark}
-use Rattle.leaders.specs.Leading.{Quiet}
+use Rattle.twins.specs.Workings.Turns.{openMark}
+use Rattle.leaders.specs.Workings.Leading.{Quiet}
 
 pub quiet-none : (turns : List ℕ) (h : ℕ) → Quiet turns h h
 unfolding Quiet

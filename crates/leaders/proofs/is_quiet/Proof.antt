@@ -2,7 +2,7 @@
 use Prim.Native.Nat.{_≤_, _+_, _-_}
 use mathlib.Core.Bool.{true}
 use mathlib.Core.Path.{_≡_}
-use Rattle.leaders.specs.Leading.{Quiet}
+use Rattle.leaders.specs.Workings.Leading.{Quiet}
 use Rattle.leaders.proofs.Laws.Quiets.{quiet-none, all-quiet, quiet-end}
 use borrow.Author.Needs.{needs}
 use Rattle.leaders.proofs.is_quiet.Statement.{statement}

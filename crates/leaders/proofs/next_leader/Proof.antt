@@ -2,7 +2,7 @@
 use Prim.Native.Nat.{_≤_, _-_}
 use borrow.Author.Needs.{needs}
 use Rattle.leaders.proofs.Laws.Quiets.{quiet-more, quiet-after}
-use Rattle.leaders.specs.Leading.{Quiet}
+use Rattle.leaders.specs.Workings.Leading.{Quiet}
 use Rattle.leaders.proofs.next_leader.Statement.{statement}
 use Rattle.leaders.proofs.next_leader.Tie as tie
 

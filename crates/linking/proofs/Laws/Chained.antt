@@ -9,15 +9,15 @@ use lib.ListN.{length, getD, length-append}
 use Rattle.limits.specs.Limits as limits
 use Rattle.covers.specs.Covers.{Triangle, on, cornersOf, vertexOf}
 use Rattle.covers.specs.Sets.{Alike, named}
-use Rattle.covers.specs.Reading.{Keyed}
+use Rattle.covers.specs.Workings.Reading.{Keyed}
 use Rattle.covers.proofs.Laws.Corners.{corners-append, corners-length, corners-whole}
 use Rattle.covers.proofs.Laws.Listed.{in-left, in-right, in-cases}
-use Rattle.bars.specs.Chains.{Edge, edgeOf, joins, firsts, Chained, ChainRoom, ChainDone}
+use Rattle.bars.specs.Workings.Chains.{Edge, edgeOf, joins, firsts, Chained, ChainRoom, ChainDone}
 use Rattle.bars.proofs.Laws.Joins.{joins-append}
 use Rattle.bars.proofs.Laws.Triples.{firsts-append, firsts-length}
 use Rattle.keys.specs.declared.Key.the-variants.{Of, Not}
-use Rattle.keys.specs.Keys.{Found, tripleAt}
-use Rattle.linking.specs.Chaining.{CoverRoom, CoverChained}
+use Rattle.keys.specs.Workings.Keys.{Found, tripleAt}
+use Rattle.linking.specs.Workings.Chaining.{CoverRoom, CoverChained}
 use Rattle.keys.proofs.Laws.Places.{different}
 use Rattle.keys.proofs.Laws.Passed.{Passed, passed-none, passed-room, passed-all, passed-more}
 use Rattle.keys.proofs.Laws.Keyed.{keyless}

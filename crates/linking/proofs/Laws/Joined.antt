@@ -8,17 +8,18 @@ use mathlib.Core.List.{List, [], _∷_, _++_}
 use native.Mathlib.Omega.{arith}
 use lib.ListN.{length, getD}
 use Rattle.covers.specs.Covers.{Cover, Triangle, triangles, cornersOf, vertexOf, patchOf}
-use Rattle.covers.specs.Sets.{Alike, named, triples}
-use Rattle.covers.specs.Reading.{In, Stands, Keyed}
+use Rattle.surface.specs.Threes.{threes}
+use Rattle.covers.specs.Sets.{Alike, named}
+use Rattle.covers.specs.Workings.Reading.{In, Stands, Keyed}
 use Rattle.covers.proofs.Laws.Closed.{Different, covered-key, covered-stands, covered-in, cover-keyed, one-key}
 use Rattle.bars.specs.Bars.{between}
-use Rattle.bars.specs.Chains.{joins, firsts}
+use Rattle.bars.specs.Workings.Chains.{joins, firsts}
 use Rattle.bars.proofs.Laws.Joins.{between-none}
 use Rattle.bars.proofs.Laws.Laid.{laid-same}
 use Rattle.bars.proofs.Laws.Tests.{either-true, or-left, or-right, same-truth}
 use Rattle.bars.proofs.Laws.Triples.{ends-of, between-append, between-one}
-use Rattle.keys.specs.Keys.{Threes}
-use Rattle.keys.specs.Covering.{Covering}
+use Rattle.keys.specs.Workings.Keys.{Threes}
+use Rattle.keys.specs.Workings.Covering.{Covering}
 
 -- u and v are two corners of the triangle
 abbrev sided : Triangle → ℕ → ℕ → Bool
@@ -84,7 +85,7 @@ module _ (vertex : ℕ → ℕ) (u v : ℕ) where
   firsts-within l m f e = let r = firsts-some l e in some-firsts m (r .0) (f (r .0) (r .1)) (r .2)
 
 -- the corners of a set are those of its triangles
-corners-of-triples : (l : List ℕ) (m : ℕ) → length l ≡ 3 * m → cornersOf (λ (x : ℕ). x) (triples l) ≡ l
+corners-of-triples : (l : List ℕ) (m : ℕ) → length l ≡ 3 * m → cornersOf (λ (x : ℕ). x) (threes l) ≡ l
 corners-of-triples [] m e = refl
 corners-of-triples (a ∷ []) m e = absurd (omega arith)
 corners-of-triples (a ∷ b ∷ []) m e = absurd (omega arith)
@@ -95,31 +96,31 @@ pub record Keys (n : ℕ) (vertex : ℕ → ℕ) (s keys : List Triangle) : Type
   pub keyed : (x : Triangle) → In x keys → Keyed n x × Stands s (named vertex x)
   pub all : (t : Triangle) → In t s → (x : Triangle) × In x keys × Keyed n x × Alike t (named vertex x)
 
-module _ (ring set : List ℕ) (different : Different (length ring) (vertexOf ring)) (c : Cover) (h : Covering ring (triples set) c) (u v : ℕ) where
+module _ (ring set : List ℕ) (different : Different (length ring) (vertexOf ring)) (c : Cover) (h : Covering ring (threes set) c) (u v : ℕ) where
   -- the set joins what the cover's listing does
   set-joins : Threes set → between set u v ≡ between (patchOf ring c) u v
   set-joins three =
       ap (λ (l : List ℕ). between l u v) (sym (corners-of-triples set (three .triangles) (three .threes)))
-      ∙ same-truth (between (cornersOf (λ (x : ℕ). x) (triples set)) u v) (between (patchOf ring c) u v)
+      ∙ same-truth (between (cornersOf (λ (x : ℕ). x) (threes set)) u v) (between (patchOf ring c) u v)
       (λ e.
-      let r = between-some (λ (x : ℕ). x) u v (triples set) e in
-      let k = covered-key (length ring) (vertexOf ring) different (triples set) c h (r .0) (r .1) in
+      let r = between-some (λ (x : ℕ). x) u v (threes set) e in
+      let k = covered-key (length ring) (vertexOf ring) different (threes set) c h (r .0) (r .1) in
       some-between (vertexOf ring) u v (triangles 0 (length ring - 1) c) (k .0) (k .1) (sym (sided-alike (r .0) (named (vertexOf ring) (k .0)) u v (k .2)) ∙ r .2))
       (λ e.
       let r = between-some (vertexOf ring) u v (triangles 0 (length ring - 1) c) e in
-      let k = covered-stands (length ring) (vertexOf ring) different (triples set) c h (r .0) (r .1) in
-      some-between (λ (x : ℕ). x) u v (triples set) (k .0) (k .1) (sided-alike (k .0) (named (vertexOf ring) (r .0)) u v (k .2) ∙ r .2))
+      let k = covered-stands (length ring) (vertexOf ring) different (threes set) c h (r .0) (r .1) in
+      some-between (λ (x : ℕ). x) u v (threes set) (k .0) (k .1) (sided-alike (k .0) (named (vertexOf ring) (r .0)) u v (k .2) ∙ r .2))
 
   -- the keys of a cover's set are the cover's triangles, so their first sides join what the cover's do
-  keys-join : (keys : List Triangle) → Keys (length ring) (vertexOf ring) (triples set) keys
+  keys-join : (keys : List Triangle) → Keys (length ring) (vertexOf ring) (threes set) keys
       → joins (firsts (cornersOf (vertexOf ring) keys)) u v ≡ joins (firsts (patchOf ring c)) u v
   keys-join keys k =
       same-truth (joins (firsts (cornersOf (vertexOf ring) keys)) u v) (joins (firsts (patchOf ring c)) u v)
       (firsts-within (vertexOf ring) u v keys (triangles 0 (length ring - 1) c)
-      (λ x g. let y = k .keyed x g in covered-in (length ring) (vertexOf ring) different (triples set) c h x (y .0) (y .1)))
+      (λ x g. let y = k .keyed x g in covered-in (length ring) (vertexOf ring) different (threes set) c h x (y .0) (y .1)))
       (firsts-within (vertexOf ring) u v (triangles 0 (length ring - 1) c) keys
       (λ x g.
-      let y = covered-stands (length ring) (vertexOf ring) different (triples set) c h x g in
+      let y = covered-stands (length ring) (vertexOf ring) different (threes set) c h x g in
       let z = k .all (y .0) (y .1) in
       subst (λ (w : Triangle). In w keys)
       (one-key (length ring) (vertexOf ring) different (y .0) (z .0) x (z .2) (cover-keyed (length ring) c (h .0) x g) (z .3) (y .2))
@@ -128,7 +129,7 @@ module _ (ring set : List ℕ) (different : Different (length ring) (vertexOf ri
   -- with the first sides of its keys the chains tell of the set
   pub keys-same : (input laid : List ℕ) → length laid % 3 ≡ 0
       → ((j : ℕ) → j + 1 < length ring → between input (getD ring j 0) (getD ring (j + 1) 0) ≡ true)
-      → Threes set → (keys : List Triangle) → Keys (length ring) (vertexOf ring) (triples set) keys
+      → Threes set → (keys : List Triangle) → Keys (length ring) (vertexOf ring) (threes set) keys
       → ((between input u v || between laid u v) || joins (firsts (cornersOf (vertexOf ring) keys)) u v) ≡ (between input u v || between (laid ++ set) u v)
   keys-same input laid whole sides three keys k =
       ap (λ (x : Bool). (between input u v || between laid u v) || x) (keys-join keys k)

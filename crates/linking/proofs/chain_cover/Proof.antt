@@ -3,7 +3,7 @@ use Prim.Native.Nat.{_-_, _<_}
 use mathlib.Core.Path.{subst}
 use lib.ListN.{length}
 use Rattle.keys.specs.declared.Key.the-variants.{Of}
-use Rattle.keys.specs.Keys.{Found}
+use Rattle.keys.specs.Workings.Keys.{Found}
 use Rattle.linking.proofs.Laws.Chained.{Linking, linking-begins, linking-room, linking-stops, linking-few, linking-inside, linking-chain, linking-more, linking-ends}
 use borrow.Author.Needs.{needs}
 use native.Mathlib.Omega.{arith}

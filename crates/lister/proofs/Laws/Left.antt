@@ -1,15 +1,15 @@
 -- What is left, cut to what is used, is what can be listed; where a text or a sheet is refused, no loops are.
 use mathlib.Core.Path.{_≡_, refl, sym, ap, _∙_, subst}
 use mathlib.Core.Bool.{Bool, true, false}
-use mathlib.Core.Logic.{_⊎_, inl, inr}
+use mathlib.Core.Logic.{inl, inr}
 use mathlib.Core.List.{List, [], _∷_, map, flatten}
 use Prim.Native.Nat.{ℕ, _<_, _≤_}
 use native.Mathlib.Omega.{arith}
 use lib.ListN.{length, take, getD, length-map, List·getD-map}
 use Rattle.limits.specs.Limits as limits
-use Rattle.terms.specs.Answers.{refusing}
-use Rattle.terms.specs.declared.Answer.{Answer}
-use Rattle.terms.specs.declared.Answer.the-variants.{Line}
+use Rattle.answers.specs.Numbers.{refusing}
+use Rattle.answers.specs.declared.Answer.{Answer}
+use Rattle.answers.specs.declared.Answer.the-variants.{Line}
 use Rattle.surface.specs.Edges.{Sound, startOf}
 use Rattle.surface.specs.Buffers.{over}
 use Rattle.surface.specs.Refusals.{refusal}
@@ -25,13 +25,13 @@ use Rattle.run.proofs.Laws.Grows.{run-length}
 use Rattle.run.proofs.Laws.Lengths.{states-length, weights-length}
 use Rattle.patching.specs.Outcome.{Buffers, Outcome, refused, done, lent, needs, PatchesIf, Patches}
 use Rattle.surface.proofs.Laws.Over.{start-of, front-in}
-use Rattle.texts.specs.Text.{TextOf}
-use Rattle.texts.specs.Fault.{Fault}
-use Rattle.sheet.specs.Sheet.{Three, flat, points, triangles}
+use Rattle.surface.specs.Threes.{flat}
+use Rattle.sheet.specs.Sheet.{points, triangles}
+use Rattle.texts.proofs.Theorems.{Known}
 use Rattle.sheet.proofs.Laws.Texts.{text-or-fault}
-use Rattle.report.specs.Telling.{Lying}
+use Rattle.report.specs.Workings.Telling.{Lying}
 use Rattle.lister.specs.Lists.{Lists, loopsOf}
-use Rattle.lister.specs.Printed.{LoopsIn}
+use Rattle.lister.specs.Workings.Printed.{LoopsIn}
 use Rattle.lister.proofs.Laws.Shows.{loops-many, rings-shown, lengths-shown, states-shown, weights-shown, patches-shown, loops-fit}
 
 -- the buffers are long enough for the counts, and what is used of them can be listed
@@ -148,6 +148,6 @@ module _ (words corners : List ℕ) (b : Buffers) where
 pub lists-listed : (bytes : List ℕ) (b : Buffers) (o : Outcome) → Lists bytes b o → LeftListed o
 lists-listed bytes b o l = go (text-or-fault bytes)
   where
-    go : ((ps : List Three) × (ts : List Three) × TextOf points triangles bytes ps ts) ⊎ ((line : ℕ) × Fault points triangles bytes line) → LeftListed o
+    go : Known points triangles bytes → LeftListed o
     go (inl t) = patches-listed (flat (t .0)) (flat (t .1)) b o (l .of-text (t .0) (t .1) (t .2))
     go (inr f) = subst LeftListed (sym (l .of-fault (f .0) (f .1))) (none-listed (Line (f .0)) b)

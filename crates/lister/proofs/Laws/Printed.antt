@@ -6,41 +6,36 @@ use Prim.Native.Nat.{ℕ, zero, suc, _<_, _≤_}
 use native.Mathlib.Omega.{arith}
 use lib.ListN.{length, getD}
 use Rattle.limits.specs.Limits as limits
-use Rattle.terms.specs.Answers.{refusing}
-use Rattle.terms.specs.declared.Answer.{Answer}
-use Rattle.terms.specs.declared.Answer.the-variants.{Done, Line}
-use Rattle.surface.specs.Refusals.{bufferRefusal, contentRefusal, refusal}
+use Rattle.answers.specs.Numbers.{refusing}
+use Rattle.answers.specs.declared.Answer.{Answer}
+use Rattle.answers.specs.declared.Answer.the-variants.{Line}
+use Rattle.surface.specs.Refusals.{refusal, sheetRefusal}
 use Rattle.surface.proofs.Laws.Thens.{buffers-enough}
+use Rattle.surface.proofs.Laws.Deciding.{buffers-pass}
 use Rattle.survey.specs.Grid.{gridOf}
 use Rattle.run.specs.Fates.{Fate}
 use Rattle.run.specs.Run.{Run, ringList}
 use Rattle.patching.specs.Outcome.{Buffers, Outcome, lent, needs, PatchesIf, Patches}
 use Rattle.texts.specs.Text.{TextOf}
 use Rattle.texts.specs.Fault.{Fault}
-use Rattle.sheet.specs.Sheet.{Three, flat, points, triangles}
-use Rattle.sheet.proofs.Laws.Threes.{flat-length}
+use Rattle.surface.specs.Threes.{Three, flat}
+use Rattle.sheet.specs.Sheet.{points, triangles}
+use Rattle.surface.proofs.Laws.Threes.{flat-length}
 use Rattle.sheet.proofs.Laws.Texts.{parse-text, fault-only, text-once}
 use Rattle.report.specs.Lines.{answerLine}
 use Rattle.report.specs.Listing.{listing}
 use Rattle.lister.specs.Lists.{PrintsIf, Prints}
-use Rattle.lister.specs.Printed.{Full, Printed}
+use Rattle.lister.specs.Workings.Printed.{Full, Printed}
 use Rattle.lister.proofs.Laws.Taken.{never}
 use Rattle.lister.proofs.Laws.Left.{run-listed, run-loops}
-
--- a buffer that is long enough is not refused, so lending it is as lending none
-enough-same : (words corners lent needs : List ℕ) → ((i : ℕ) → i < length needs → getD needs i 0 ≤ getD lent i 0) → refusal words corners lent needs ≡ refusal words corners [] []
-unfolding refusal contentRefusal
-enough-same words corners lent needs h =
-    let a : bufferRefusal lent needs ≡ Done = buffers-enough lent needs h in
-    let b : bufferRefusal [] [] ≡ Done = buffers-enough [] [] (λ i l. absurd (omega (arith, l))) in
-    rw (a, b)
 
 module _ {bytes : List ℕ} {ps ts : List Three} (t : TextOf points triangles bytes ps ts) (b : Buffers) (full : Full b) where
   abbrev answers : Answer
   answers = refusal (flat ps) (flat ts) (lent b) (needs (flat ps) (flat ts))
 
-  none-lent : answers ≡ refusal (flat ps) (flat ts) [] []
-  none-lent = enough-same (flat ps) (flat ts) (lent b) (needs (flat ps) (flat ts)) at-each
+  -- no buffer is too short
+  all-long : answers ≡ sheetRefusal (flat ps) (flat ts)
+  all-long = buffers-pass (flat ps) (flat ts) (lent b) (needs (flat ps) (flat ts)) (buffers-enough (lent b) (needs (flat ps) (flat ts)) at-each)
     where
       few-words : length (flat ps) ≤ limits.words
       few-words = omega (arith, flat-length ps, t .says .first-few)
@@ -65,11 +60,11 @@ module _ {bytes : List ℕ} {ps ts : List Three} (t : TextOf points triangles by
         of-text = λ us vs s. other us vs (text-once t s);
       }
     where
-      other : (us vs : List Three) → (ps ≡ us) × (ts ≡ vs) → PrintsIf (refusing (refusal (flat us) (flat vs) [] [])) (refusal (flat us) (flat vs) [] []) (flat us) (flat vs) out
+      other : (us vs : List Three) → (ps ≡ us) × (ts ≡ vs) → PrintsIf (refusing (sheetRefusal (flat us) (flat vs))) (sheetRefusal (flat us) (flat vs)) (flat us) (flat vs) out
       other us vs e =
-          subst (λ (us : List Three). PrintsIf (refusing (refusal (flat us) (flat vs) [] [])) (refusal (flat us) (flat vs) [] []) (flat us) (flat vs) out) (e .0)
-          (subst (λ (vs : List Three). PrintsIf (refusing (refusal (flat ps) (flat vs) [] [])) (refusal (flat ps) (flat vs) [] []) (flat ps) (flat vs) out) (e .1)
-          (subst (λ (a : Answer). PrintsIf (refusing a) a (flat ps) (flat ts) out) none-lent h))
+          subst (λ (us : List Three). PrintsIf (refusing (sheetRefusal (flat us) (flat vs))) (sheetRefusal (flat us) (flat vs)) (flat us) (flat vs) out) (e .0)
+          (subst (λ (vs : List Three). PrintsIf (refusing (sheetRefusal (flat ps) (flat vs))) (sheetRefusal (flat ps) (flat vs)) (flat ps) (flat vs) out) (e .1)
+          (subst (λ (a : Answer). PrintsIf (refusing a) a (flat ps) (flat ts) out) all-long h))
 
   module _ (o : Outcome) (h : Patches (flat ps) (flat ts) b o) where
     pub text-refused : refusing (o .answer) ≡ true → Printed true bytes o

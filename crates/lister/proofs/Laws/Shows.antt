@@ -11,7 +11,7 @@ use Rattle.covers.proofs.Laws.Corners.{patch-length}
 use Rattle.run.specs.Fates.{Fate, patched, long, uncovered, stateOf, weighs, lays, Meets}
 use Rattle.run.specs.Run.{Run, statesOf, weightsOf, laidBy}
 use Rattle.report.specs.Listing.{Shown}
-use Rattle.report.specs.Telling.{Fits, shown, nothing}
+use Rattle.report.specs.Workings.Telling.{Fits, shown, nothing}
 use Rattle.lister.specs.Lists.{loopsOf}
 
 abbrev pub showOf : List ℤ → List ℕ → Fate → Shown

@@ -3,7 +3,10 @@ use native.Mathlib.Omega.{arith}
 use borrow.Author.Needs.{needs}
 use Rattle.surface.proofs.Laws.Lists.{as-long}
 use Rattle.sheet.proofs.Laws.Rooms.{long-words, long-corners}
-use Rattle.intake.proofs.Laws.Deliver.{kept, few-points, few-triangles}
+use Rattle.texts.proofs.Laws.Scanning.{kept}
+use Rattle.surface.specs.Threes.{flat}
+use Rattle.sheet.specs.Workings.Parse.{parse}
+use Rattle.intake.proofs.Laws.Deliver.{few-points, few-triangles}
 use Rattle.lister.proofs.Laws.Taken.{wrong-lists, whole-lists}
 use Rattle.lister.proofs.list.Statement.{statement}
 use Rattle.lister.proofs.list.Tie as tie
@@ -24,19 +27,19 @@ enum-known-points : tie.Need-enum-known-points
 enum-known-points c = search needs
 
 mul-words : tie.Need-mul-words
-mul-words c = omega (arith, few-points (kept (c .before .before .before .before .before .before .before .before .before .before .before .before .before .before .args .text .now) _ _ _ _ _ _ _ (c .before .before .before .before .before .take-in .ensures) (c .before .points .given .1)), few-triangles (kept (c .before .before .before .before .before .before .before .before .before .before .before .before .before .before .args .text .now) _ _ _ _ _ _ _ (c .before .before .before .before .before .take-in .ensures) (c .before .points .given .1)))
+mul-words c = omega (arith, few-points (kept flat flat parse (c .before .before .before .before .before .before .before .before .before .before .before .before .before .before .args .text .now) _ _ _ _ _ _ _ (c .before .before .before .before .before .take-in .ensures) (c .before .points .given .1)), few-triangles (kept flat flat parse (c .before .before .before .before .before .before .before .before .before .before .before .before .before .before .args .text .now) _ _ _ _ _ _ _ (c .before .before .before .before .before .take-in .ensures) (c .before .points .given .1)))
 
 array-share-prefix-words : tie.Need-array-share-prefix-words
-array-share-prefix-words c = omega (arith, few-points (kept (c .before .before .before .before .before .before .before .before .before .before .before .before .before .before .args .text .now) _ _ _ _ _ _ _ (c .before .before .before .before .before .take-in .ensures) (c .before .points .given .1)), few-triangles (kept (c .before .before .before .before .before .before .before .before .before .before .before .before .before .before .args .text .now) _ _ _ _ _ _ _ (c .before .before .before .before .before .take-in .ensures) (c .before .points .given .1)))
+array-share-prefix-words c = omega (arith, few-points (kept flat flat parse (c .before .before .before .before .before .before .before .before .before .before .before .before .before .before .args .text .now) _ _ _ _ _ _ _ (c .before .before .before .before .before .take-in .ensures) (c .before .points .given .1)), few-triangles (kept flat flat parse (c .before .before .before .before .before .before .before .before .before .before .before .before .before .before .args .text .now) _ _ _ _ _ _ _ (c .before .before .before .before .before .take-in .ensures) (c .before .points .given .1)))
 
 slice-aggregate-patch : tie.Need-slice-aggregate-patch
 slice-aggregate-patch c = as-long _ _ (array-share-prefix-words (c .before))
 
 mul-corners : tie.Need-mul-corners
-mul-corners c = omega (arith, few-points (kept (c .before .before .before .before .before .before .before .before .before .before .before .before .before .before .before .args .text .now) _ _ _ _ _ _ _ (c .before .before .before .before .before .before .take-in .ensures) (c .before .before .points .given .1)), few-triangles (kept (c .before .before .before .before .before .before .before .before .before .before .before .before .before .before .before .args .text .now) _ _ _ _ _ _ _ (c .before .before .before .before .before .before .take-in .ensures) (c .before .before .points .given .1)))
+mul-corners c = omega (arith, few-points (kept flat flat parse (c .before .before .before .before .before .before .before .before .before .before .before .before .before .before .before .args .text .now) _ _ _ _ _ _ _ (c .before .before .before .before .before .before .take-in .ensures) (c .before .before .points .given .1)), few-triangles (kept flat flat parse (c .before .before .before .before .before .before .before .before .before .before .before .before .before .before .before .args .text .now) _ _ _ _ _ _ _ (c .before .before .before .before .before .before .take-in .ensures) (c .before .before .points .given .1)))
 
 array-share-prefix-corners : tie.Need-array-share-prefix-corners
-array-share-prefix-corners c = omega (arith, few-points (kept (c .before .before .before .before .before .before .before .before .before .before .before .before .before .before .before .args .text .now) _ _ _ _ _ _ _ (c .before .before .before .before .before .before .take-in .ensures) (c .before .before .points .given .1)), few-triangles (kept (c .before .before .before .before .before .before .before .before .before .before .before .before .before .before .before .args .text .now) _ _ _ _ _ _ _ (c .before .before .before .before .before .before .take-in .ensures) (c .before .before .points .given .1)))
+array-share-prefix-corners c = omega (arith, few-points (kept flat flat parse (c .before .before .before .before .before .before .before .before .before .before .before .before .before .before .before .args .text .now) _ _ _ _ _ _ _ (c .before .before .before .before .before .before .take-in .ensures) (c .before .before .points .given .1)), few-triangles (kept flat flat parse (c .before .before .before .before .before .before .before .before .before .before .before .before .before .before .before .args .text .now) _ _ _ _ _ _ _ (c .before .before .before .before .before .before .take-in .ensures) (c .before .before .points .given .1)))
 
 slice-aggregate-patch-2 : tie.Need-slice-aggregate-patch-2
 slice-aggregate-patch-2 c = as-long _ _ (array-share-prefix-corners (c .before))
@@ -66,7 +69,7 @@ same-length-6 : tie.Need-same-length-6
 same-length-6 c = search needs
 
 returns-2 : tie.Need-returns-2
-returns-2 c = whole-lists (kept (c .before .before .before .before .before .before .before .before .before .before .before .before .before .before .before .before .before .before .before .before .before .before .before .before .before .before .before .before .before .before .before .before .before .before .args .text .now) _ _ _ _ _ _ _ (c .before .before .before .before .before .before .before .before .before .before .before .before .before .before .before .before .before .before .before .before .before .before .before .before .before .take-in .ensures) (c .before .before .before .before .before .before .before .before .before .before .before .before .before .before .before .before .before .before .before .before .before .points .given .1)) _ _ (c .before .before .before .before .before .before .before .before .before .before .before .patch .ensures)
+returns-2 c = whole-lists (kept flat flat parse (c .before .before .before .before .before .before .before .before .before .before .before .before .before .before .before .before .before .before .before .before .before .before .before .before .before .before .before .before .before .before .before .before .before .before .args .text .now) _ _ _ _ _ _ _ (c .before .before .before .before .before .before .before .before .before .before .before .before .before .before .before .before .before .before .before .before .before .before .before .before .before .take-in .ensures) (c .before .before .before .before .before .before .before .before .before .before .before .before .before .before .before .before .before .before .before .before .before .points .given .1)) _ _ (c .before .before .before .before .before .before .before .before .before .before .before .patch .ensures)
 
 pub list-spec : {M : Type 1} → statement M
 list-spec =

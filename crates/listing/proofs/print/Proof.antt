@@ -4,7 +4,7 @@ use Prim.Native.Nat.{_+_, _≤_}
 use lib.ListN.{length}
 use Rattle.surface.proofs.Laws.Lists.{as-long}
 use Rattle.report.proofs.Laws.Widths.{widest}
-use Rattle.roll.specs.Roll.{Going}
+use Rattle.roll.specs.Workings.Roll.{Going}
 use Rattle.roll.proofs.Laws.Going.{going-begins, going-emptied, going-on, going-within, going-from, going-further}
 use Rattle.listing.proofs.Laws.Ends.{left, last-less, more-less}
 use borrow.Author.Needs.{needs}

@@ -17,6 +17,11 @@ pub record Closed (corners es : List ℕ) : Type 0 where
   pub linked : Linked corners es
   pub closes : (i : ℕ) → suc i ≡ length es → endOf corners (getD es i 0) ≡ startOf corners (getD es 0 0)
 
+-- place by place, each of edges that close ends where the one after it starts
+pub closed-next : (corners es : List ℕ) → Closed corners es → (i : ℕ) → suc i < length es → endOf corners (getD es i 0) ≡ startOf corners (getD es (suc i) 0)
+unfolding Linked
+closed-next corners es c = c .linked
+
 -- es runs from x to y: the first starts at x, each next one where the one before ends, and the last ends at y
 unfoldable pub FromTo : List ℕ → ℕ → List ℕ → ℕ → Type 0
 FromTo corners x [] y = x ≡ y

@@ -10,7 +10,7 @@ use lib.Bits.{bitAnd, bitOr, and-shr, and-mod, or-shr, or-mod, and-mask, shifted
 use lib.Dec.{eqb, leb, ltb, eqb·suc-zero}
 use lib.Pow.{pow-pos, pow-mono, pow-add, high, low, split, field, mod-mod-pow, shr-lt, shl-shr, shr-shr, ones-lt}
 use borrow.Author.Tests.{eq-eqb, ne-eqb, le-leb, lt-leb, lt-ltb, le-ltb, leb-true, leb-false}
-use Rattle.masks.specs.Masks.{bit}
+use Rattle.masks.specs.Workings.Masks.{bit}
 
 le-or-lt : (a b : ℕ) → (a ≤ b) ⊎ (b < a)
 le-or-lt a b = go (leb a b) refl

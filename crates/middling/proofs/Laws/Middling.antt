@@ -13,19 +13,19 @@ use Rattle.surface.proofs.Laws.Laid.{laid-none, laid-length}
 use Rattle.covers.specs.Covers.{Cover, Covers, patchOf}
 use Rattle.covers.proofs.Laws.Corners.{patch-length}
 use Rattle.bars.specs.Bars.{barred}
-use Rattle.bars.specs.Chains.{Tells, LaidRoom, LaidDone, BarsRoom, BarsDone}
+use Rattle.bars.specs.Workings.Chains.{Tells, LaidRoom, LaidDone, BarsRoom, BarsDone}
 use Rattle.bars.proofs.Laws.Barring.{tells-walkable}
 use Rattle.bars.proofs.Laws.Patches.{patch-inside}
 use Rattle.table.specs.declared.Least.{Least}
 use Rattle.table.specs.declared.Least.the-variants.{Weight, Nothing}
-use Rattle.table.specs.Loops.{Barring}
-use Rattle.tracing.specs.Patches.{LaysIf, LaysPatch}
-use Rattle.laying.specs.Patches as laying
+use Rattle.table.specs.Workings.Loops.{Barring}
+use Rattle.tracing.specs.Workings.Patches.{LaysIf, LaysPatch}
+use Rattle.laying.specs.Workings.Patches as laying
 use Rattle.run.specs.Fates.{patched, long, uncovered}
 use Rattle.run.proofs.Laws.Three.{sides-free}
 use Rattle.plain.specs.declared.Became.{Became}
 use Rattle.rounds.proofs.Laws.Bench.{bench-kept}
-use Rattle.middling.specs.Turns.{TurnRoom, Takes}
+use Rattle.middling.specs.Workings.Turns.{TurnRoom, Takes}
 
 -- ---- what is laid stands in its place
 

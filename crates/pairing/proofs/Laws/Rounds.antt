@@ -10,10 +10,10 @@ use Rattle.surface.specs.declared.Found.the-variants.{At, Nothing}
 use Rattle.surface.specs.Smallest.{least}
 use Rattle.surface.specs.Edges.{twin}
 use Rattle.surface.proofs.Laws.Smallest.{At-not-Nothing, least-none}
-use Rattle.twins.specs.Turns.{stops, Room, Turns}
-use Rattle.pairing.specs.Outcome.{Paired}
-use Rattle.twins.specs.Chains.{TurnsBelow, Going}
-use Rattle.pairing.specs.Triangles.{TriangleRoom, TriangleDone}
+use Rattle.twins.specs.Workings.Turns.{stops, Room, Turns}
+use Rattle.pairing.specs.Workings.Outcome.{Paired}
+use Rattle.twins.specs.Workings.Chains.{TurnsBelow, Going}
+use Rattle.pairing.specs.Workings.Triangles.{TriangleRoom, TriangleDone}
 use Rattle.twins.proofs.Laws.Searches.{least-keeps}
 use Rattle.twins.proofs.Laws.Chaining.{chained-begins}
 

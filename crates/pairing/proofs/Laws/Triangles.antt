@@ -9,9 +9,9 @@ use borrow.Author.Tests.{eq-eqb, not-false}
 use Rattle.surface.specs.declared.Found.the-variants.{At, Nothing}
 use Rattle.surface.specs.Edges.{following, startOf, twice, repeats}
 use Rattle.surface.proofs.Laws.Smallest.{At-not-Nothing, least-at}
-use Rattle.twins.specs.Turns.{stops}
-use Rattle.twins.specs.Chains.{Going, PairRoom, PairDone}
-use Rattle.pairing.specs.Triangles.{alike, TriangleRoom, TriangleDone}
+use Rattle.twins.specs.Workings.Turns.{stops}
+use Rattle.twins.specs.Workings.Chains.{Going, PairRoom, PairDone}
+use Rattle.pairing.specs.Workings.Triangles.{alike, TriangleRoom, TriangleDone}
 
 pub repeats-stops : (corners : List ℕ) (h : ℕ) → repeats corners h ≡ true → stops corners h ≡ true
 unfolding stops

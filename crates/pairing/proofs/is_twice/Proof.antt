@@ -2,7 +2,7 @@
 use mathlib.Core.Path.{_≡_}
 use mathlib.Core.Bool.{Bool, false, _||_}
 use borrow.Author.Tests.{eq-eqb, ne-eqb}
-use Rattle.pairing.specs.Triangles.{alike}
+use Rattle.pairing.specs.Workings.Triangles.{alike}
 use Rattle.pairing.proofs.is_twice.Statement.{statement}
 use Rattle.pairing.proofs.is_twice.Tie as tie
 

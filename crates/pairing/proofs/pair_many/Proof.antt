@@ -5,7 +5,7 @@ use native.Mathlib.Omega.{arith}
 use lib.ListN.{length}
 use borrow.Author.Needs.{needs}
 use Rattle.limits.specs.Limits as limits
-use Rattle.pairing.specs.Triangles.{buckets}
+use Rattle.pairing.specs.Workings.Triangles.{buckets}
 use Rattle.pairing.proofs.Laws.Rounds.{Round, round-begins, round-room, round-ends, round-inside, round-stops, round-more}
 use Rattle.pairing.proofs.pair_many.Statement.{statement}
 use Rattle.pairing.proofs.pair_many.Tie as tie

@@ -1,9 +1,7 @@
 -- `patch_many` has room for any surface.
 use lib.Dec.{lit≤}
-use mathlib.Core.Path.{refl, sym}
 use borrow.Author.Needs.{needs}
 use Rattle.patching.proofs.Laws.Patching.{scratch-most}
-use Rattle.patching.specs.Outcome.{buffers}
 use Rattle.patcher.proofs.patch_many.Statement.{statement}
 use Rattle.patcher.proofs.patch_many.Tie as tie
 
@@ -17,7 +15,7 @@ slice-aggregate-patch-with-3 : tie.Need-slice-aggregate-patch-with-3
 slice-aggregate-patch-with-3 c = search needs
 
 patch-with-requires : tie.Need-patch-with-requires
-patch-with-requires c κs = scratch-most _ _ (buffers (c .before .before .before .before .before .before .before .before .before .before .before .before .before .before .before .before .args .grid .now) (c .before .before .before .before .before .before .before .before .before .before .before .before .before .before .before .before .args .rings .now) (c .before .before .before .before .before .before .before .before .before .before .before .before .before .before .before .before .args .lengths .now) (c .before .before .before .before .before .before .before .before .before .before .before .before .before .before .before .before .args .states .now) (c .before .before .before .before .before .before .before .before .before .before .before .before .before .before .before .before .args .weights .now) (c .before .before .before .before .before .before .before .before .before .before .before .before .before .before .before .before .args .patches .now)) _ (sym (c .before .before .before .before .before .before .before .before .before .before .before .before .before .before .before .before .pre)) refl _ _ _ (lit≤ tt) (lit≤ tt) (lit≤ tt)
+patch-with-requires c κs = scratch-most _ _ _ _ _ (c .before .before .before .before .before .before .before .before .before .before .before .before .before .before .before .before .pre) (lit≤ tt) (lit≤ tt) (lit≤ tt)
 
 same-length : tie.Need-same-length
 same-length c = search needs

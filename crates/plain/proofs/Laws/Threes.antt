@@ -7,11 +7,11 @@ use lib.IntN.{ℤ}
 use lib.ListN.{length}
 use Rattle.covers.specs.Covers.{empty, apex, weight}
 use Rattle.weight.specs.Edition.{naturals, triOf, along}
-use Rattle.laying.specs.Patches as laying
+use Rattle.laying.specs.Workings.Patches as laying
 use Rattle.run.specs.Fates.{patched}
 use Rattle.run.proofs.Laws.Three.{three-meets}
 use Rattle.plain.specs.declared.Became.{Became}
-use Rattle.plain.specs.Threes.{ThreeRoom, ThreeTook}
+use Rattle.plain.specs.Workings.Threes.{ThreeRoom, ThreeTook}
 
 pub three-room : (grid : List ℤ) (ring patches : List ℕ) (p : ℕ) → ThreeRoom grid ring patches p → laying.ThreeRoom grid ring patches p
 three-room grid ring patches p r =

@@ -9,14 +9,14 @@ use lib.ListN.{length, getD}
 use borrow.Author.Tests.{not-true, not-false}
 use Rattle.surface.proofs.Laws.Tests.{both-true}
 use Rattle.covers.specs.Covers.{Triangle, on, vertexOf}
-use Rattle.covers.specs.Sets.{triples}
-use Rattle.covers.specs.Reading.{In, Parted}
+use Rattle.surface.specs.Threes.{threes}
+use Rattle.covers.specs.Workings.Reading.{In, Parted}
 use Rattle.covers.proofs.Laws.Listed.{in-cases}
 use Rattle.covers.proofs.Laws.Closed.{covered-parts}
-use Rattle.masks.specs.Masks.{bit}
+use Rattle.masks.specs.Workings.Masks.{bit}
 use Rattle.keys.specs.declared.Key.the-variants.{Of, Not}
-use Rattle.keys.specs.Keys.{Ringed, Threes, Found, tripleAt}
-use Rattle.reading.specs.Rows.{Held, Closes}
+use Rattle.keys.specs.Workings.Keys.{Ringed, Threes, Found, tripleAt}
+use Rattle.reading.specs.Workings.Rows.{Held, Closes}
 use Rattle.reading.proofs.Laws.Tests.{and-both}
 use Rattle.keys.proofs.Laws.Places.{different}
 use Rattle.keys.proofs.Laws.Passed.{Passed, passed-none, passed-room, passed-all, passed-in, passed-more}
@@ -26,8 +26,8 @@ use Rattle.keys.proofs.Laws.Keyed.{keyless}
 pub record Closing (corners marks : List ℕ) (base : ℕ) (rows : List ℕ) (q : ℕ) : Type 0 where
   pub front : List Triangle
   pub passed : Passed corners q front
-  pub parted : (ring : List ℕ) → Ringed ring base marks → Held (length ring) (vertexOf ring) (triples corners) rows
-      → (t : Triangle) → In t front → Parted (length ring) (vertexOf ring) (triples corners) t
+  pub parted : (ring : List ℕ) → Ringed ring base marks → Held (length ring) (vertexOf ring) (threes corners) rows
+      → (t : Triangle) → In t front → Parted (length ring) (vertexOf ring) (threes corners) t
 
 pub closing-begins : (corners marks : List ℕ) (base : ℕ) (rows : List ℕ) → Threes corners → Closing corners marks base rows 0
 closing-begins corners marks base rows t = record { front = []; passed = passed-none corners t; parted = λ ring h z x g. absurd g }
@@ -46,11 +46,11 @@ module _ (corners marks : List ℕ) (base : ℕ) (rows : List ℕ) (q : ℕ) (g 
     closing-more e = record {
       front = g .front ++ (tripleAt corners q ∷ []);
       passed = passed-more corners q (g .front) (g .passed) l;
-      parted = λ ring h z x n. ⊎-elim (g .parted ring h z x) (⊎-elim (λ d. subst (Parted (length ring) (vertexOf ring) (triples corners)) (sym d) (here ring h z)) absurd) (in-cases x (g .front) (tripleAt corners q ∷ []) n);
+      parted = λ ring h z x n. ⊎-elim (g .parted ring h z x) (⊎-elim (λ d. subst (Parted (length ring) (vertexOf ring) (threes corners)) (sym d) (here ring h z)) absurd) (in-cases x (g .front) (tripleAt corners q ∷ []) n);
     }
       where
-        here : (ring : List ℕ) → Ringed ring base marks → Held (length ring) (vertexOf ring) (triples corners) rows
-            → Parted (length ring) (vertexOf ring) (triples corners) (tripleAt corners q)
+        here : (ring : List ℕ) → Ringed ring base marks → Held (length ring) (vertexOf ring) (threes corners) rows
+            → Parted (length ring) (vertexOf ring) (threes corners) (tripleAt corners q)
         here ring h z =
             let y = f .key ring h in
             let b = both-true p s (not-false (p && s) e) in
@@ -73,7 +73,7 @@ module _ (corners marks : List ℕ) (base : ℕ) (rows : List ℕ) (q : ℕ) (g 
         let u : m < k = y .0 .high in
         let r : k < length ring = y .0 .to in
         let x = h .few in
-        let w = covered-parts (length ring) (vertexOf ring) (different ring base marks h) (triples corners) c v (tripleAt corners q) (on i k m)
+        let w = covered-parts (length ring) (vertexOf ring) (different ring base marks h) (threes corners) c v (tripleAt corners q) (on i k m)
         (passed-in corners q (g .front) (g .passed) l) (y .0) (y .1) in
         true≢false
         (sym (and-both p s (ep ∙ z .shows i m (omega arith) (omega arith) (w .0)) (es ∙ z .shows m k (omega arith) (omega arith) (w .1)))

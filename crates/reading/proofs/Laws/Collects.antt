@@ -7,10 +7,10 @@ use lib.Dec.{eqb}
 use lib.ListN.{length, getD, set, length-set}
 use Rattle.limits.specs.Limits as limits
 use Rattle.covers.specs.Covers.{Triangle, vertexOf}
-use Rattle.masks.specs.Masks.{bit}
+use Rattle.masks.specs.Workings.Masks.{bit}
 use Rattle.keys.specs.declared.Key.the-variants.{Of, Not}
-use Rattle.keys.specs.Keys.{Ringed, Threes, Found, tripleAt}
-use Rattle.reading.specs.Rows.{Held, Collects}
+use Rattle.keys.specs.Workings.Keys.{Ringed, Threes, Found, tripleAt}
+use Rattle.reading.specs.Workings.Rows.{Held, Collects}
 use Rattle.keys.proofs.Laws.Places.{different}
 use Rattle.keys.proofs.Laws.Keyed.{keyless}
 use Rattle.reading.proofs.Laws.Rows.{held-more}

@@ -10,17 +10,17 @@ use borrow.Author.Tests.{not-true, not-false}
 use Rattle.limits.specs.Limits as limits
 use Rattle.covers.specs.Covers as covers
 use Rattle.covers.specs.Covers.{Cover, Triangle, Uses, vertexOf}
-use Rattle.covers.specs.Sets.{triples}
-use Rattle.covers.specs.Reading.{Laid}
+use Rattle.surface.specs.Threes.{threes}
+use Rattle.covers.specs.Workings.Reading.{Laid}
 use Rattle.covers.proofs.Laws.Chords.{uses-in}
 use Rattle.covers.proofs.Laws.Closed.{Different, covered-once, covered-whole, used-laid, laid-used, closed-covered}
-use Rattle.masks.specs.Masks.{bit, Rows}
+use Rattle.masks.specs.Workings.Masks.{bit, Rows}
 use Rattle.reading.specs.declared.Reading.{Reading}
 use Rattle.reading.specs.declared.Reading.the-variants.{NoCover, Barred, Allowed}
-use Rattle.keys.specs.Covering.{Covering}
-use Rattle.reading.specs.Reading.{Reads}
-use Rattle.keys.specs.Keys.{Threes}
-use Rattle.reading.specs.Rows.{Readable, SidesFree, Held, Collects, Closes, Clashes}
+use Rattle.keys.specs.Workings.Covering.{Covering}
+use Rattle.reading.specs.Workings.Reading.{ReadsCover}
+use Rattle.keys.specs.Workings.Keys.{Threes}
+use Rattle.reading.specs.Workings.Rows.{Readable, SidesFree, Held, Collects, Closes, Clashes}
 use Rattle.keys.proofs.Laws.Places.{different}
 use Rattle.keys.proofs.Laws.Passed.{triples-length}
 
@@ -28,13 +28,13 @@ use Rattle.keys.proofs.Laws.Passed.{triples-length}
 
 -- a cover cannot use a barred diagonal and none
 torn : (ring : List ℕ) (barred : ℕ → ℕ → Bool) (s : List Triangle) → Different (length ring) (vertexOf ring)
-    → Reads ring barred s Barred → Reads ring barred s Allowed → ⊥
+    → ReadsCover ring barred s Barred → ReadsCover ring barred s Allowed → ⊥
 torn ring barred s d p q =
     let e : p .0 ≡ q .0 = covered-once (length ring) (vertexOf ring) d s (p .0) (q .0) (p .1) (q .1) in
     true≢false (sym (p .5) ∙ q .2 .free (p .2) (p .3) (subst (λ (c : Cover). Uses 0 (length ring - 1) c (p .2) (p .3)) e (p .4)))
 
 pub reads-once : (ring : List ℕ) (barred : ℕ → ℕ → Bool) (s : List Triangle) → Different (length ring) (vertexOf ring) → (x y : Reading)
-    → Reads ring barred s x → Reads ring barred s y → x ≡ y
+    → ReadsCover ring barred s x → ReadsCover ring barred s y → x ≡ y
 reads-once ring barred s d NoCover NoCover p q = refl
 reads-once ring barred s d NoCover Barred p q = absurd (p (q .0) (q .1))
 reads-once ring barred s d NoCover Allowed p q = absurd (p (q .0) (q .1))
@@ -52,7 +52,7 @@ threes-of ring marks base bars set p = record { triangles = length ring - 2; thr
 
 -- what the code has to show
 abbrev pub Answers : List ℕ → List ℕ → List ℕ → Reading → Type 0
-Answers ring bars set r = (barred : ℕ → ℕ → Bool) → Rows (length ring) barred bars → SidesFree (length ring) barred → Reads ring barred (triples set) r
+Answers ring bars set r = (barred : ℕ → ℕ → Bool) → Rows (length ring) barred bars → SidesFree (length ring) barred → ReadsCover ring barred (threes set) r
 
 module _ (ring marks : List ℕ) (base : ℕ) (bars set : List ℕ) (p : Readable ring marks base bars set) where
   d : Different (length ring) (vertexOf ring)
@@ -65,11 +65,11 @@ module _ (ring marks : List ℕ) (base : ℕ) (bars set : List ℕ) (p : Readabl
   read-keyless has₀ has false s c e barred r f = c .collects ring (p .ringed) (s (vertexOf ring))
 
   pub read-held : (has₀ has : List ℕ) (t : Bool) → ((vertex : ℕ → ℕ) → Held (length ring) vertex [] has₀) → Collects set marks base has₀ has t
-      → not t ≡ false → Held (length ring) (vertexOf ring) (triples set) has
+      → not t ≡ false → Held (length ring) (vertexOf ring) (threes set) has
   read-held has₀ has true s c e = c .collects ring (p .ringed) (s (vertexOf ring))
   read-held has₀ has false s c e = absurd (true≢false e)
 
-  module _ (has : List ℕ) (held : Held (length ring) (vertexOf ring) (triples set) has) where
+  module _ (has : List ℕ) (held : Held (length ring) (vertexOf ring) (threes set) has) where
     top-below : length ring - 1 < limits.longest
     top-below = let l = p .many in let u = p .ringed .few in omega arith
 
@@ -77,10 +77,10 @@ module _ (ring marks : List ℕ) (base : ℕ) (bars set : List ℕ) (p : Readabl
     pub read-topless : (t : Bool) → t ≡ bit (getD has 0 0) (length ring - 1) → not t ≡ true → Answers ring bars set NoCover
     read-topless t b e barred r f c v =
         let l = p .many in
-        let w = covered-whole (length ring) (vertexOf ring) d (triples set) c v (omega arith) in
+        let w = covered-whole (length ring) (vertexOf ring) d (threes set) c v (omega arith) in
         true≢false (sym (held .shows 0 (length ring - 1) (omega arith) top-below w) ∙ sym b ∙ not-true t e)
 
-    pub read-top : (t : Bool) → t ≡ bit (getD has 0 0) (length ring - 1) → not t ≡ false → Laid (length ring) (vertexOf ring) (triples set) 0 (length ring - 1)
+    pub read-top : (t : Bool) → t ≡ bit (getD has 0 0) (length ring - 1) → not t ≡ false → Laid (length ring) (vertexOf ring) (threes set) 0 (length ring - 1)
     read-top t b e = let l = p .many in held .tells 0 (length ring - 1) (omega arith) top-below (sym b ∙ not-false t e)
 
     -- a part has none
@@ -88,10 +88,10 @@ module _ (ring marks : List ℕ) (base : ℕ) (bars set : List ℕ) (p : Readabl
     read-open true c e barred r f = absurd (true≢false (sym e))
     read-open false c e barred r f = c ring (p .ringed) held
 
-    module _ (top : Laid (length ring) (vertexOf ring) (triples set) 0 (length ring - 1)) where
-      cover-of : (t : Bool) → Closes set marks base has t → not t ≡ false → (c : Cover) × Covering ring (triples set) c
+    module _ (top : Laid (length ring) (vertexOf ring) (threes set) 0 (length ring - 1)) where
+      cover-of : (t : Bool) → Closes set marks base has t → not t ≡ false → (c : Cover) × Covering ring (threes set) c
       cover-of true c e =
-          closed-covered (length ring) (vertexOf ring) d (triples set) (c ring (p .ringed) held) (triples-length set (length ring - 2) (p .long)) top
+          closed-covered (length ring) (vertexOf ring) d (threes set) (c ring (p .ringed) held) (triples-length set (length ring - 2) (p .long)) top
       cover-of false c e = absurd (true≢false e)
 
       -- a stretch that is set and barred is no side, so it is used
@@ -105,7 +105,7 @@ module _ (ring marks : List ℕ) (base : ℕ) (bars set : List ℕ) (p : Readabl
             ⊎-elim
                 (λ s. absurd (true≢false (sym held-bar ∙ ap (barred (x .0)) s ∙ f (x .0) (x .2))))
                 (λ w. w)
-                (laid-used (length ring) (vertexOf ring) d (triples set) (v .0) (v .1) (x .0) (x .1) (held .tells (x .0) (x .1) (omega (arith, x .2)) (x .3) (x .4))),
+                (laid-used (length ring) (vertexOf ring) d (threes set) (v .0) (v .1) (x .0) (x .1) (held .tells (x .0) (x .1) (omega (arith, x .2)) (x .3) (x .4))),
             held-bar,
           )
         where
@@ -127,6 +127,6 @@ module _ (ring marks : List ℕ) (base : ℕ) (bars set : List ℕ) (p : Readabl
                   let u = p .ringed .few in
                   sym (r .tells a b (omega arith) (omega arith))
                   ∙ x a b (omega arith) (omega arith)
-                  (held .shows a b (omega arith) (omega arith) (used-laid (length ring) (vertexOf ring) d (triples set) (v .0) (v .1) a b w));
+                  (held .shows a b (omega arith) (omega arith) (used-laid (length ring) (vertexOf ring) d (threes set) (v .0) (v .1) a b w));
             },
           )

@@ -1,7 +1,7 @@
 -- Each triangle's two parts are asked for.
 use mathlib.Core.Path.{subst}
 use Rattle.keys.specs.declared.Key.the-variants.{Of}
-use Rattle.keys.specs.Keys.{Found}
+use Rattle.keys.specs.Workings.Keys.{Found}
 use Prim.Native.Nat.{_-_}
 use lib.ListN.{length}
 use Rattle.reading.proofs.Laws.Closes.{Closing, closing-begins, closing-room, closing-keyless, closing-more, closing-stops, closing-ends}

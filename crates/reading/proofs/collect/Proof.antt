@@ -1,7 +1,7 @@
 -- Each triangle's key is added to the rows.
 use mathlib.Core.Path.{subst}
 use Rattle.keys.specs.declared.Key.the-variants.{Of}
-use Rattle.keys.specs.Keys.{Found}
+use Rattle.keys.specs.Workings.Keys.{Found}
 use Prim.Native.Nat.{_-_}
 use lib.ListN.{length}
 use Rattle.reading.proofs.Laws.Collects.{Collecting, collecting-begins, collecting-room, collecting-stops, collecting-more, collecting-ends}

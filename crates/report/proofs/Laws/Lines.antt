@@ -7,14 +7,11 @@ use lib.ListN.{length, drop, getD, length-append, drop-of-length-le}
 use lib.Seq.{drop-cons}
 use Rattle.surface.specs.Buffers.{laid}
 use Rattle.digits.specs.Numeral.{size, decimal}
+use Rattle.digits.proofs.Laws.Exactly.{ended-length}
 use Rattle.texts.specs.Text.{feed}
 use Rattle.sheet.specs.Sheet.{comma}
 use Rattle.report.specs.Lines.{joined, line}
-use Rattle.report.proofs.Laws.Digits.{length-decimal}
-use Rattle.report.proofs.Laws.Laying.{Laying, laying-begins, laying-room, laying-more}
-
-pub length-ended : (n e : ℕ) → length (decimal n ++ (e ∷ [])) ≡ size n + 1
-length-ended n e = omega (arith, length-append (decimal n) (e ∷ []), length-decimal n)
+use Rattle.digits.proofs.Laws.Laying.{Laying, laying-begins, laying-room, laying-more}
 
 -- the number that comes first, with the byte that ends it
 pub joined-next : (a b : ℕ) (l : List ℕ) → joined (a ∷ b ∷ l) ≡ (decimal a ++ (comma ∷ [])) ++ joined (b ∷ l)
@@ -36,10 +33,10 @@ line-length key l = length-append key (joined l)
 
 pub next-length : (a b : ℕ) (l : List ℕ) → length (joined (a ∷ b ∷ l)) ≡ size a + 1 + length (joined (b ∷ l))
 next-length a b l =
-    omega (arith, ap length (joined-next a b l), length-append (decimal a ++ (comma ∷ [])) (joined (b ∷ l)), length-ended a comma)
+    omega (arith, ap length (joined-next a b l), length-append (decimal a ++ (comma ∷ [])) (joined (b ∷ l)), ended-length a comma)
 
 pub last-length : (a : ℕ) → length (joined (a ∷ [])) ≡ size a + 1
-last-length a = omega (arith, ap length (joined-last a), length-append (decimal a ++ (feed ∷ [])) (joined []), length-ended a feed, ap length joined-none)
+last-length a = omega (arith, ap length (joined-last a), length-append (decimal a ++ (feed ∷ [])) (joined []), ended-length a feed, ap length joined-none)
 
 module _ (key : List ℕ) (a : ℕ) where
   pub one-length : length (line key (a ∷ [])) ≡ length key + size a + 1
@@ -62,18 +59,18 @@ key-put key l before at h q n = laying-more (laying-begins (line key l) before a
 -- a number that is not the last
 module _ {whole before out : List ℕ} {at place : ℕ} (a b : ℕ) (l : List ℕ) (g : Laying whole at before (joined (a ∷ b ∷ l)) place out) where
   pub next-room : place + size a + 1 ≤ length out
-  next-room = omega (arith, laying-room g (decimal a ++ (comma ∷ [])) (joined (b ∷ l)) (joined-next a b l), length-ended a comma)
+  next-room = omega (arith, laying-room g (decimal a ++ (comma ∷ [])) (joined (b ∷ l)) (joined-next a b l), ended-length a comma)
 
   pub next-put : {after : List ℕ} {next : ℕ} → after ≡ laid place (decimal a ++ (comma ∷ [])) out → next ≡ place + size a + 1 → Laying whole at before (joined (b ∷ l)) next after
-  next-put q n = laying-more g (decimal a ++ (comma ∷ [])) (joined (b ∷ l)) (joined-next a b l) q (omega (arith, n, length-ended a comma))
+  next-put q n = laying-more g (decimal a ++ (comma ∷ [])) (joined (b ∷ l)) (joined-next a b l) q (omega (arith, n, ended-length a comma))
 
 -- and the last
 module _ {whole before out : List ℕ} {at place : ℕ} (a : ℕ) (g : Laying whole at before (joined (a ∷ [])) place out) where
   pub last-room : place + size a + 1 ≤ length out
-  last-room = omega (arith, laying-room g (decimal a ++ (feed ∷ [])) (joined []) (joined-last a), length-ended a feed)
+  last-room = omega (arith, laying-room g (decimal a ++ (feed ∷ [])) (joined []) (joined-last a), ended-length a feed)
 
   pub last-put : {after : List ℕ} {next : ℕ} → after ≡ laid place (decimal a ++ (feed ∷ [])) out → next ≡ place + size a + 1 → Laying whole at before (joined []) next after
-  last-put q n = laying-more g (decimal a ++ (feed ∷ [])) (joined []) (joined-last a) q (omega (arith, n, length-ended a feed))
+  last-put q n = laying-more g (decimal a ++ (feed ∷ [])) (joined []) (joined-last a) q (omega (arith, n, ended-length a feed))
 
 -- numbers of a list, one by one
 module _ (l : List ℕ) (i : ℕ) where
@@ -104,10 +101,10 @@ module _ (l : List ℕ) (i : ℕ) where
 
 module _ {whole before out l : List ℕ} {at place i : ℕ} (g : Laying whole at before (joined (drop i l)) place out) (h : i < length l) (e : ℕ) (k : Ends l i e) where
   pub number-room : place + size (getD l i 0) + 1 ≤ length out
-  number-room = omega (arith, laying-room g (decimal (getD l i 0) ++ (e ∷ [])) (joined (drop (i + 1) l)) (joined-at l i h k), length-ended (getD l i 0) e)
+  number-room = omega (arith, laying-room g (decimal (getD l i 0) ++ (e ∷ [])) (joined (drop (i + 1) l)) (joined-at l i h k), ended-length (getD l i 0) e)
 
   pub number-put : {after : List ℕ} {next : ℕ} → after ≡ laid place (decimal (getD l i 0) ++ (e ∷ [])) out → next ≡ place + size (getD l i 0) + 1 → Laying whole at before (joined (drop (i + 1) l)) next after
-  number-put q n = laying-more g (decimal (getD l i 0) ++ (e ∷ [])) (joined (drop (i + 1) l)) (joined-at l i h k) q (omega (arith, n, length-ended (getD l i 0) e))
+  number-put q n = laying-more g (decimal (getD l i 0) ++ (e ∷ [])) (joined (drop (i + 1) l)) (joined-at l i h k) q (omega (arith, n, ended-length (getD l i 0) e))
 
 pub joined-over : (l : List ℕ) (i : ℕ) → length l ≤ i → joined (drop i l) ≡ []
 joined-over l i h = ap joined (drop-of-length-le l h) ∙ joined-none

@@ -11,7 +11,7 @@ use mir.Syntax.{w16, w64}
 use Rattle.surface.specs.Buffers.{laid}
 use Rattle.report.specs.declared.Mark.{Mark}
 use Rattle.report.specs.Listing.{Shown, loopLines}
-use Rattle.report.specs.Telling.{shown, nothing, next, NextRoom, Tells}
+use Rattle.report.specs.Workings.Telling.{shown, nothing, next, NextRoom, Tells}
 use Rattle.report.proofs.Laws.Parts.{part-is, part-within, part-next}
 use Rattle.report.proofs.Laws.Widths.{widest, short-part, loop-wide}
 

@@ -14,8 +14,9 @@ use Rattle.limits.specs.Limits as limits
 use Rattle.digits.specs.Numeral.{size}
 use Rattle.report.specs.Lines.{line, joined, loop=, ring=, patch=}
 use Rattle.report.specs.Listing.{Shown, patchLines, loopLines}
-use Rattle.report.specs.Telling.{Fits}
+use Rattle.report.specs.Workings.Telling.{Fits}
 use Rattle.report.proofs.Laws.Digits.{size-word, size-short}
+use Rattle.report.proofs.put_next.⟦WIDEST⟧-asked.Lts as for-widest
 use Rattle.report.proofs.Laws.Lines.{joined-none, line-length, next-length, last-length, three-length}
 
 -- every number is one of 16 bits
@@ -56,9 +57,9 @@ share-few s f = go (eqb (s .state) 1) refl
     go true e = let z : length (s .patch) ≡ 3 * (length (s .ring) - 2) = f .share ∙ rw e in omega (arith, f .patched (eqb-true _ _ e))
     go false e = let z : length (s .patch) ≡ 0 = f .share ∙ rw e in omega arith
 
--- a line's width, six for each vertex of the longest ring, and 24 for each triangle of the greatest patch
+-- how wide the code says that they can be
 abbrev pub widest : ℕ
-widest = 48 + 6 * limits.corners + 24 * limits.longest
+widest = for-widest.answer tt tt
 
 pub loop-wide : (s : Shown) → Fits s → Short (s .ring) → Short (s .patch) → val.Fits w16 (s .state) → val.Fits w64 (s .weight) → length (loopLines s) ≤ widest
 unfolding loopLines

@@ -1,7 +1,7 @@
 -- `put_next`: the parts of the buffers that are handed on are the next loop's.
 use native.Mathlib.Omega.{arith}
 use borrow.Author.Needs.{needs}
-use Rattle.report.specs.Telling.{TellsNext}
+use Rattle.report.specs.Workings.Telling.{TellsNext}
 use Rattle.report.proofs.Laws.Nexts.{within-lengths, within-states, within-weights, two-edges, ring-within, patch-within, next-wide, next-tells}
 use Rattle.report.proofs.put_next.Statement.{statement}
 use Rattle.report.proofs.put_next.Tie as tie

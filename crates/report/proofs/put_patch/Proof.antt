@@ -5,7 +5,7 @@ use lib.ListN.{length, drop}
 use borrow.Author.Needs.{needs}
 use Rattle.report.specs.Listing.{patchLines}
 use Rattle.report.proofs.Laws.Patches.{patch-room, patch-put, patch-over}
-use Rattle.report.proofs.Laws.Laying.{Laying, laying-begins, laying-ends}
+use Rattle.digits.proofs.Laws.Laying.{Laying, laying-begins}
 use Rattle.report.proofs.put_patch.Statement.{statement}
 use Rattle.report.proofs.put_patch.Tie as tie
 
@@ -79,7 +79,7 @@ same-length : tie.Need-same-length Inv-loop μ-loop
 same-length c = search needs
 
 returns : tie.Need-returns Inv-loop μ-loop
-returns c = laying-ends (c .before .loop .inv .1) (patch-over (c .before .before .before .before .args .patch .now) (c .before .loop .i) (c .loop-test .left))
+returns c = patch-over (c .before .before .before .before .args .patch .now) (c .before .loop .i) (c .before .loop .inv .1) (c .loop-test .left)
 
 pub put-patch-spec : {M : Type 1} → statement M
 put-patch-spec =

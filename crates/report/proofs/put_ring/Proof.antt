@@ -7,7 +7,7 @@ use lib.ListN.{length, drop}
 use borrow.Author.Needs.{needs}
 use Rattle.report.specs.Lines.{joined, ring=}
 use Rattle.report.proofs.Laws.Lines.{by-comma, by-feed, joined-over, line-begins, key-put, number-room, number-put}
-use Rattle.report.proofs.Laws.Laying.{Laying, laying-left, laying-last, laying-ends}
+use Rattle.digits.proofs.Laws.Laying.{Laying, laying-left, laying-last, laying-ends}
 use Rattle.report.proofs.put_ring.Statement.{statement}
 use Rattle.report.proofs.put_ring.Tie as tie
 

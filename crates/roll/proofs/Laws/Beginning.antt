@@ -5,13 +5,13 @@ use mathlib.Core.List.{List, [], _∷_}
 use Prim.Native.Nat.{ℕ, _+_}
 use native.Mathlib.Omega.{arith}
 use lib.ListN.{length, length-append}
-use Rattle.terms.specs.Answers.{refusing}
-use Rattle.terms.specs.declared.Answer.{Answer}
+use Rattle.answers.specs.Numbers.{refusing}
+use Rattle.answers.specs.declared.Answer.{Answer}
 use Rattle.surface.specs.Buffers.{over, laid}
 use Rattle.surface.proofs.Laws.Laid.{laid-over}
 use Rattle.report.specs.declared.Mark.{Mark}
 use Rattle.report.specs.Lines.{line, answerLine, loops=}
-use Rattle.roll.specs.Roll.{Begins}
+use Rattle.roll.specs.Workings.Roll.{Begins}
 
 -- no loop was told
 abbrev Starts : Mark → ℕ → Type 0

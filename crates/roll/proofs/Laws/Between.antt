@@ -6,8 +6,8 @@ use native.Mathlib.Numerals.{add-one}
 use native.Mathlib.Omega.{arith}
 use lib.ListN.{length, getD}
 use Rattle.report.specs.Listing.{Shown, loopLines}
-use Rattle.report.specs.Telling.{nothing}
-use Rattle.roll.specs.Roll.{between}
+use Rattle.report.specs.Workings.Telling.{nothing}
+use Rattle.roll.specs.Pieces.{between}
 
 pub between-none : (k : ℕ) (loops : List Shown) → between k k loops ≡ []
 unfolding flatten

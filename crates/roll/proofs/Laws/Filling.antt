@@ -10,8 +10,9 @@ use Rattle.surface.specs.Buffers.{laid}
 use Rattle.surface.proofs.Laws.Laid.{laid-none, laid-then}
 use Rattle.report.specs.declared.Mark.{Mark}
 use Rattle.report.specs.Listing.{loopLines}
-use Rattle.report.specs.Telling.{next, NextRoom, TellsNext}
-use Rattle.roll.specs.Roll.{Going, between, Puts, FillsOn}
+use Rattle.report.specs.Workings.Telling.{next, NextRoom, TellsNext}
+use Rattle.roll.specs.Pieces.{between}
+use Rattle.roll.specs.Workings.Roll.{Going, Puts, FillsOn}
 use Rattle.roll.proofs.Laws.Between.{between-none, between-more}
 
 module _ (most : ℕ) (rings lengths states weights patches : List ℕ) (count : ℕ) (m : Mark) (g : Going rings lengths states weights patches count m) (before : List ℕ) where

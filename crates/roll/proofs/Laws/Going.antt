@@ -6,11 +6,12 @@ use Prim.Native.Nat.{ℕ, _+_, _<_, _≤_}
 use native.Mathlib.Nat.{eq-or-lt-of-le}
 use native.Mathlib.Omega.{arith}
 use lib.ListN.{length, take}
-use Rattle.terms.specs.declared.Answer.{Answer}
+use Rattle.answers.specs.declared.Answer.{Answer}
 use Rattle.report.specs.declared.Mark.{Mark}
 use Rattle.report.specs.Listing.{Shown}
-use Rattle.roll.specs.Listed.{Listed}
-use Rattle.roll.specs.Roll.{Begins, Going, between, Fills, FillsOn}
+use Rattle.roll.specs.Workings.Listed.{Listed}
+use Rattle.roll.specs.Pieces.{between}
+use Rattle.roll.specs.Workings.Roll.{Begins, Going, Fills, FillsOn}
 use Rattle.roll.proofs.Laws.Between.{between-none}
 
 -- where a loop is left and there is room for it, it is told

@@ -1,15 +1,15 @@
--- The bench at the start, the room on it for each ring, and the bench that a loop which lays nothing leaves to the next one.
+-- The bench at the start, the room on it for each ring, and the bench that a loop leaves to the next one.
 use mathlib.Core.Path.{_≡_, refl, sym, ap, _∙_, subst}
 use mathlib.Core.List.{List, [], _++_, append-nil}
-use Prim.Native.Nat.{ℕ, zero, suc, _+_, _*_, _%_, _<_, _≤_}
+use Prim.Native.Nat.{ℕ, zero, suc, _+_, _-_, _*_, _%_, _<_, _≤_}
 use native.Mathlib.Omega.{arith}
 use lib.Ieee.{Float}
 use lib.ListN.{length, getD, replicate, length-replicate}
 use Rattle.limits.specs.Limits as limits
-use Rattle.bars.specs.Chains.{Tells, InputRoom}
-use Rattle.column.specs.Columns.{Table}
-use Rattle.rounds.specs.Rings.{Input}
-use Rattle.rounds.specs.Bench.{Bench, BenchRoom}
+use Rattle.bars.specs.Workings.Chains.{Tells, InputRoom}
+use Rattle.column.specs.Workings.Columns.{Table}
+use Rattle.rounds.specs.Workings.Rings.{Input}
+use Rattle.rounds.specs.Workings.Bench.{Bench, BenchRoom}
 
 -- an array of zeros
 abbrev pub noughts : ℕ → List ℕ
@@ -38,7 +38,7 @@ input-room input i =
       ends-room = omega arith;
     }
 
-pub bench-begins : (input heads links ends : List ℕ) (table : List Float) → Table table → Tells input [] (length input) heads links ends
+bench-begins : (input heads links ends : List ℕ) (table : List Float) → Table table → Tells input [] (length input) heads links ends
     → Bench input [] (length input) heads links ends (noughts limits.points) 1 (noughts limits.longest) table
 bench-begins input heads links ends table long t = record {
   tells = t;
@@ -50,12 +50,46 @@ bench-begins input heads links ends table long t = record {
 }
 
 -- behind the diagonals of r ring vertices, which are no more than these
-pub ring-room : (input ring links ends : List ℕ) (r e : ℕ) → Input input → 3 ≤ length ring → r + length ring ≤ limits.corners → e ≤ length input + r
+ring-room : (input ring links ends : List ℕ) (r e : ℕ) → Input input → 3 ≤ length ring → r + length ring ≤ limits.corners → e ≤ length input + r
     → length links ≡ edgesMost → length ends ≡ edgesMost → BenchRoom ring links ends (r + 1) e
 ring-room input ring links ends r e i three few edges ll le =
     let a : length input ≤ limits.corners = i .few in
     record { links-room = omega arith; ends-room = omega arith; few-edges = omega arith; few-marks = omega arith }
 
+-- the bench stands ready behind r ring vertices: the chains are as long as they were, and hold no more diagonals than vertices were read
+pub record Standing (input laid : List ℕ) (r e : ℕ) (heads links ends marks rows : List ℕ) (table : List Float) : Type 0 where
+  pub links-long : length links ≡ edgesMost
+  pub ends-long : length ends ≡ edgesMost
+  pub bench : Bench input laid e heads links ends marks (r + 1) rows table
+  pub edges-few : e ≤ length input + r
+
+pub standing-begins : (input heads links ends : List ℕ) (table : List Float) → length links ≡ edgesMost → length ends ≡ edgesMost → Table table
+    → Tells input [] (length input) heads links ends → Standing input [] 0 (length input) heads links ends (noughts limits.points) (noughts limits.longest) table
+standing-begins input heads links ends table ll le lt t = record {
+  links-long = ll;
+  ends-long = le;
+  bench = bench-begins input heads links ends table lt t;
+  edges-few = omega arith;
+}
+
+module _ (input laid : List ℕ) (r e : ℕ) (heads links ends marks rows : List ℕ) (table : List Float) (s : Standing input laid r e heads links ends marks rows table) (ring : List ℕ) where
+  -- it has room for the next ring,
+  pub standing-room : Input input → 3 ≤ length ring → r + length ring ≤ limits.corners → BenchRoom ring links ends (r + 1) e
+  standing-room i three few = ring-room input ring links ends r e i three few (s .edges-few) (s .links-long) (s .ends-long)
+
+  -- and behind that ring it stands as that ring's turn left it
+  pub standing-next : (laid′ : List ℕ) (r′ f : ℕ) (heads′ links′ ends′ marks′ rows′ : List ℕ) (table′ : List Float) → r′ ≡ r + length ring → length links′ ≡ length links → length ends′ ≡ length ends
+      → f ≤ e + (length ring - 2) → Bench input laid′ f heads′ links′ ends′ marks′ (r + 1 + length ring) rows′ table′ → Standing input laid′ r′ f heads′ links′ ends′ marks′ rows′ table′
+  standing-next laid′ r′ f heads′ links′ ends′ marks′ rows′ table′ q kl ke few b =
+      let x : e ≤ length input + r = s .edges-few in
+      record {
+        links-long = kl ∙ s .links-long;
+        ends-long = ke ∙ s .ends-long;
+        bench = subst (λ (i : ℕ). Bench input laid′ f heads′ links′ ends′ marks′ i rows′ table′) (omega arith) b;
+        edges-few = omega arith;
+      }
+
+-- a loop that lays nothing leaves the bench as it was
 pub bench-kept : (input before : List ℕ) (e f : ℕ) (heads links ends marks marks′ : List ℕ) (base base′ : ℕ) (rows rows′ : List ℕ) (table table′ : List Float)
     → Bench input before e heads links ends marks base rows table → f ≡ e → length marks′ ≡ limits.points → ((v : ℕ) → getD marks′ v 0 < base′)
     → length rows′ ≡ limits.longest → length table′ ≡ length table → Bench input (before ++ []) f heads links ends marks′ base′ rows′ table′

@@ -6,7 +6,7 @@ use native.Mathlib.Omega.{arith}
 use lib.ListN.{length, getD}
 use borrow.Author.Count.{below-more}
 use Rattle.limits.specs.Limits as limits
-use Rattle.rounds.specs.Rings.{Plain}
+use Rattle.rounds.specs.Workings.Rings.{Plain}
 
 -- those below l are
 pub record PlainBelow (lengths : List ℕ) (l : ℕ) : Type 0 where

@@ -11,7 +11,7 @@ use lib.Seq.{take-suc, drop-cons, drop-append-add, take-append-seam}
 use Rattle.limits.specs.Limits as limits
 use Rattle.surface.proofs.Laws.Lists.{flatten-append}
 use Rattle.loops.proofs.Laws.Kept.{flatten-snoc}
-use Rattle.rounds.specs.Rings.{Loops, RingPlace}
+use Rattle.rounds.specs.Workings.Rings.{Loops, RingPlace}
 
 -- behind the first l rings stands the next one
 pub ring-next : (rs : List (List ℕ)) (l : ℕ) → l < length rs → flatten (take (l + 1) rs) ≡ flatten (take l rs) ++ getD rs l []

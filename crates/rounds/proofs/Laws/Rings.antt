@@ -24,16 +24,16 @@ use Rattle.surface.proofs.Laws.Smallest.{least-never, index-any}
 use Rattle.surface.proofs.Laws.Edges.{runs-from}
 use Rattle.loops.specs.Loops.{loops, ring}
 use Rattle.loops.proofs.Laws.Distinct.{Distinct}
-use Rattle.loops.proofs.Laws.Linked.{Linked, Closed}
+use Rattle.loops.proofs.Laws.Linked.{Closed, closed-next}
 use Rattle.loops.proofs.Theorems.{three-or-more, no-vertex-twice, loop-closes, one-loop, vertices-in-all, vertices-few, loops-third}
 use Rattle.cutting.specs.Listing.{ringsOf}
 use Rattle.survey.specs.Grid.{wholeOf, gridOf, OnGrid}
-use Rattle.survey.specs.Checks.{Woven}
+use Rattle.survey.specs.Workings.Checks.{Woven}
 use Rattle.weight.specs.Weight.{Coordinate, Coordinates}
 use Rattle.bars.specs.Bars.{edge, between}
 use Rattle.bars.proofs.Laws.Tests.{or-left}
 use Rattle.run.specs.Run.{ringList}
-use Rattle.rounds.specs.Rings.{RingOf, Loops}
+use Rattle.rounds.specs.Workings.Rings.{RingOf, Loops}
 
 -- a ring is as long as its loop
 lengths-kept : (corners : List ℕ) (ls : List (List ℕ)) → map length ls ≡ map length (map (ring corners) ls)
@@ -95,12 +95,8 @@ module _ (words corners table : List ℕ) (woven : Woven corners (length words /
       let m : j < length loop = omega (arith, long) in
       subst (λ (v : ℕ). v < length words / 3) (sym (at j m)) (woven .named (getD loop j 0) (edge-in j m))
 
-  next-of : (j : ℕ) → suc j < length loop → endOf corners (getD loop j 0) ≡ startOf corners (getD loop (suc j) 0)
-  unfolding Linked
-  next-of = closed .linked
-
   side : (j : ℕ) → suc j < length loop → between corners (getD (ring corners loop) j 0) (getD (ring corners loop) (suc j) 0) ≡ true
-  side j k = joined corners _ _ (getD loop j 0) (edge-in j (omega arith)) (sym (at j (omega arith))) (next-of j k ∙ sym (at (suc j) k))
+  side j k = joined corners _ _ (getD loop j 0) (edge-in j (omega arith)) (sym (at j (omega arith))) (closed-next corners loop closed j k ∙ sym (at (suc j) k))
 
   closing-side : (j : ℕ) → suc j ≡ length loop → between corners (getD (ring corners loop) j 0) (getD (ring corners loop) 0 0) ≡ true
   closing-side j k =

@@ -8,16 +8,18 @@ use lib.ListN.{length}
 use Rattle.limits.specs.Limits as limits
 use Rattle.covers.proofs.Laws.Best.{patch-unique}
 use Rattle.weight.specs.Edition.{naturals, triOf, along}
+use Rattle.weight.proofs.Laws.Naturals.{naturals-lawful}
 use Rattle.bars.specs.Bars.{barred}
 use Rattle.run.specs.Fates.{Fate, patched, long, uncovered, lays, Meets}
 use Rattle.run.specs.Run.{Run}
 
-no-longer : (ring : List ℕ) → length ring ≤ limits.longest → limits.longest < length ring → ⊥
+-- no ring is longer than the longest that is patched, and not longer
+pub no-longer : (ring : List ℕ) → length ring ≤ limits.longest → limits.longest < length ring → ⊥
 no-longer ring a b = omega arith
 
 pub meets-once : (grid : List ℤ) (input laid ring : List ℕ) (f g : Fate) → Meets grid input laid ring f → Meets grid input laid ring g → f ≡ g
 meets-once grid input laid ring (patched c) (patched d) p q =
-    ap patched (patch-unique naturals (triOf (along grid ring)) (barred input laid ring) 0 (length ring - 1) c d (p .1) (q .1))
+    ap patched (patch-unique naturals naturals-lawful (triOf (along grid ring)) (barred input laid ring) 0 (length ring - 1) c d (p .1) (q .1))
 meets-once grid input laid ring (patched c) long p q = absurd (no-longer ring (p .0) q)
 meets-once grid input laid ring (patched c) uncovered p q = absurd (q .1 c (p .1 .among))
 meets-once grid input laid ring long (patched d) p q = absurd (no-longer ring (q .0) p)

@@ -11,7 +11,7 @@ use borrow.Author.Tests.{eqb-true}
 use Rattle.surface.proofs.Laws.Tests.{both-true, not-so}
 use Rattle.covers.specs.Covers.{empty, apex, patchOf}
 use Rattle.bars.specs.Bars.{between}
-use Rattle.bars.specs.Chains.{Tells}
+use Rattle.bars.specs.Workings.Chains.{Tells}
 use Rattle.bars.proofs.Laws.Tests.{either-true}
 use Rattle.bars.proofs.Laws.Triples.{ends-of, between-append, between-turned, between-one}
 

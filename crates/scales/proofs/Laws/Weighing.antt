@@ -12,7 +12,8 @@ use mir.Syntax.{w64}
 use mir.Val.{Fits}
 use Rattle.limits.specs.Limits as limits
 use Rattle.covers.specs.Covers.{Cover, empty, apex, Triangle, triangles, weight, vertexOf}
-use Rattle.covers.specs.Sets.{Alike, Lists, named, triples}
+use Rattle.surface.specs.Threes.{threes}
+use Rattle.covers.specs.Sets.{Alike, ListsTriangles, named}
 use Rattle.covers.proofs.Laws.Sets.{corners-of}
 use Rattle.covers.proofs.Laws.Listed.{listed-of}
 use Rattle.covers.proofs.Laws.Closed.{in-named, begun, below, cover-keyed}
@@ -20,9 +21,9 @@ use Rattle.weight.specs.Weight.{pointOf, Coordinates, Names}
 use Rattle.weight.specs.Edition.{naturals, triOf, along}
 use Rattle.weight.proofs.Laws.Bounds.{heaviest, weight-most, weight-turned}
 use Rattle.weight.proofs.Laws.Named.{named-on-grid}
-use Rattle.keys.specs.Covering.{Covering}
-use Rattle.scales.specs.Weighing.{namedWeight, setWeight, AllNamed}
-use Rattle.keys.specs.Keys.{Threes, tripleAt}
+use Rattle.keys.specs.Workings.Covering.{Covering}
+use Rattle.scales.specs.Workings.Weighing.{namedWeight, setWeight, AllNamed}
+use Rattle.keys.specs.Workings.Keys.{Threes, tripleAt}
 use Rattle.keys.proofs.Laws.Passed.{Passed, passed-none, passed-room, passed-all, passed-more, every-corner}
 
 module _ (grid : List ℤ) where
@@ -49,7 +50,7 @@ module _ (grid : List ℤ) where
       ∙ weight-turned (pointOf grid (y .first)) (pointOf grid (y .second)) (pointOf grid (y .third))
 
   -- any order, each begun at any corner
-  pub listed-weight : (ts s : List Triangle) → Lists s ts → setWeight grid s ≡ setWeight grid ts
+  pub listed-weight : (ts s : List Triangle) → ListsTriangles s ts → setWeight grid s ≡ setWeight grid ts
   listed-weight [] s h = ap (setWeight grid) h
   listed-weight (t ∷ ts) s h =
       omega (
@@ -81,11 +82,11 @@ module _ (grid : List ℤ) where
 
 -- the corners of a cover's set are vertices of the ring, so they name points if those do
 pub cover-named : (grid : List ℤ) (ring set : List ℕ) (c : Cover) → ((j : ℕ) → j < length ring → Names grid (getD ring j 0))
-    → Threes set → Covering ring (triples set) c → AllNamed grid set
+    → Threes set → Covering ring (threes set) c → AllNamed grid set
 cover-named grid ring set c names h v =
     every-corner (Names grid) set (h .triangles) (h .threes)
     (λ t g.
-    let x = listed-of (map (named (vertexOf ring)) (triangles 0 (length ring - 1) c)) (triples set) (v .1) t g in
+    let x = listed-of (map (named (vertexOf ring)) (triangles 0 (length ring - 1) c)) (threes set) (v .1) t g in
     let y = in-named (vertexOf ring) (triangles 0 (length ring - 1) c) (x .0) (x .1) in
     let z = begun (vertexOf ring) t (y .0) (subst (Alike t) (y .2) (x .2)) in
     let b = below (length ring) (z .0) (y .0) (cover-keyed (length ring) c (v .0) (y .0) (y .1)) (z .1) in
@@ -115,7 +116,7 @@ module _ (grid : List ℤ) (corners : List ℕ) (q total : ℕ) (near : Coordina
   pub weighed-room : q < length corners → q + 3 ≤ length corners
   weighed-room l = passed-room corners q (h .front) (h .passed) l
 
-  pub weighed-ends : length corners ≤ q → total ≡ setWeight grid (triples corners)
+  pub weighed-ends : length corners ≤ q → total ≡ setWeight grid (threes corners)
   weighed-ends l = h .sum ∙ ap (setWeight grid) (sym (passed-all corners q (h .front) (h .passed) l))
 
   module _ (w : ℕ) (e : w ≡ namedWeight grid (tripleAt corners q)) where

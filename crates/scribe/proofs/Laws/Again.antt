@@ -5,15 +5,16 @@ use Prim.Native.Nat.{ℕ, _*_, _/_, _≤_}
 use native.Mathlib.Omega.{arith}
 use lib.ListN.{length}
 use Rattle.limits.specs.Limits as limits
-use Rattle.terms.specs.declared.Answer.the-variants.{Done}
+use Rattle.answers.specs.declared.Answer.the-variants.{Done}
 use Rattle.surface.specs.Buffers.{over}
 use Rattle.surface.specs.Refusals.{countRefusal, bufferRefusal, unnamedRefusal}
 use Rattle.surface.proofs.Laws.Thens.{whole-count, one-long}
-use Rattle.surface.proofs.Laws.Refusing.{counts-done}
+use Rattle.gauging.proofs.Laws.Refusing.{counts-done}
 use Rattle.texts.specs.Text.{TextOf}
 use Rattle.texts.specs.Text as texts
-use Rattle.sheet.specs.Sheet.{Three, flat, points, triangles, text}
-use Rattle.sheet.proofs.Laws.Threes.{flat-length, threes-flat}
+use Rattle.surface.specs.Threes.{Three, flat}
+use Rattle.sheet.specs.Sheet.{points, triangles, text}
+use Rattle.surface.proofs.Laws.Threes.{flat-length, threes-flat}
 use Rattle.scribe.specs.Outcome.{writeRefusal, writes}
 
 module _ {bytes : List ℕ} {ps ts : List Three} (t : TextOf points triangles bytes ps ts) (buffer : List ℕ) (h : length bytes ≤ length buffer) (n : unnamedRefusal (flat ts) (length (flat ps) / 3) ≡ Done) where

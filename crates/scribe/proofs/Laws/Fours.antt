@@ -11,9 +11,10 @@ use Rattle.surface.specs.declared.Found.the-variants.{Nothing}
 use Rattle.surface.specs.Smallest.{least}
 use Rattle.surface.specs.Refusals.{unnamed}
 use Rattle.surface.proofs.Laws.Smallest.{least-never}
-use Rattle.figures.specs.Tables.{fourOf}
+use Rattle.figures.specs.Workings.Tables.{fourOf}
 use Rattle.digits.proofs.Laws.Digit.{lt-or-ge}
-use Rattle.scribe.specs.Means.{Has, Numbered, Serves}
+use Rattle.lettering.specs.Workings.Means.{Has}
+use Rattle.scribe.specs.Workings.Means.{Numbered, Serves}
 
 pub number-none : (fours : List ℕ) → Numbered 0 fours
 unfolding Numbered

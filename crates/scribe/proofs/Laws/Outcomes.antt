@@ -6,21 +6,22 @@ use Prim.Native.Nat.{ℕ, _/_, _<_, _≤_}
 use native.Mathlib.Omega.{arith}
 use lib.Dec.{leb}
 use lib.ListN.{length}
-use borrow.Author.Tests.{lt-ltb, le-ltb, leb-true, leb-false, not-true, not-false}
-use Rattle.terms.specs.Answers.{refusing}
-use Rattle.terms.specs.declared.Answer.{Answer}
-use Rattle.terms.specs.declared.Answer.the-variants.{Done, Buffer, Unnamed}
+use borrow.Author.Tests.{lt-ltb, leb-true, leb-false, not-true, not-false}
+use Rattle.answers.specs.Numbers.{refusing}
+use Rattle.answers.specs.declared.Answer.{Answer}
+use Rattle.answers.specs.declared.Answer.the-variants.{Done, Buffer, Unnamed}
 use Rattle.surface.specs.declared.Found.{Found}
 use Rattle.surface.specs.declared.Found.the-variants.{At, Nothing}
 use Rattle.surface.specs.Smallest.{least}
 use Rattle.surface.specs.Buffers.{over}
 use Rattle.surface.specs.Refusals.{short, unnamed, countRefusal, bufferRefusal}
-use Rattle.surface.proofs.Laws.Thens.{Fitting, counts-fit, count-plain, done-of, then-refused}
+use Rattle.surface.proofs.Laws.Thens.{Fitting, counts-fit, count-plain, done-of, then-refused, one-long}
 use Rattle.sheet.specs.Sheet.{text}
 use Rattle.scribe.specs.declared.Written.{Written}
 use Rattle.scribe.specs.Outcome.{WriteOutcome, writeOutcome, writeRefusal, writes}
-use Rattle.scribe.specs.Means.{Counted, needed, Ready}
-use Rattle.scribe.proofs.Laws.Sizes.{needed-is}
+use Rattle.lettering.specs.Workings.Means.{Counted, needed}
+use Rattle.scribe.specs.Workings.Means.{Ready}
+use Rattle.lettering.proofs.Laws.Sizes.{needed-is}
 
 abbrev outcome : Answer → ℕ → List ℕ → WriteOutcome
 outcome a n bytes = record { answer = a; count = n; bytes = bytes }
@@ -28,14 +29,10 @@ outcome a n bytes = record { answer = a; count = n; bytes = bytes }
 outcome-is : (r : Written) (a : Answer) (n : ℕ) (after bytes : List ℕ) → r .answer ≡ a → r .bytes ≡ n → after ≡ bytes → writeOutcome r after ≡ outcome a n bytes
 outcome-is r a n after bytes e f g = rw (e, f, g)
 
--- one buffer
+-- a buffer that is too short
 short-one : (x y : ℕ) → x < y → bufferRefusal (x ∷ []) (y ∷ []) ≡ Buffer 1
 unfolding bufferRefusal least short
 short-one x y h = rw (lt-ltb x y h)
-
-long-one : (x y : ℕ) → y ≤ x → bufferRefusal (x ∷ []) (y ∷ []) ≡ Done
-unfolding bufferRefusal least short
-long-one x y h = rw (le-ltb x y h)
 
 module _ (words corners buffer : List ℕ) where
   refused : (r : Written) (a : Answer) → r .answer ≡ a → r .bytes ≡ 0 → refusing a ≡ true → writeRefusal words corners buffer ≡ a → writeOutcome r buffer ≡ writes words corners buffer
@@ -75,7 +72,7 @@ module _ (words corners buffer : List ℕ) where
             pub corner-refused : (i : ℕ) (r : Written) → (r .answer ≡ Unnamed i) × (r .bytes ≡ 0) → found ≡ At i → writeOutcome r buffer ≡ writes words corners buffer
             unfolding writeRefusal
             corner-refused i r e g =
-                refused r (Unnamed i) (e .0) (e .1) refl (rw (counts-done, long-one (length buffer) (length (text words corners)) enough, ← ef, g))
+                refused r (Unnamed i) (e .0) (e .1) refl (rw (counts-done, one-long (length buffer) (length (text words corners)) enough, ← ef, g))
 
             module _ (g : found ≡ Nothing) where
               pub ready : Ready words corners buffer
@@ -85,4 +82,4 @@ module _ (words corners buffer : List ℕ) where
                   → outcome Done n after ≡ writes words corners buffer
               unfolding writes writeRefusal
               wrote n after e =
-                  rw (e .0, e .1, counts-done, long-one (length buffer) (length (text words corners)) enough, ← ef, g)
+                  rw (e .0, e .1, counts-done, one-long (length buffer) (length (text words corners)) enough, ← ef, g)

@@ -11,8 +11,8 @@ use Rattle.texts.specs.Text.{count}
 use Rattle.sheet.specs.Sheet.{points=, triangles=, text}
 use Rattle.sheet.proofs.Laws.Going.{over-laid}
 use Rattle.sheet.proofs.Laws.Sizes.{text-parts}
-use Rattle.scribe.specs.Means.{pointLines, triangleLines, Ready}
-use Rattle.scribe.proofs.Laws.Rows.{lay-parts}
+use Rattle.scribe.specs.Workings.Means.{pointLines, triangleLines, Ready}
+use Rattle.lettering.proofs.Laws.Rows.{lay-parts}
 
 module _ (words corners buffer : List ℕ) (r : Ready words corners buffer) where
   fitting : Fitting (length words) (length corners)

@@ -1,17 +1,19 @@
 -- `put_points`: after some turns what is left to write, laid over the present buffer, gives the whole.
 use Prim.Native.Nat.{ℕ, _-_, _+_, _*_}
 use native.Mathlib.Omega.{arith}
-use lib.ListN.{getD, length-replicate}
+use lib.ListN.{drop, getD, length-replicate}
 use borrow.Author.Needs.{needs}
 use Rattle.figures.proofs.Laws.Spelling.{spell-none}
 use Rattle.sheet.proofs.Laws.Exactly.{point-length}
-use Rattle.sheet.specs.Sheet.{three, points}
-use Rattle.scribe.proofs.Laws.Putting.{Putting, putting-begins, putting-room, putting-more, putting-ends}
+use Rattle.surface.specs.Threes.{three}
+use Rattle.sheet.specs.Sheet.{points}
+use Rattle.digits.proofs.Laws.Laying.{Laying, laying-begins}
+use Rattle.sheet.proofs.Laws.Putting.{linesOf, putting-room, putting-more, putting-ends}
 use Rattle.scribe.proofs.put_points.Statement.{statement}
 use Rattle.scribe.proofs.put_points.Tie as tie
 
 abbrev Inv-loop : tie.InvT-loop
-Inv-loop buffer₀ at words n pairs place₀ k₀ buffer place k = Putting (points .show) words n at buffer₀ k place buffer
+Inv-loop buffer₀ at words n pairs place₀ k₀ buffer place k = Laying (linesOf (points .show) words) at buffer₀ (linesOf (points .show) (drop (3 * k) words)) place buffer
 
 abbrev μ-loop : tie.MeasureT-loop
 μ-loop buffer₀ at words n pairs place₀ k₀ buffer place k = n - k
@@ -23,7 +25,7 @@ spell-bytes-requires : tie.Need-spell-bytes-requires Inv-loop μ-loop
 spell-bytes-requires c κs = spell-none _ (length-replicate {A = ℕ} 256 0)
 
 loop-holds : tie.Need-loop-holds Inv-loop μ-loop
-loop-holds c = putting-begins (points .show) (c .before .before .before .before .before .args .words .now) _ _ _
+loop-holds c = laying-begins _ _ _ (c .before .before .before .before .before .pre .1)
 
 mul-put-point : tie.Need-mul-put-point Inv-loop μ-loop
 mul-put-point c = search needs
@@ -62,10 +64,10 @@ slice-aggregate-put-point : tie.Need-slice-aggregate-put-point Inv-loop μ-loop
 slice-aggregate-put-point c = search needs
 
 put-point-requires : tie.Need-put-point-requires Inv-loop μ-loop
-put-point-requires c κs = (omega (arith, putting-room (points .show) (c .before .before .before .before .before .before .before .before .before .before .before .before .args .words .now) _ _ _ _ _ _ (c .before .before .before .before .before .before .loop .inv) (c .before .before .before .before .before .before .before .before .before .before .before .before .pre .0) (c .before .before .before .before .before .before .before .before .before .before .before .before .pre .1) (c .before .before .before .before .before .loop-test .taken), point-length (three (getD (c .before .before .before .before .before .before .before .before .before .before .before .before .args .words .now) (3 * c .before .before .before .before .before .before .loop .k) 0) (getD (c .before .before .before .before .before .before .before .before .before .before .before .before .args .words .now) (3 * c .before .before .before .before .before .before .loop .k + 1) 0) (getD (c .before .before .before .before .before .before .before .before .before .before .before .before .args .words .now) (3 * c .before .before .before .before .before .before .loop .k + 2) 0))), c .before .before .before .before .before .before .before .before .spell-bytes .ensures)
+put-point-requires c κs = (omega (arith, putting-room (points .show) (c .before .before .before .before .before .before .before .before .before .before .before .before .args .words .now) (c .before .before .before .before .before .before .loop .k) (c .before .before .before .before .before .before .loop .inv) (omega arith), point-length (three (getD (c .before .before .before .before .before .before .before .before .before .before .before .before .args .words .now) (3 * c .before .before .before .before .before .before .loop .k) 0) (getD (c .before .before .before .before .before .before .before .before .before .before .before .before .args .words .now) (3 * c .before .before .before .before .before .before .loop .k + 1) 0) (getD (c .before .before .before .before .before .before .before .before .before .before .before .before .args .words .now) (3 * c .before .before .before .before .before .before .loop .k + 2) 0))), c .before .before .before .before .before .before .before .before .spell-bytes .ensures)
 
 add-place : tie.Need-add-place Inv-loop μ-loop
-add-place c = omega (arith, putting-room (points .show) (c .before .before .before .before .before .before .before .before .before .before .before .before .before .before .before .args .words .now) _ _ _ _ _ _ (c .before .before .before .before .before .before .before .before .before .loop .inv) (c .before .before .before .before .before .before .before .before .before .before .before .before .before .before .before .pre .0) (c .before .before .before .before .before .before .before .before .before .before .before .before .before .before .before .pre .1) (c .before .before .before .before .before .before .before .before .loop-test .taken), point-length (three (getD (c .before .before .before .before .before .before .before .before .before .before .before .before .before .before .before .args .words .now) (3 * c .before .before .before .before .before .before .before .before .before .loop .k) 0) (getD (c .before .before .before .before .before .before .before .before .before .before .before .before .before .before .before .args .words .now) (3 * c .before .before .before .before .before .before .before .before .before .loop .k + 1) 0) (getD (c .before .before .before .before .before .before .before .before .before .before .before .before .before .before .before .args .words .now) (3 * c .before .before .before .before .before .before .before .before .before .loop .k + 2) 0)))
+add-place c = omega (arith, putting-room (points .show) (c .before .before .before .before .before .before .before .before .before .before .before .before .before .before .before .args .words .now) (c .before .before .before .before .before .before .before .before .before .loop .k) (c .before .before .before .before .before .before .before .before .before .loop .inv) (omega arith), point-length (three (getD (c .before .before .before .before .before .before .before .before .before .before .before .before .before .before .before .args .words .now) (3 * c .before .before .before .before .before .before .before .before .before .loop .k) 0) (getD (c .before .before .before .before .before .before .before .before .before .before .before .before .before .before .before .args .words .now) (3 * c .before .before .before .before .before .before .before .before .before .loop .k + 1) 0) (getD (c .before .before .before .before .before .before .before .before .before .before .before .before .before .before .before .args .words .now) (3 * c .before .before .before .before .before .before .before .before .before .loop .k + 2) 0)))
 
 add-k : tie.Need-add-k Inv-loop μ-loop
 add-k c = search needs
@@ -74,13 +76,13 @@ loop-less : tie.Need-loop-less Inv-loop μ-loop
 loop-less c = search needs
 
 loop-again : tie.Need-loop-again Inv-loop μ-loop
-loop-again c = putting-more (points .show) (c .before .before .before .before .before .before .before .before .before .before .before .before .before .before .before .args .words .now) _ _ _ _ _ _ (c .before .before .before .before .before .before .before .before .before .loop .inv) (c .before .before .before .before .before .before .before .before .before .before .before .before .before .before .before .pre .0) (c .before .before .before .before .before .before .before .before .before .before .before .before .before .before .before .pre .1) (c .before .before .before .before .before .before .before .before .loop-test .taken) _ _ (omega (arith, point-length (three (getD (c .before .before .before .before .before .before .before .before .before .before .before .before .before .before .before .args .words .now) (3 * c .before .before .before .before .before .before .before .before .before .loop .k) 0) (getD (c .before .before .before .before .before .before .before .before .before .before .before .before .before .before .before .args .words .now) (3 * c .before .before .before .before .before .before .before .before .before .loop .k + 1) 0) (getD (c .before .before .before .before .before .before .before .before .before .before .before .before .before .before .before .args .words .now) (3 * c .before .before .before .before .before .before .before .before .before .loop .k + 2) 0)))) (c .before .before .put-point .ensures)
+loop-again c = putting-more (points .show) (c .before .before .before .before .before .before .before .before .before .before .before .before .before .before .before .args .words .now) (c .before .before .before .before .before .before .before .before .before .loop .k) (c .before .before .before .before .before .before .before .before .before .loop .inv) (omega arith) (c .before .before .put-point .ensures) (omega (arith, point-length (three (getD (c .before .before .before .before .before .before .before .before .before .before .before .before .before .before .before .args .words .now) (3 * c .before .before .before .before .before .before .before .before .before .loop .k) 0) (getD (c .before .before .before .before .before .before .before .before .before .before .before .before .before .before .before .args .words .now) (3 * c .before .before .before .before .before .before .before .before .before .loop .k + 1) 0) (getD (c .before .before .before .before .before .before .before .before .before .before .before .before .before .before .before .args .words .now) (3 * c .before .before .before .before .before .before .before .before .before .loop .k + 2) 0))))
 
 same-length : tie.Need-same-length Inv-loop μ-loop
 same-length c = c .before .loop .inv .same
 
 returns : tie.Need-returns Inv-loop μ-loop
-returns c = putting-ends (points .show) (c .before .before .before .before .before .before .before .args .words .now) _ _ _ _ _ _ (c .before .loop .inv) (c .before .before .before .before .before .before .before .pre .0) (c .before .before .before .before .before .before .before .pre .1) (c .loop-test .left)
+returns c = putting-ends (points .show) (c .before .before .before .before .before .before .before .args .words .now) (c .before .loop .k) (c .before .loop .inv) (omega arith)
 
 pub put-points-spec : {M : Type 1} → statement M
 put-points-spec =

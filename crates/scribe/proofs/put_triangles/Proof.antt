@@ -1,21 +1,23 @@
 -- `put_triangles`: after some turns what is left to write, laid over the present buffer, gives the whole.
 use Prim.Native.Nat.{_-_, _+_, _*_}
 use native.Mathlib.Omega.{arith}
+use lib.ListN.{drop}
 use borrow.Author.Needs.{needs}
 use Rattle.sheet.specs.Sheet.{triangles}
 use Rattle.scribe.proofs.Laws.Fours.{served}
-use Rattle.scribe.proofs.Laws.Putting.{Putting, putting-begins, putting-room, putting-more, putting-ends}
+use Rattle.digits.proofs.Laws.Laying.{Laying, laying-begins}
+use Rattle.sheet.proofs.Laws.Putting.{linesOf, putting-room, putting-more, putting-ends}
 use Rattle.scribe.proofs.put_triangles.Statement.{statement}
 use Rattle.scribe.proofs.put_triangles.Tie as tie
 
 abbrev Inv-loop : tie.InvT-loop
-Inv-loop buffer₀ at corners n fours place₀ k₀ buffer place k = Putting (triangles .show) corners n at buffer₀ k place buffer
+Inv-loop buffer₀ at corners n fours place₀ k₀ buffer place k = Laying (linesOf (triangles .show) corners) at buffer₀ (linesOf (triangles .show) (drop (3 * k) corners)) place buffer
 
 abbrev μ-loop : tie.MeasureT-loop
 μ-loop buffer₀ at corners n fours place₀ k₀ buffer place k = n - k
 
 loop-holds : tie.Need-loop-holds Inv-loop μ-loop
-loop-holds c = putting-begins (triangles .show) (c .before .before .before .args .corners .now) _ _ _
+loop-holds c = laying-begins _ _ _ (c .before .before .before .pre .1)
 
 mul-put-triangle : tie.Need-mul-put-triangle Inv-loop μ-loop
 mul-put-triangle c = search needs
@@ -51,7 +53,7 @@ shared-slice-read-put-triangle-3 : tie.Need-shared-slice-read-put-triangle-3 Inv
 shared-slice-read-put-triangle-3 c = search needs
 
 put-triangle-requires : tie.Need-put-triangle-requires Inv-loop μ-loop
-put-triangle-requires c κs = ((served (c .before .before .before .before .before .before .before .before .before .args .corners .now) _ (c .before .before .before .before .before .before .before .before .before .pre .0 .1) (3 * c .before .before .before .before .before .loop .k) (omega arith), served (c .before .before .before .before .before .before .before .before .before .args .corners .now) _ (c .before .before .before .before .before .before .before .before .before .pre .0 .1) (3 * c .before .before .before .before .before .loop .k + 1) (omega arith), served (c .before .before .before .before .before .before .before .before .before .args .corners .now) _ (c .before .before .before .before .before .before .before .before .before .pre .0 .1) (3 * c .before .before .before .before .before .loop .k + 2) (omega arith)), putting-room (triangles .show) (c .before .before .before .before .before .before .before .before .before .args .corners .now) _ _ _ _ _ _ (c .before .before .before .before .before .loop .inv) (c .before .before .before .before .before .before .before .before .before .pre .0 .0) (c .before .before .before .before .before .before .before .before .before .pre .1) (c .before .before .before .before .loop-test .taken))
+put-triangle-requires c κs = ((served (c .before .before .before .before .before .before .before .before .before .args .corners .now) _ (c .before .before .before .before .before .before .before .before .before .pre .0 .1) (3 * c .before .before .before .before .before .loop .k) (omega arith), served (c .before .before .before .before .before .before .before .before .before .args .corners .now) _ (c .before .before .before .before .before .before .before .before .before .pre .0 .1) (3 * c .before .before .before .before .before .loop .k + 1) (omega arith), served (c .before .before .before .before .before .before .before .before .before .args .corners .now) _ (c .before .before .before .before .before .before .before .before .before .pre .0 .1) (3 * c .before .before .before .before .before .loop .k + 2) (omega arith)), putting-room (triangles .show) (c .before .before .before .before .before .before .before .before .before .args .corners .now) (c .before .before .before .before .before .loop .k) (c .before .before .before .before .before .loop .inv) (omega arith))
 
 add-k : tie.Need-add-k Inv-loop μ-loop
 add-k c = search needs
@@ -60,13 +62,13 @@ loop-less : tie.Need-loop-less Inv-loop μ-loop
 loop-less c = search needs
 
 loop-again : tie.Need-loop-again Inv-loop μ-loop
-loop-again c = putting-more (triangles .show) (c .before .before .before .before .before .before .before .before .before .before .before .before .args .corners .now) _ _ _ _ _ _ (c .before .before .before .before .before .before .before .before .loop .inv) (c .before .before .before .before .before .before .before .before .before .before .before .before .pre .0 .0) (c .before .before .before .before .before .before .before .before .before .before .before .before .pre .1) (c .before .before .before .before .before .before .before .loop-test .taken) _ _ (c .before .before .put-triangle .ensures .1) (c .before .before .put-triangle .ensures .0)
+loop-again c = putting-more (triangles .show) (c .before .before .before .before .before .before .before .before .before .before .before .before .args .corners .now) (c .before .before .before .before .before .before .before .before .loop .k) (c .before .before .before .before .before .before .before .before .loop .inv) (omega arith) (c .before .before .put-triangle .ensures .0) (c .before .before .put-triangle .ensures .1)
 
 same-length : tie.Need-same-length Inv-loop μ-loop
 same-length c = c .before .loop .inv .same
 
 returns : tie.Need-returns Inv-loop μ-loop
-returns c = putting-ends (triangles .show) (c .before .before .before .before .before .args .corners .now) _ _ _ _ _ _ (c .before .loop .inv) (c .before .before .before .before .before .pre .0 .0) (c .before .before .before .before .before .pre .1) (c .loop-test .left)
+returns c = putting-ends (triangles .show) (c .before .before .before .before .before .args .corners .now) (c .before .loop .k) (c .before .loop .inv) (omega arith)
 
 pub put-triangles-spec : {M : Type 1} → statement M
 put-triangles-spec =

@@ -5,12 +5,12 @@ use Prim.Native.Nat.{ℕ, _+_, _/_, _<_, _≤_, _^_}
 use native.Mathlib.Omega.{arith}
 use lib.ListN.{length, length-append}
 use Rattle.digits.specs.Numeral.{byteOf, places, decimal}
-use Rattle.digits.specs.Reading.{got, Exact}
+use Rattle.digits.specs.Workings.Reading.{got, Exact}
 use Rattle.digits.proofs.Laws.Digit.{size-one}
 use Rattle.texts.specs.Text.{feed, count}
 use Rattle.texts.proofs.Laws.Counts.{count-exact}
 use Rattle.sets.specs.Set.{s=, state, states}
-use Rattle.sets.specs.Scanning.{readState}
+use Rattle.sets.specs.Workings.Scanning.{readState}
 
 -- a number of one digit is that digit
 one-digit : (s : ℕ) → s < 10 → decimal s ≡ byteOf s ∷ []

@@ -1,20 +1,19 @@
 -- The theorems on texts of two parts, for the text of a patch set.
 use mathlib.Core.Path.{_≡_}
-use mathlib.Core.Logic.{_⊎_}
 use mathlib.Core.List.{List}
 use Prim.Native.Nat.{ℕ, _+_, _≤_}
 use native.Mathlib.Omega.{arith}
 use Rattle.limits.specs.Limits as limits
 use Rattle.texts.specs.Text.{TextOf}
 use Rattle.texts.specs.Fault.{Fault}
-use Rattle.texts.specs.Parse.{said, fault}
+use Rattle.texts.specs.Workings.Parse.{said, fault}
 use Rattle.texts.proofs.Theorems as theorems
 use Rattle.texts.proofs.Laws.Taking.{fault-near}
-use Rattle.sheet.specs.Sheet.{Three, three}
-use Rattle.sheet.specs.Parse.{readTriangle}
+use Rattle.surface.specs.Threes.{Three, three}
+use Rattle.sheet.specs.Workings.Parse.{readTriangle}
 use Rattle.sheet.proofs.Laws.Exactly.{triangle-exact}
 use Rattle.sets.specs.Set.{states, triangles}
-use Rattle.sets.specs.Scanning.{readState, parse}
+use Rattle.sets.specs.Workings.Scanning.{readState, parse}
 use Rattle.sets.proofs.Laws.Exactly.{state-exact}
 
 -- something that can stand in a line of each part
@@ -40,7 +39,7 @@ text-once = theorems.text-once states triangles readState readTriangle state-exa
 pub fault-only : {bytes : List ℕ} {line : ℕ} → Fault states triangles bytes line → parse bytes ≡ fault line
 fault-only = theorems.fault-only states triangles readState readTriangle state-exact triangle-exact 0 zero-state zeros zero-triangle
 
-pub text-or-fault : (bytes : List ℕ) → ((ss : List ℕ) × (ts : List Three) × TextOf states triangles bytes ss ts) ⊎ ((line : ℕ) × Fault states triangles bytes line)
+pub text-or-fault : (bytes : List ℕ) → theorems.Known states triangles bytes
 text-or-fault = theorems.text-or-fault states triangles readState readTriangle state-exact triangle-exact 0 zero-state zeros zero-triangle
 
 -- no fault is later than the line after the longest text

@@ -1,17 +1,17 @@
 -- What reading counts is no more than its buffers have.
 use mathlib.Core.Path.{_≡_, refl, sym, subst}
 use mathlib.Core.Bool.{Bool, true, false}
-use mathlib.Core.Logic.{_⊎_, inl, inr}
+use mathlib.Core.Logic.{inl, inr}
 use mathlib.Core.List.{List, [], _∷_}
 use Prim.Native.Nat.{ℕ, _≤_}
 use native.Mathlib.Omega.{arith}
-use lib.ListN.{length, drop, length-append}
-use Rattle.terms.specs.Answers.{refusing}
+use lib.ListN.{length}
+use Rattle.answers.specs.Numbers.{refusing}
 use Rattle.surface.specs.Buffers.{over}
 use Rattle.surface.specs.Refusals.{bufferRefusal}
-use Rattle.texts.specs.Text.{TextOf}
-use Rattle.texts.specs.Fault.{Fault}
-use Rattle.sheet.specs.Sheet.{Three, flat}
+use Rattle.surface.proofs.Laws.Over.{front-in}
+use Rattle.texts.proofs.Theorems.{Known}
+use Rattle.surface.specs.Threes.{flat}
 use Rattle.sets.specs.Set as text
 use Rattle.sets.specs.Outcome.{SetOutcome, deliver, ReadsSet}
 use Rattle.sets.proofs.Laws.Texts.{text-or-fault}
@@ -21,16 +21,16 @@ pub record Within (o : SetOutcome) : Type 0 where
   pub corners-in : o .corner-count ≤ length (o .corners)
 
 deliver-within : (ss cs states corners : List ℕ) → Within (deliver ss cs states corners)
-unfolding deliver over
+unfolding deliver
 deliver-within ss cs states corners = go (refusing (bufferRefusal (length states ∷ length corners ∷ []) (length ss ∷ length cs ∷ []))) refl
   where
     go : (t : Bool) → refusing (bufferRefusal (length states ∷ length corners ∷ []) (length ss ∷ length cs ∷ [])) ≡ t → Within (deliver ss cs states corners)
     go true e = rw e (record { states-in = omega arith; corners-in = omega arith })
-    go false e = rw e (record { states-in = omega (arith, length-append ss (drop (length ss) states)); corners-in = omega (arith, length-append cs (drop (length cs) corners)) })
+    go false e = rw e (record { states-in = front-in ss states (over ss states) (length ss) refl refl; corners-in = front-in cs corners (over cs corners) (length cs) refl refl })
 
 pub read-set-within : (bytes : List ℕ) (before : ℕ) (states corners : List ℕ) (o : SetOutcome) → ReadsSet bytes before states corners o → Within o
 read-set-within bytes before states corners o r = go (text-or-fault bytes)
   where
-    go : ((ss : List ℕ) × (ts : List Three) × TextOf text.states text.triangles bytes ss ts) ⊎ ((line : ℕ) × Fault text.states text.triangles bytes line) → Within o
+    go : Known text.states text.triangles bytes → Within o
     go (inl t) = subst Within (sym (r .of-text (t .0) (t .1) (t .2))) (deliver-within (t .0) (flat (t .1)) states corners)
     go (inr f) = subst Within (sym (r .of-fault (f .0) (f .1))) (record { states-in = omega arith; corners-in = omega arith })

@@ -1,5 +1,6 @@
 -- `hand_over` writes nothing before both buffers are seen to be long enough.
-use Rattle.sets.proofs.Laws.Deliver.{short-handed, states-fit, corners-fit, all-handed}
+use Rattle.sheet.proofs.Laws.Rooms.{two-fit}
+use Rattle.sets.proofs.Laws.Deliver.{short-handed, all-handed}
 use mathlib.Core.Path.{sym, _∙_}
 use borrow.Author.Needs.{needs}
 use Rattle.sets.proofs.hand_over.Statement.{statement}
@@ -24,10 +25,10 @@ returns : tie.Need-returns
 returns c = short-handed _ _ _ _ _ (c .before .before .before .check-buffers .ensures) _ (sym (c .before .before .refuses .ensures) ∙ c .before .if1 .taken) (c .refused .ensures)
 
 copy-corners-requires : tie.Need-copy-corners-requires
-copy-corners-requires c κs = states-fit (c .before .before .before .before .before .before .before .before .before .before .args .ss .now) (c .before .before .before .before .before .before .before .before .before .before .args .cs .now) (c .before .before .before .before .before .before .before .before .before .before .args .states .now) (c .before .before .before .before .before .before .before .before .before .before .args .corners .now) _ (c .before .before .before .check-buffers .ensures) (sym (c .before .before .refuses .ensures) ∙ c .before .if1 .left)
+copy-corners-requires c κs = two-fit _ _ _ _ _ (c .before .before .before .check-buffers .ensures) (sym (c .before .before .refuses .ensures) ∙ c .before .if1 .left) .0
 
 copy-corners-requires-2 : tie.Need-copy-corners-requires-2
-copy-corners-requires-2 c κs = corners-fit (c .before .before .before .before .before .before .before .before .before .before .before .before .before .before .args .ss .now) (c .before .before .before .before .before .before .before .before .before .before .before .before .before .before .args .cs .now) (c .before .before .before .before .before .before .before .before .before .before .before .before .before .before .args .states .now) (c .before .before .before .before .before .before .before .before .before .before .before .before .before .before .args .corners .now) _ (c .before .before .before .before .before .before .before .check-buffers .ensures) (sym (c .before .before .before .before .before .before .refuses .ensures) ∙ c .before .before .before .before .before .if1 .left)
+copy-corners-requires-2 c κs = two-fit _ _ _ _ _ (c .before .before .before .before .before .before .before .check-buffers .ensures) (sym (c .before .before .before .before .before .before .refuses .ensures) ∙ c .before .before .before .before .before .if1 .left) .1
 
 same-length : tie.Need-same-length
 same-length c = search needs

@@ -1,6 +1,9 @@
 -- `read_set` has scratch for the longest text, so the lent buffers change only once the whole text is read.
-use Rattle.sets.proofs.Laws.Deliver.{scratch-room, wrong-line, fault-promised, kept, few-triangles, states-in, corners-in, states-cut, corners-cut, delivered}
-use mathlib.Core.Path.{refl}
+use Rattle.surface.proofs.Laws.Lists.{as-long}
+use Rattle.texts.proofs.Laws.Scanning.{kept}
+use Rattle.surface.specs.Threes.{flat}
+use Rattle.sets.specs.Workings.Scanning.{parse, numbers}
+use Rattle.sets.proofs.Laws.Deliver.{scratch-room, wrong-line, fault-promised, few-triangles, states-in, corners-in, delivered}
 use native.Mathlib.Omega.{arith}
 use borrow.Author.Needs.{needs}
 use Rattle.sets.proofs.read_set.Statement.{statement}
@@ -28,19 +31,19 @@ enum-known-loops : tie.Need-enum-known-loops
 enum-known-loops c = search needs
 
 mul-c : tie.Need-mul-c
-mul-c c = omega (arith, few-triangles (kept (c .before .before .before .before .before .before .before .before .before .before .before .args .text .now) _ _ _ _ _ _ _ (c .before .before .before .before .before .take-in .ensures) (c .before .loops .given .1)))
+mul-c c = omega (arith, few-triangles (kept numbers flat parse (c .before .before .before .before .before .before .before .before .before .before .before .args .text .now) _ _ _ _ _ _ _ (c .before .before .before .before .before .take-in .ensures) (c .before .loops .given .1)))
 
 array-share-prefix-ss : tie.Need-array-share-prefix-ss
-array-share-prefix-ss c = states-in (kept (c .before .before .before .before .before .before .before .before .before .before .before .args .text .now) _ _ _ _ _ _ _ (c .before .before .before .before .before .take-in .ensures) (c .before .loops .given .1))
+array-share-prefix-ss c = states-in (kept numbers flat parse (c .before .before .before .before .before .before .before .before .before .before .before .args .text .now) _ _ _ _ _ _ _ (c .before .before .before .before .before .take-in .ensures) (c .before .loops .given .1))
 
 slice-aggregate-hand-over : tie.Need-slice-aggregate-hand-over
-slice-aggregate-hand-over c = states-cut (kept (c .before .before .before .before .before .before .before .before .before .before .before .before .args .text .now) _ _ _ _ _ _ _ (c .before .before .before .before .before .before .take-in .ensures) (c .before .before .loops .given .1))
+slice-aggregate-hand-over c = as-long _ _ (states-in (kept numbers flat parse (c .before .before .before .before .before .before .before .before .before .before .before .before .args .text .now) _ _ _ _ _ _ _ (c .before .before .before .before .before .before .take-in .ensures) (c .before .before .loops .given .1)))
 
 array-share-prefix-cs : tie.Need-array-share-prefix-cs
-array-share-prefix-cs c = corners-in (kept (c .before .before .before .before .before .before .before .before .before .before .before .before .args .text .now) _ _ _ _ _ _ _ (c .before .before .before .before .before .before .take-in .ensures) (c .before .before .loops .given .1)) _ refl
+array-share-prefix-cs c = corners-in (kept numbers flat parse (c .before .before .before .before .before .before .before .before .before .before .before .before .args .text .now) _ _ _ _ _ _ _ (c .before .before .before .before .before .before .take-in .ensures) (c .before .before .loops .given .1))
 
 slice-aggregate-hand-over-2 : tie.Need-slice-aggregate-hand-over-2
-slice-aggregate-hand-over-2 c = corners-cut (kept (c .before .before .before .before .before .before .before .before .before .before .before .before .before .args .text .now) _ _ _ _ _ _ _ (c .before .before .before .before .before .before .before .take-in .ensures) (c .before .before .before .loops .given .1)) _ refl
+slice-aggregate-hand-over-2 c = as-long _ _ (corners-in (kept numbers flat parse (c .before .before .before .before .before .before .before .before .before .before .before .before .before .args .text .now) _ _ _ _ _ _ _ (c .before .before .before .before .before .before .before .take-in .ensures) (c .before .before .before .loops .given .1)))
 
 hand-over-requires : tie.Need-hand-over-requires
 hand-over-requires c κs = search needs
@@ -55,7 +58,7 @@ same-length-2 : tie.Need-same-length-2
 same-length-2 c = search needs
 
 returns-2 : tie.Need-returns-2
-returns-2 c = delivered (kept (c .before .before .before .before .before .before .before .before .before .before .before .before .before .before .before .before .before .before .before .before .args .text .now) _ _ _ _ _ _ _ (c .before .before .before .before .before .before .before .before .before .before .before .before .before .before .take-in .ensures) (c .before .before .before .before .before .before .before .before .before .before .loops .given .1)) _ _ _ _ _ refl (c .before .before .before .before .hand-over .ensures)
+returns-2 c = delivered (kept numbers flat parse (c .before .before .before .before .before .before .before .before .before .before .before .before .before .before .before .before .before .before .before .before .args .text .now) _ _ _ _ _ _ _ (c .before .before .before .before .before .before .before .before .before .before .before .before .before .before .take-in .ensures) (c .before .before .before .before .before .before .before .before .before .before .loops .given .1)) _ _ _ _ (c .before .before .before .before .hand-over .ensures)
 
 pub read-set-spec : {M : Type 1} → statement M
 read-set-spec =

@@ -1,5 +1,5 @@
 -- Each kind of line is read exactly as it is written, and how long it is.
-use mathlib.Core.Path.{_≡_, refl, sym, ap, _∙_, subst₂}
+use mathlib.Core.Path.{_≡_, sym, ap, _∙_, subst₂}
 use mathlib.Core.Bool.{Bool, true, false, cond}
 use mathlib.Core.List.{List, [], _∷_, _++_, append-assoc}
 use Prim.Native.Nat.{ℕ, zero, suc, _+_, _-_, _/_, _<_, _≤_, _^_}
@@ -8,14 +8,15 @@ use lib.Dec.{ltb}
 use lib.ListN.{length, length-append}
 use Rattle.limits.specs.Limits as limits
 use Rattle.digits.specs.Numeral.{size, sizeIn, hex, decimal}
-use Rattle.digits.specs.Reading.{Read, wrong, got, Exact, readKey, readHex, readDecimal, valueOf}
-use Rattle.digits.proofs.Laws.Exactly.{wrong-not-got, key-exact, hex-exact, decimal-exact, length-places}
+use Rattle.digits.specs.Workings.Reading.{Read, got, Exact, readKey, readHex, readDecimal, valueOf}
+use Rattle.digits.proofs.Laws.Exactly.{key-exact, hex-exact, decimal-exact, length-places}
 use Rattle.digits.proofs.Laws.Digit.{value-low}
 use Rattle.texts.specs.Text.{feed}
-use Rattle.texts.specs.Parse.{after, readCount}
-use Rattle.texts.proofs.Laws.Counts.{count-exact}
-use Rattle.sheet.specs.Sheet.{Three, three, comma, p=, t=, Every, row, points, triangles}
-use Rattle.sheet.specs.Parse.{readRow, readPoint, readTriangle}
+use Rattle.texts.specs.Workings.Parse.{readCount}
+use Rattle.texts.proofs.Laws.Counts.{after-got, count-exact}
+use Rattle.surface.specs.Threes.{Three, three}
+use Rattle.sheet.specs.Sheet.{comma, p=, t=, Every, row, points, triangles}
+use Rattle.sheet.specs.Workings.Parse.{readRow, readPoint, readTriangle}
 
 -- a comma and the line feed are no digits
 comma-free : 10 ≤ valueOf comma
@@ -23,12 +24,6 @@ comma-free = omega (arith, value-low comma (omega arith))
 
 feed-free : 10 ≤ valueOf feed
 feed-free = omega (arith, value-low feed (omega arith))
-
--- one reading after another, taken apart
-after-got : {A B : Type 0} (r : Read A) (f : A → List ℕ → Read B) (b : B) (rest : List ℕ) → after r f ≡ got b rest
-    → (a : A) × (s : List ℕ) × (r ≡ got a s) × (f a s ≡ got b rest)
-after-got wrong f b rest h = absurd (wrong-not-got h)
-after-got (got a s) f b rest h = (a, s, refl, h)
 
 -- a number and the byte that ends it
 abbrev ended : (ℕ → List ℕ) → ℕ → ℕ → List ℕ

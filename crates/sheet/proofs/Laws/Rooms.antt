@@ -1,22 +1,30 @@
--- How much scratch a text needs: no more than its limits allow, and no more than its bytes do.
-use Prim.Native.Nat.{ℕ, _≤_}
+-- How much room reading needs: scratch for no more than a text's limits allow and its bytes can fill, and buffers that are long enough.
+use mathlib.Core.Path.{_≡_, sym, ap, _∙_}
+use mathlib.Core.Bool.{false}
+use mathlib.Core.List.{[], _∷_}
+use Prim.Native.Nat.{ℕ, _*_, _≤_}
 use native.Mathlib.Omega.{arith}
 use Rattle.limits.specs.Limits as limits
-use Rattle.sheet.specs.Parse.{Room}
+use Rattle.answers.specs.Numbers.{refusing}
+use Rattle.answers.specs.declared.Answer.{Answer}
+use Rattle.answers.specs.declared.Answer.the-variants.{Done}
+use Rattle.surface.specs.Refusals.{bufferRefusal}
+use Rattle.surface.proofs.Laws.Thens.{buffer-plain, done-of, buffers-long}
+use Rattle.sheet.specs.Workings.Parse.{Room}
 
 pub room-less : (size most n long room : ℕ) → n ≤ most → Room size most long room → Room size n long room
 unfolding Room
 room-less size most n long room h r = λ k a b. r k (omega arith) b
 
--- a text of at most 256 bytes has at most 8 lines `p=` and at most 32 lines `t=`
-module _ (long : ℕ) (h : long ≤ 256) where
-  pub short-words : Room 29 limits.points long 32
+-- a line `p=` has 29 bytes, and a line `t=` at least 8
+module _ (long room : ℕ) where
+  pub short-words : 3 * long ≤ 29 * room → Room 29 limits.points long room
   unfolding Room
-  short-words = λ k a b. omega arith
+  short-words h = λ k a b. omega arith
 
-  pub short-corners : Room 8 limits.triangles long 128
+  pub short-corners : 3 * long ≤ 8 * room → Room 8 limits.triangles long room
   unfolding Room
-  short-corners = λ k a b. omega arith
+  short-corners h = λ k a b. omega arith
 
 module _ (long : ℕ) where
   pub long-words : Room 29 limits.points long limits.words
@@ -26,3 +34,9 @@ module _ (long : ℕ) where
   pub long-corners : Room 8 limits.triangles long limits.corners
   unfolding Room
   long-corners = λ k a b. omega arith
+
+-- where a check of two buffers refuses nothing, both are long enough
+pub two-fit : (a : Answer) (x y n m : ℕ) → a ≡ bufferRefusal (x ∷ y ∷ []) (n ∷ m ∷ []) → refusing a ≡ false → (n ≤ x) × (m ≤ y)
+two-fit a x y n m e h =
+    let d : bufferRefusal (x ∷ y ∷ []) (n ∷ m ∷ []) ≡ Done = done-of _ (buffer-plain (x ∷ y ∷ []) (n ∷ m ∷ [])) (ap refusing (sym e) ∙ h) in
+    (buffers-long (x ∷ y ∷ []) (n ∷ m ∷ []) d 0 (omega arith), buffers-long (x ∷ y ∷ []) (n ∷ m ∷ []) d 1 (omega arith))

@@ -5,22 +5,22 @@ use Prim.Native.Nat.{ℕ, zero, suc, _+_, _*_, _<_, _≤_}
 use native.Mathlib.Omega.{arith}
 use lib.ListN.{length, getD, length-append}
 use Rattle.digits.specs.Numeral.{size, decimal}
-use Rattle.digits.proofs.Laws.Exactly.{length-places}
+use Rattle.digits.proofs.Laws.Exactly.{length-places, ended-length}
 use Rattle.digits.proofs.Laws.Sizes.{size-most}
 use Rattle.texts.specs.Text.{feed, count}
 use Rattle.texts.specs.Text as texts
 use Rattle.texts.proofs.Laws.Lines.{text-flat}
-use Rattle.sheet.specs.Sheet.{Three, three, threes, comma, t=, points=, triangles=, row, points, triangles, text}
+use Rattle.surface.specs.Threes.{Three, three, threes}
+use Rattle.sheet.specs.Sheet.{comma, t=, points=, triangles=, row, points, triangles, text}
 use Rattle.sheet.proofs.Laws.Exactly.{point-length}
-use Rattle.sheet.proofs.Laws.Threes.{threes-length}
+use Rattle.surface.proofs.Laws.Threes.{threes-length}
 
 -- ---- lines
 
 pub count-length : (key : List ℕ) (n : ℕ) → length (count key n) ≡ length key + size n + 1
 unfolding count
 count-length key n =
-    length-append key (decimal n ++ (feed ∷ []))
-    ∙ omega (arith, length-append (decimal n) (feed ∷ []), length-places 10 (size n) n)
+    length-append key (decimal n ++ (feed ∷ [])) ∙ omega (arith, ended-length n feed)
 
 -- a line, each number with the byte that ends it
 pub row-ended : (key : List ℕ) (show : ℕ → List ℕ) (t : Three)
@@ -31,9 +31,6 @@ row-ended key show t =
       append-assoc (show (t .first)) (comma ∷ []) ((show (t .second) ++ (comma ∷ [])) ++ (show (t .third) ++ (feed ∷ []))),
       append-assoc (show (t .second)) (comma ∷ []) (show (t .third) ++ (feed ∷ [])),
     )
-
-pub ended-length : (n e : ℕ) → length (decimal n ++ (e ∷ [])) ≡ size n + 1
-ended-length n e = length-append (decimal n) (e ∷ []) ∙ omega (arith, length-places 10 (size n) n)
 
 pub triangle-size : (t : Three) → length (triangles .show t) ≡ 5 + size (t .first) + size (t .second) + size (t .third)
 triangle-size t =

@@ -1,15 +1,15 @@
 -- The theorems on texts of two parts, for the sheet text.
 use mathlib.Core.Path.{_≡_}
-use mathlib.Core.Logic.{_⊎_}
 use mathlib.Core.List.{List}
 use Prim.Native.Nat.{ℕ}
 use native.Mathlib.Omega.{arith}
 use Rattle.texts.specs.Text.{TextOf}
 use Rattle.texts.specs.Fault.{Fault}
-use Rattle.texts.specs.Parse.{said, fault}
+use Rattle.texts.specs.Workings.Parse.{said, fault}
 use Rattle.texts.proofs.Theorems as theorems
-use Rattle.sheet.specs.Sheet.{Three, three, points, triangles}
-use Rattle.sheet.specs.Parse.{readPoint, readTriangle, parse}
+use Rattle.surface.specs.Threes.{Three, three}
+use Rattle.sheet.specs.Sheet.{points, triangles}
+use Rattle.sheet.specs.Workings.Parse.{readPoint, readTriangle, parse}
 use Rattle.sheet.proofs.Laws.Exactly.{point-exact, triangle-exact}
 
 -- something that can stand in a line of each part
@@ -39,5 +39,5 @@ fault-is = theorems.fault-is points triangles readPoint readTriangle point-exact
 pub fault-only : {bytes : List ℕ} {line : ℕ} → Fault points triangles bytes line → parse bytes ≡ fault line
 fault-only = theorems.fault-only points triangles readPoint readTriangle point-exact triangle-exact zeros point-zeros zeros triangle-zeros
 
-pub text-or-fault : (bytes : List ℕ) → ((ps : List Three) × (ts : List Three) × TextOf points triangles bytes ps ts) ⊎ ((line : ℕ) × Fault points triangles bytes line)
+pub text-or-fault : (bytes : List ℕ) → theorems.Known points triangles bytes
 text-or-fault = theorems.text-or-fault points triangles readPoint readTriangle point-exact triangle-exact zeros point-zeros zeros triangle-zeros

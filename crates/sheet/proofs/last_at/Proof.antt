@@ -3,7 +3,7 @@ use Rattle.sheet.specs.Sheet.{t=, comma}
 use Rattle.texts.specs.Text.{feed}
 use Prim.Native.Nat.{_-_}
 use Rattle.limits.specs.Limits as limits
-use Rattle.digits.specs.Reading.{readDecimal}
+use Rattle.digits.specs.Workings.Reading.{readDecimal}
 use borrow.Author.Needs.{needs}
 use Rattle.sheet.proofs.last_at.Statement.{statement}
 use Rattle.sheet.proofs.last_at.Tie as tie

@@ -1,5 +1,5 @@
 use Rattle.sheet.specs.Sheet.{p=, comma}
-use Rattle.digits.specs.Reading.{readHex}
+use Rattle.digits.specs.Workings.Reading.{readHex}
 use Rattle.texts.specs.Text.{feed}
 use Rattle.sheet.proofs.Laws.Told.{number-is, number-not, number-by, row-key, row-first, row-second, row-third, row-whole}
 use Rattle.sheet.proofs.Laws.Keys.{key-first-bad, key-second-bad, key-whole, point-short}

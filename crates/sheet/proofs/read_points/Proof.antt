@@ -1,7 +1,7 @@
 use Rattle.nibbles.proofs.Laws.Marks.{mark-none}
 use Prim.Native.Nat.{_≤_, _-_}
 use lib.ListN.{length, drop, length-set}
-use Rattle.sheet.specs.Parse.{readPoint}
+use Rattle.sheet.specs.Workings.Parse.{readPoint}
 use Rattle.sheet.proofs.Laws.Exactly.{point-takes}
 use Rattle.sheet.proofs.Laws.Told.{row-is, row-not, row-by}
 use Rattle.sheet.proofs.Laws.Going.{Going, by-threes, going-begins, next-room, next-going, going-stuck, going-ends}

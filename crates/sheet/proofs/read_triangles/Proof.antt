@@ -1,6 +1,6 @@
 use Prim.Native.Nat.{_≤_, _-_}
 use lib.ListN.{length, drop, length-set}
-use Rattle.sheet.specs.Parse.{readTriangle}
+use Rattle.sheet.specs.Workings.Parse.{readTriangle}
 use Rattle.sheet.proofs.Laws.Exactly.{triangle-takes, triangle-small}
 use Rattle.sheet.proofs.Laws.Told.{row-is, row-not, row-by}
 use Rattle.sheet.proofs.Laws.Going.{Going, by-threes, going-begins, next-room, next-going, going-stuck, going-ends}

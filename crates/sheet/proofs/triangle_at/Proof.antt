@@ -1,7 +1,7 @@
 use Rattle.sheet.specs.Sheet.{t=, comma}
 use Prim.Native.Nat.{_-_}
 use Rattle.limits.specs.Limits as limits
-use Rattle.digits.specs.Reading.{readDecimal}
+use Rattle.digits.specs.Workings.Reading.{readDecimal}
 use Rattle.texts.specs.Text.{feed}
 use Rattle.sheet.proofs.Laws.Told.{number-is, number-not, number-by, row-key, row-first, row-second, row-third, row-whole}
 use Rattle.sheet.proofs.Laws.Keys.{key-first-bad, key-second-bad, key-whole}

@@ -12,7 +12,7 @@ use Rattle.covers.specs.Covers.{Triangle, on}
 use Rattle.covers.specs.Sets.{turned, Alike}
 use Rattle.covers.proofs.Laws.Sets.{corners-of, by-corners}
 use Rattle.bars.proofs.Laws.Tests.{either-true, or-left, or-right}
-use Rattle.sight.specs.Findings.{WoundAgainst}
+use Rattle.sight.specs.Workings.Findings.{WoundAgainst}
 
 abbrev pub same : Triangle → Triangle → Bool
 same s t = (eqb (s .first) (t .first) && eqb (s .second) (t .second)) && eqb (s .third) (t .third)

@@ -5,12 +5,12 @@ use Prim.Native.Nat.{ℕ}
 use lib.IntN.{ℤ}
 use types.Run.{OneOf, miss}
 use denote.Enum.Declared.{tagOf}
-use Rattle.terms.specs.declared.Answer.{Answer}
-use Rattle.terms.specs.declared.Answer.the-variants.{Done}
-use Rattle.terms.proofs.Answer.{the-type}
+use Rattle.answers.specs.declared.Answer.{Answer}
+use Rattle.answers.specs.declared.Answer.the-variants.{Done}
+use Rattle.answers.proofs.Answer.{the-type}
 use Rattle.verdicts.specs.Faults.{Right}
 use Rattle.verdicts.proofs.Laws.Once.{fault-said}
-use Rattle.sight.specs.Findings.{Finds, right, fault}
+use Rattle.sight.specs.Workings.Findings.{Finds, right, fault}
 
 module _ (grid : List ℤ) (input laid ring : List ℕ) (state : ℕ) (set : List ℕ) (l : ℕ) (a : Answer) where
   pub done-right : Finds grid input laid l ring state set a → a ≡ Done → Right grid input laid ring state set

@@ -9,21 +9,22 @@ use lib.IntN.{ℤ}
 use lib.ListN.{length, getD, take, drop, length-drop}
 use lib.Seq.{getD-take, getD-drop, length-take-le}
 use Rattle.limits.specs.Limits as limits
-use Rattle.terms.specs.declared.Answer.the-variants.{Done, Misdeclared, Uncovered}
+use Rattle.answers.specs.declared.Answer.the-variants.{Done, Misdeclared, Uncovered}
 use Rattle.surface.proofs.Laws.Tests.{eq-or-not}
 use Rattle.covers.specs.Covers.{Cover, empty, apex, Triangle, on, triangles, vertexOf, patchOf}
-use Rattle.covers.specs.Sets.{Alike, Lists, named, triples}
-use Rattle.covers.specs.Reading.{In}
+use Rattle.surface.specs.Threes.{threes}
+use Rattle.covers.specs.Sets.{Alike, ListsTriangles, named}
+use Rattle.covers.specs.Workings.Reading.{In}
 use Rattle.covers.proofs.Laws.Listed.{listed-in}
 use Rattle.covers.proofs.Laws.Sets.{by-corners}
 use Rattle.bars.specs.Bars.{between}
-use Rattle.bars.specs.Chains.{Tells}
+use Rattle.bars.specs.Workings.Chains.{Tells}
 use Rattle.bars.proofs.Laws.Triples.{ends-of, between-append, between-one}
-use Rattle.keys.specs.Covering.{Covering}
+use Rattle.keys.specs.Workings.Covering.{Covering}
 use Rattle.run.proofs.Laws.Three.{three-meets}
 use Rattle.run.proofs.Laws.Sides.{three-tells}
 use Rattle.verdicts.specs.Faults.{share, patched, long, WrongState, no-state, two-on-a-short, not-two-on-a-long, three-with-a-cover, misdeclared, no-cover}
-use Rattle.sight.specs.Findings.{right, fault, PlainRoom, FindsPlain, WoundAgainst}
+use Rattle.sight.specs.Workings.Findings.{right, fault, PlainRoom, FindsPlain, WoundAgainst}
 use Rattle.verdicts.proofs.Laws.Declared.{declared-patched}
 
 -- ---- the long loop
@@ -47,8 +48,8 @@ three-corners (a ∷ b ∷ c ∷ d ∷ l) n = absurd (omega arith)
 abbrev pub lone : List ℕ → Triangle
 lone part = on (getD part 0 0) (getD part 1 0) (getD part 2 0)
 
-lone-triple : (part : List ℕ) → length part ≡ 3 → triples part ≡ lone part ∷ []
-lone-triple part n = ap triples (three-corners part n)
+lone-triple : (part : List ℕ) → length part ≡ 3 → threes part ≡ lone part ∷ []
+lone-triple part n = ap threes (three-corners part n)
 
 -- the ring of three, wound against it
 abbrev pub turnedRing : List ℕ → Triangle
@@ -59,7 +60,7 @@ module _ (ring : List ℕ) (n : length ring ≡ 3) where
   far = omega arith
 
   -- a triangle is its cover exactly if it is wound against it,
-  covering-alike : (part : List ℕ) → length part ≡ 3 → (c : Cover) → Covering ring (triples part) c → Alike (lone part) (turnedRing ring)
+  covering-alike : (part : List ℕ) → length part ≡ 3 → (c : Cover) → Covering ring (threes part) c → Alike (lone part) (turnedRing ring)
   covering-alike part k empty h = let e : length ring - 1 ≡ 1 = h .0 in absurd (omega arith)
   covering-alike part k (apex m c d) h =
       let a : 0 < m = h .0 .0 in
@@ -67,7 +68,7 @@ module _ (ring : List ℕ) (n : length ring ≡ 3) where
       let e : m ≡ 1 = omega arith in
       let x =
       listed-in (map (named (vertexOf ring)) (triangles 0 (length ring - 1) (apex m c d))) (lone part ∷ [])
-      (subst (λ (s : List Triangle). Lists s (map (named (vertexOf ring)) (triangles 0 (length ring - 1) (apex m c d)))) (lone-triple part k) (h .1))
+      (subst (λ (s : List Triangle). ListsTriangles s (map (named (vertexOf ring)) (triangles 0 (length ring - 1) (apex m c d)))) (lone-triple part k) (h .1))
       (on (getD ring 0 0) (getD ring (length ring - 1) 0) (getD ring m 0)) (inl refl) in
       subst (λ (z : ℕ). Alike (lone part) (on (getD ring 0 0) (getD ring 2 0) (getD ring z 0))) e
       (subst (λ (z : ℕ). Alike (lone part) (on (getD ring 0 0) (getD ring z 0) (getD ring m 0))) (sym far)
@@ -77,11 +78,11 @@ module _ (ring : List ℕ) (n : length ring ≡ 3) where
       only u (inl e) = e
       only u (inr e) = absurd e
 
-  alike-covering : (grid : List ℤ) (part : List ℕ) → length part ≡ 3 → Alike (lone part) (turnedRing ring) → Covering ring (triples part) (apex 1 empty empty)
+  alike-covering : (grid : List ℤ) (part : List ℕ) → length part ≡ 3 → Alike (lone part) (turnedRing ring) → Covering ring (threes part) (apex 1 empty empty)
   alike-covering grid part k h = (
     three-meets grid [] [] ring n .1 .among .covers,
-    subst (λ (s : List Triangle). Lists s (map (named (vertexOf ring)) (triangles 0 (length ring - 1) (apex 1 empty empty)))) (sym (lone-triple part k))
-        (subst (λ (z : ℕ). Lists (lone part ∷ []) (on (getD ring 0 0) (getD ring z 0) (getD ring 1 0) ∷ [])) far ([], [], lone part, refl, h, refl)),
+    subst (λ (s : List Triangle). ListsTriangles s (map (named (vertexOf ring)) (triangles 0 (length ring - 1) (apex 1 empty empty)))) (sym (lone-triple part k))
+        (subst (λ (z : ℕ). ListsTriangles (lone part ∷ []) (on (getD ring 0 0) (getD ring z 0) (getD ring 1 0) ∷ [])) far ([], [], lone part, refl, h, refl)),
   )
 
 -- ---- the loop of three
@@ -149,7 +150,7 @@ module _ (ring : List ℕ) (state : ℕ) (set : List ℕ) (at l : ℕ) (n : leng
           a
           (subst (λ (t : Triangle). Alike t (turnedRing ring)) (sym (part-lone set at room))
           (covering-alike ring n (take 3 (drop at set)) (part-long set at room) c
-          (subst (λ (p : List ℕ). Covering ring (triples p) c) same-part (h .covers))))))
+          (subst (λ (p : List ℕ). Covering ring (threes p) c) same-part (h .covers))))))
 
       pub three-right : WoundAgainst ring found true → FindsPlain ring state set at l Done
       three-right a grid input laid =
@@ -159,7 +160,7 @@ module _ (ring : List ℕ) (state : ℕ) (set : List ℕ) (at l : ℕ) (n : leng
           (record {
             there = let t : 3 ≤ length (drop at set) = left-long set at room in omega arith;
             covers =
-                subst (λ (p : List ℕ). Covering ring (triples p) (apex 1 empty empty)) (sym same-part)
+                subst (λ (p : List ℕ). Covering ring (threes p) (apex 1 empty empty)) (sym same-part)
                 (alike-covering ring n grid (take 3 (drop at set)) (part-long set at room)
                 (subst (λ (t : Triangle). Alike t (turnedRing ring)) (part-lone set at room) a));
           })
@@ -195,7 +196,7 @@ alike-joins s t (inr (inr e)) u v =
 pub three-told : (input laid ring : List ℕ) (e : ℕ) (heads links ends part : List ℕ) → length ring ≡ 3 → length laid % 3 ≡ 0
     → ((j : ℕ) → j + 1 < length ring → between input (getD ring j 0) (getD ring (j + 1) 0) ≡ true)
     → between input (getD ring (length ring - 1) 0) (getD ring 0 0) ≡ true
-    → length part ≡ 3 → (c : Cover) → Covering ring (triples part) c → Tells input laid e heads links ends → Tells input (laid ++ part) e heads links ends
+    → length part ≡ 3 → (c : Cover) → Covering ring (threes part) c → Tells input laid e heads links ends → Tells input (laid ++ part) e heads links ends
 three-told input laid ring e heads links ends part n whole sides closing k c h t =
     let told = three-tells input laid ring e heads links ends n whole sides (subst (λ (z : ℕ). between input (getD ring z 0) (getD ring 0 0) ≡ true) (sym (far ring n)) closing) t in
     record {

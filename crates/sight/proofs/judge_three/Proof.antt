@@ -2,7 +2,7 @@
 use mathlib.Core.Path.{subst}
 use native.Mathlib.Omega.{arith}
 use borrow.Author.Needs.{needs}
-use Rattle.sight.specs.Findings.{WoundAgainst}
+use Rattle.sight.specs.Workings.Findings.{WoundAgainst}
 use Rattle.sight.proofs.Laws.Threes.{three-wrong, three-missing, three-right, three-no-cover}
 use Rattle.sight.proofs.judge_three.Statement.{statement}
 use Rattle.sight.proofs.judge_three.Tie as tie

@@ -1,5 +1,5 @@
 -- The verdict over all loops, with the bench from one turn to the next.
-use mathlib.Core.Path.{_≡_, sym, _∙_, subst}
+use mathlib.Core.Path.{_≡_, sym, subst}
 use mathlib.Core.List.{List, [], _++_}
 use Prim.Native.Nat.{ℕ, _+_, _-_, _≤_, _<_}
 use native.Mathlib.Omega.{arith}
@@ -8,35 +8,29 @@ use lib.ListN.{length, getD, take, drop}
 use lib.Seq.{take-add}
 use lib.Ieee.{Float}
 use Rattle.limits.specs.Limits as limits
-use Rattle.terms.specs.declared.Answer.{Answer}
-use Rattle.terms.specs.declared.Answer.the-variants.{Done}
-use Rattle.bars.specs.Chains.{Tells}
-use Rattle.column.specs.Columns.{Table}
-use Rattle.rounds.specs.Rings.{RingOf, Loops, RingPlace}
-use Rattle.rounds.specs.Bench.{Bench}
+use Rattle.answers.specs.declared.Answer.{Answer}
+use Rattle.answers.specs.declared.Answer.the-variants.{Done}
+use Rattle.bars.specs.Workings.Chains.{Tells}
+use Rattle.column.specs.Workings.Columns.{Table}
+use Rattle.rounds.specs.Workings.Rings.{RingOf, Loops, RingPlace}
+use Rattle.rounds.specs.Workings.Bench.{Bench}
 use Rattle.rounds.proofs.Laws.Reading.{as-many, places-of}
-use Rattle.rounds.proofs.Laws.Bench.{noughts, edgesMost, bench-begins, ring-room}
+use Rattle.rounds.proofs.Laws.Bench.{noughts, edgesMost, Standing, standing-begins, standing-room, standing-next}
 use Rattle.verdicts.specs.Verdicts.{taken, leftOver}
-use Rattle.judgement.specs.Turns.{LoopTurn, Judging, FindsLoop}
-use Rattle.summary.specs.Courses.{VerdictRoom, Gives}
+use Rattle.judgement.specs.Workings.Turns.{LoopTurn, Judging, FindsLoop}
+use Rattle.summary.specs.Workings.Courses.{VerdictRoom, Gives}
 use Rattle.summary.proofs.Laws.Verdicts.{Gone, gone-begins, gone-ends, ring-here, turn-decides, turn-goes}
 
 -- the first l loops are right, whatever loops they are, and the bench is ready
 pub record Going (grid : List ℤ) (input rings lengths states set : List ℕ) (l r at e : ℕ) (heads links ends marks rows : List ℕ) (table : List Float) : Type 0 where
-  pub links-long : length links ≡ edgesMost
-  pub ends-long : length ends ≡ edgesMost
-  pub bench : Bench input (take at set) e heads links ends marks (r + 1) rows table
-  pub edges-few : e ≤ length input + r
+  pub standing : Standing input (take at set) r e heads links ends marks rows table
   pub gone : (rs : List (List ℕ)) → Loops grid input rs rings lengths → length states ≡ length rs → Gone grid input rs states set l r at
 
 module _ (grid : List ℤ) (input rings lengths states set : List ℕ) (room : VerdictRoom grid input rings lengths states) where
   pub going-begins : (heads links ends : List ℕ) (table : List Float) → length links ≡ edgesMost → length ends ≡ edgesMost → Table table → Tells input [] (length input) heads links ends
       → Going grid input rings lengths states set 0 0 0 (length input) heads links ends (noughts limits.points) (noughts limits.longest) table
   going-begins heads links ends table ll le lt t = record {
-    links-long = ll;
-    ends-long = le;
-    bench = bench-begins input heads links ends table lt t;
-    edges-few = omega arith;
+    standing = standing-begins input heads links ends table ll le lt t;
     gone = λ rs s d. gone-begins grid input rs states set;
   }
 
@@ -78,14 +72,14 @@ module _ (grid : List ℤ) (input rings lengths states set : List ℕ) (room : V
             input = input;
             before = take at set;
             ring-of = ring-of;
-            bench = g .bench;
-            room = ring-room input part links ends r e (room .corners) (omega arith) (omega arith) (g .edges-few) (g .links-long) (g .ends-long);
+            bench = g .standing .bench;
+            room = standing-room input (take at set) r e heads links ends marks rows table (g .standing) part (room .corners) (omega arith) (omega arith);
           }
 
       module _ (a : Answer) (f : ℕ) (heads′ links′ ends′ marks′ rows′ : List ℕ) (table′ : List Float)
           (found : FindsLoop grid part (getD states l 0) (drop at set) l heads links ends marks (r + 1) rows table e a f heads′ links′ ends′ marks′ rows′ table′) where
         turned : Judging grid input (take at set) part (getD states l 0) (drop at set) l (r + 1) e a f heads′ links′ ends′ marks′ rows′ table′
-        turned = found input (take at set) ring-of (g .bench)
+        turned = found input (take at set) ring-of (g .standing .bench)
 
         pub decides : (a ≡ Done → ⊥) → Gives grid input rings lengths states set a
         decides n rs s d = turn-decides grid input rs rings lengths s states set d l r at h (g .gone rs s d) a (turned .finds) n
@@ -102,17 +96,11 @@ module _ (grid : List ℤ) (input rings lengths states set : List ℕ) (room : V
               → Going grid input rings lengths states set (l + 1) (r + getD lengths l 0) (at + k) f heads′ links′ ends′ marks′ rows′ table′
           going-on kl ke =
               let n : length part ≡ getD lengths l 0 = places .part-long in
-              let three : 3 ≤ getD lengths l 0 = places .three in
-              let x : e ≤ length input + r = g .edges-few in
-              let y : f ≤ e + (length part - 2) = turned .few in
               let q : k ≡ taken part (getD states l 0) = t part (omega arith) in
               record {
-                links-long = kl ∙ g .links-long;
-                ends-long = ke ∙ g .ends-long;
-                bench =
-                    subst (λ (i : ℕ). Bench input (take (at + k) set) f heads′ links′ ends′ marks′ i rows′ table′) (omega arith)
+                standing =
+                    standing-next input (take at set) r e heads links ends marks rows table (g .standing) part (take (at + k) set) (r + getD lengths l 0) f heads′ links′ ends′ marks′ rows′ table′ (omega arith) kl ke (turned .few)
                     (subst (λ (i : List ℕ). Bench input i f heads′ links′ ends′ marks′ (r + 1 + length part) rows′ table′) (sym (take-add at k set))
                     (subst (λ (i : ℕ). Bench input (take at set ++ take i (drop at set)) f heads′ links′ ends′ marks′ (r + 1 + length part) rows′ table′) (sym q) (turned .bench done)));
-                edges-few = omega arith;
                 gone = on;
               }

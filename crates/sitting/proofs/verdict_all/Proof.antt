@@ -59,10 +59,10 @@ shared-slice-read-judge-loop : tie.Need-shared-slice-read-judge-loop Inv-loop μ
 shared-slice-read-judge-loop c = state-in _ _ _ _ _ _ (c .before .before .before .before .before .before .before .before .before .before .before .before .before .before .before .before .pre) _ _ _ _ _ _ _ _ _ _ (c .before .before .before .before .loop .inv) (c .before .before .before .loop-test .taken)
 
 slice-aggregate-judge-loop : tie.Need-slice-aggregate-judge-loop Inv-loop μ-loop
-slice-aggregate-judge-loop c = sym (c .before .before .before .before .before .before .loop .inv .links-long)
+slice-aggregate-judge-loop c = sym (c .before .before .before .before .before .before .loop .inv .standing .links-long)
 
 slice-aggregate-judge-loop-2 : tie.Need-slice-aggregate-judge-loop-2 Inv-loop μ-loop
-slice-aggregate-judge-loop-2 c = sym (c .before .before .before .before .before .before .before .loop .inv .ends-long)
+slice-aggregate-judge-loop-2 c = sym (c .before .before .before .before .before .before .before .loop .inv .standing .ends-long)
 
 add-judge-loop : tie.Need-add-judge-loop Inv-loop μ-loop
 add-judge-loop c = let h = places _ _ _ _ _ _ (c .before .before .before .before .before .before .before .before .before .before .before .before .before .before .before .before .before .before .before .before .pre) _ _ _ _ _ _ _ _ _ _ (c .before .before .before .before .before .before .before .before .loop .inv) (c .before .before .before .before .before .before .before .loop-test .taken) in omega (arith, h .ring-in, h .rings-few)
@@ -71,7 +71,7 @@ cast-judge-loop : tie.Need-cast-judge-loop Inv-loop μ-loop
 cast-judge-loop c = let h = places _ _ _ _ _ _ (c .before .before .before .before .before .before .before .before .before .before .before .before .before .before .before .before .before .before .before .before .pre) _ _ _ _ _ _ _ _ _ _ (c .before .before .before .before .before .before .before .before .loop .inv) (c .before .before .before .before .before .before .before .loop-test .taken) in omega (arith, h .ring-in, h .rings-few)
 
 slice-aggregate-judge-loop-3 : tie.Need-slice-aggregate-judge-loop-3 Inv-loop μ-loop
-slice-aggregate-judge-loop-3 c = sym (c .before .before .before .before .before .before .before .before .before .before .loop .inv .bench .table-long)
+slice-aggregate-judge-loop-3 c = sym (c .before .before .before .before .before .before .before .before .before .before .loop .inv .standing .bench .table-long)
 
 judge-loop-requires : tie.Need-judge-loop-requires Inv-loop μ-loop
 judge-loop-requires c κs = (loop-turn _ _ _ _ _ _ (c .before .before .before .before .before .before .before .before .before .before .before .before .before .before .before .before .before .before .before .before .before .before .pre) _ _ _ _ _ _ _ _ _ _ (c .before .before .before .before .before .before .before .before .before .before .loop .inv) (c .before .before .before .before .before .before .before .before .before .loop-test .taken), set-in _ _ _ _ _ _ (c .before .before .before .before .before .before .before .before .before .before .before .before .before .before .before .before .before .before .before .before .before .before .pre) _ _ _ _ _ _ _ _ _ _ (c .before .before .before .before .before .before .before .before .before .before .loop .inv))

@@ -4,7 +4,7 @@ use mathlib.Core.List.{List}
 use Prim.Native.Nat.{ℕ, _≤_, _<_}
 use lib.ListN.{length, drop, drop-of-length-le}
 use lib.Seq.{drop-cons}
-use Rattle.terms.specs.declared.Answer.the-variants.{Done, LeftOver}
+use Rattle.answers.specs.declared.Answer.the-variants.{Done, LeftOver}
 use Rattle.verdicts.specs.Verdicts.{leftOver}
 
 module _ (set : List ℕ) (at : ℕ) where

@@ -7,13 +7,13 @@ use native.Mathlib.Omega.{arith}
 use lib.IntN.{ℤ}
 use lib.ListN.{length, getD, take, drop}
 use Rattle.limits.specs.Limits as limits
-use Rattle.terms.specs.declared.Answer.{Answer}
-use Rattle.terms.specs.declared.Answer.the-variants.{Done}
-use Rattle.rounds.specs.Rings.{Loops, RingPlace}
+use Rattle.answers.specs.declared.Answer.{Answer}
+use Rattle.answers.specs.declared.Answer.the-variants.{Done}
+use Rattle.rounds.specs.Workings.Rings.{Loops, RingPlace}
 use Rattle.rounds.proofs.Laws.Reading.{as-many, places-of}
 use Rattle.verdicts.specs.Verdicts.{taken, leftOver}
-use Rattle.sight.specs.Findings.{PlainRoom, FindsPlain}
-use Rattle.summary.specs.Courses.{PlainVerdictRoom, GivesPlain}
+use Rattle.sight.specs.Workings.Findings.{PlainRoom, FindsPlain}
+use Rattle.summary.specs.Workings.Courses.{PlainVerdictRoom, GivesPlain}
 use Rattle.summary.proofs.Laws.Verdicts.{Gone, gone-begins, gone-ends, turn-decides, turn-goes}
 
 -- the first l loops are right, whatever loops they are

@@ -8,14 +8,14 @@ use native.Mathlib.Omega.{arith}
 use lib.IntN.{ℤ}
 use lib.ListN.{length, getD, take, drop, length-append, length-drop, drop-of-length-le}
 use lib.Seq.{drop-cons, drop-drop, take-add}
-use Rattle.terms.specs.declared.Answer.{Answer}
-use Rattle.terms.specs.declared.Answer.the-variants.{Done}
-use Rattle.rounds.specs.Rings.{RingOf, Loops}
+use Rattle.answers.specs.declared.Answer.{Answer}
+use Rattle.answers.specs.declared.Answer.the-variants.{Done}
+use Rattle.rounds.specs.Workings.Rings.{RingOf, Loops}
 use Rattle.rounds.proofs.Laws.Reading.{as-many, length-at, ring-at, ring-next}
-use Rattle.verdicts.specs.Faults.{Right, patched, long, open-left, Fault}
+use Rattle.verdicts.specs.Faults.{Right, Fault}
 use Rattle.verdicts.specs.Verdicts.{taken, leftOver, Verdict}
-use Rattle.verdicts.proofs.Laws.Filled.{taken-patched, taken-none}
-use Rattle.sight.specs.Findings.{Finds, right, fault}
+use Rattle.verdicts.proofs.Laws.Filled.{right-takes}
+use Rattle.sight.specs.Workings.Findings.{Finds, right, fault}
 use Rattle.sight.proofs.Laws.Findings.{done-right}
 
 -- the first l loops are right: they have r ring vertices and take the set up to `at`
@@ -23,12 +23,6 @@ pub record Gone (grid : List ℤ) (input : List ℕ) (rs : List (List ℕ)) (sta
   pub read : r ≡ length (flatten (take l rs))
   pub within : at ≤ length set
   pub goes : (a : Answer) → Verdict grid input (take at set) l at (drop l rs) (drop l states) (drop at set) a → Verdict grid input [] 0 0 rs states set a
-
--- what a right loop takes is there
-right-takes : (grid : List ℤ) (input laid ring : List ℕ) (state : ℕ) (set : List ℕ) → Right grid input laid ring state set → taken ring state ≤ length set
-right-takes grid input laid ring state set (patched e s c t a n) = subst (λ (k : ℕ). k ≤ length set) (sym (taken-patched ring state e)) (t .there)
-right-takes grid input laid ring state set (long e s) = let z : taken ring state ≡ 0 = taken-none ring state (λ f. omega arith) in omega arith
-right-takes grid input laid ring state set (open-left e s n) = let z : taken ring state ≡ 0 = taken-none ring state (λ f. omega arith) in omega arith
 
 -- what a turn that did not say `Done` found
 finds-fault : (grid : List ℤ) (input laid : List ℕ) (l : ℕ) (ring : List ℕ) (state : ℕ) (set : List ℕ) (a : Answer) → Finds grid input laid l ring state set a → (a ≡ Done → ⊥)

@@ -1,11 +1,11 @@
 -- A pass over all indices that keeps whether a property was met: at its end it says whether there is a smallest index with it.
 use mathlib.Core.Path.{_≡_, refl, ap, _∙_}
-use mathlib.Core.Bool.{Bool, true, false, not, _&&_}
+use mathlib.Core.Bool.{Bool, true, false, not, _&&_, cond}
 use Prim.Native.Nat.{ℕ, _+_}
 use native.Mathlib.Numerals.{add-one}
 use Rattle.surface.specs.declared.Found.{Found}
 use Rattle.surface.specs.declared.Found.the-variants.{At, Nothing}
-use Rattle.surface.specs.Smallest.{hit, orElse, least, any}
+use Rattle.surface.specs.Smallest.{orElse, least, any}
 
 module _ (p : ℕ → Bool) where
   pub all-none : true ≡ not (any (least p 0))
@@ -16,7 +16,7 @@ module _ (p : ℕ → Bool) where
   unfolding least
   all-more all t i h e = rw (add-one, h, e) (go (least p i) (p i))
     where
-      go : (f : Found) (b : Bool) → (not (any f) && not b) ≡ not (any (orElse f (hit b i)))
+      go : (f : Found) (b : Bool) → (not (any f) && not b) ≡ not (any (orElse f (cond b (At i) Nothing)))
       go (At j) b = refl
       go Nothing true = refl
       go Nothing false = refl

@@ -1,6 +1,6 @@
 -- A search that says `At i` has found the first index with the property, and one that says `Nothing` has passed them all: both by one step for each index.
 use mathlib.Core.Path.{_≡_, refl, sym, ap, _∙_}
-use mathlib.Core.Bool.{Bool, true, false, true≢false}
+use mathlib.Core.Bool.{Bool, true, false, true≢false, cond}
 use mathlib.Core.Logic.{⊎-elim}
 use Prim.Native.Nat.{ℕ, zero, suc, _+_, _<_}
 use native.Mathlib.Numerals.{add-one}
@@ -9,7 +9,7 @@ use native.Mathlib.Nat.{not-suc-le-zero, eq-or-lt-of-le, le-of-suc-le-suc, le-re
 use native.Mathlib.Omega.{arith}
 use Rattle.surface.specs.declared.Found.{Found}
 use Rattle.surface.specs.declared.Found.the-variants.{At, Nothing}
-use Rattle.surface.specs.Smallest.{least, any, hit, orElse}
+use Rattle.surface.specs.Smallest.{least, any, orElse}
 
 pub At-not-Nothing : {i : ℕ} → At i ≡ Nothing → ⊥
 At-not-Nothing h = let z : _≡_ {A = ℕ} 0 1 = cc in omega arith
@@ -46,7 +46,7 @@ module _ (p : ℕ → Bool) where
   least-never zero h k l = absurd (not-suc-le-zero l)
   least-never (suc n) h k l = go (λ e q. least-never n e k q) (least p n) refl (p n) refl h
     where
-      go : (least p n ≡ Nothing → k < n → p k ≡ false) → (f : Found) → least p n ≡ f → (t : Bool) → p n ≡ t → orElse f (hit t n) ≡ Nothing → p k ≡ false
+      go : (least p n ≡ Nothing → k < n → p k ≡ false) → (f : Found) → least p n ≡ f → (t : Bool) → p n ≡ t → orElse f (cond t (At n) Nothing) ≡ Nothing → p k ≡ false
       go r (At i) e t d g = absurd (At-not-Nothing g)
       go r Nothing e true d g = absurd (At-not-Nothing g)
       go r Nothing e false d g = ⊎-elim (λ q. ap p q ∙ d) (λ q. r e q) (eq-or-lt-of-le (le-of-suc-le-suc l))
@@ -57,7 +57,7 @@ module _ (p : ℕ → Bool) where
   least-sound zero i h = absurd (At-not-Nothing (sym h))
   least-sound (suc n) i h = go (least-sound n i) (least p n) refl (p n) refl h
     where
-      go : (least p n ≡ At i → (i < n) × (p i ≡ true)) → (f : Found) → least p n ≡ f → (t : Bool) → p n ≡ t → orElse f (hit t n) ≡ At i → (i < suc n) × (p i ≡ true)
+      go : (least p n ≡ At i → (i < n) × (p i ≡ true)) → (f : Found) → least p n ≡ f → (t : Bool) → p n ≡ t → orElse f (cond t (At n) Nothing) ≡ At i → (i < suc n) × (p i ≡ true)
       go r (At j) e t d g = let q = r (e ∙ g) in (omega arith, q .1)
       go r Nothing e true d g = let q : n ≡ i = cc in (omega arith, ap p (sym q) ∙ d)
       go r Nothing e false d g = absurd (At-not-Nothing (sym g))
@@ -67,7 +67,7 @@ module _ (p : ℕ → Bool) where
   least-first zero i h k l = absurd (At-not-Nothing (sym h))
   least-first (suc n) i h k l = go (λ e. least-first n i e k l) (least p n) refl (p n) refl h
     where
-      go : (least p n ≡ At i → p k ≡ false) → (f : Found) → least p n ≡ f → (t : Bool) → p n ≡ t → orElse f (hit t n) ≡ At i → p k ≡ false
+      go : (least p n ≡ At i → p k ≡ false) → (f : Found) → least p n ≡ f → (t : Bool) → p n ≡ t → orElse f (cond t (At n) Nothing) ≡ At i → p k ≡ false
       go r (At j) e t d g = r (e ∙ g)
       go r Nothing e true d g = let q : n ≡ i = cc in least-never n e k (omega arith)
       go r Nothing e false d g = absurd (At-not-Nothing (sym g))

@@ -1,21 +1,21 @@
 -- Checks one after the other: a refusal decides, and where none is given the next check does. What is no refusal in the table is `Done`.
 use mathlib.Core.Path.{_≡_, refl, sym, ap₂, _∙_}
-use mathlib.Core.Bool.{Bool, true, false, not, true≢false, _&&_}
+use mathlib.Core.Bool.{Bool, true, false, cond, true≢false, _&&_}
 use mathlib.Core.List.{List, [], _∷_}
 use Prim.Native.Nat.{ℕ, zero, suc, _+_, _*_, _/_, _%_, _≤_, _<_}
 use native.Mathlib.Omega.{arith}
 use lib.ListN.{length, getD}
 use borrow.Author.Tests.{eq-eqb, eqb-true, le-leb, leb-true, ltb-true, ltb-false}
 use Rattle.limits.specs.Limits as limits
-use Rattle.terms.specs.Answers.{refusing}
+use Rattle.answers.specs.Numbers.{refusing}
 use Rattle.terms.specs.Counts.{threes}
-use Rattle.terms.specs.declared.Answer.{Answer}
-use Rattle.terms.specs.declared.Answer.the-variants.{Done, Words, Corners, Buffer, Unnamed, Twice, Repeated, NotFinite, TooFar}
+use Rattle.answers.specs.declared.Answer.{Answer}
+use Rattle.answers.specs.declared.Answer.the-variants.{Done, Words, Corners, Buffer, Unnamed, Twice, Repeated, NotFinite, TooFar}
 use Rattle.surface.specs.declared.Found.{Found}
 use Rattle.surface.specs.declared.Found.the-variants.{At, Nothing}
 use Rattle.surface.specs.Smallest.{least}
 use Rattle.surface.specs.Edges.{twice, repeats}
-use Rattle.surface.specs.Refusals.{short, unnamed, notFinite, tooFar, thenCheck, refuseAt, refuseIf, countRefusal, bufferRefusal, cornerRefusal, wordRefusal, contentRefusal}
+use Rattle.surface.specs.Refusals.{short, unnamed, notFinite, tooFar, thenCheck, refuseAt, countRefusal, bufferRefusal, cornerRefusal, wordRefusal, contentRefusal}
 use Rattle.surface.proofs.Laws.Tests.{both-true}
 use Rattle.surface.proofs.Laws.Smallest.{least-never, least-sound}
 
@@ -43,9 +43,9 @@ plain-at : (f : ℕ → Answer) (found : Found) → ((i : ℕ) → refusing (f i
 plain-at f (At i) r = refusal-plain (f i) (r i)
 plain-at f Nothing r = plain-done
 
-plain-if : (t : Bool) (a : Answer) → refusing a ≡ true → Plain (refuseIf t a)
-plain-if true a r = refusal-plain a r
-plain-if false a r = plain-done
+plain-unless : (t : Bool) (a : Answer) → refusing a ≡ true → Plain (cond t Done a)
+plain-unless true a r = plain-done
+plain-unless false a r = refusal-plain a r
 
 plain-then : (a b : Answer) → Plain a → Plain b → Plain (thenCheck a b)
 plain-then a b p q = go (refusing a) refl
@@ -59,8 +59,8 @@ plain-then a b p q = go (refusing a) refl
 pub count-plain : (words corners : ℕ) → Plain (countRefusal words corners)
 unfolding countRefusal
 count-plain words corners =
-    plain-then (refuseIf (not (threes limits.words words)) Words) (refuseIf (not (threes limits.corners corners)) Corners)
-    (plain-if (not (threes limits.words words)) Words refl) (plain-if (not (threes limits.corners corners)) Corners refl)
+    plain-then (cond (threes limits.words words) Done Words) (cond (threes limits.corners corners) Done Corners)
+    (plain-unless (threes limits.words words) Words refl) (plain-unless (threes limits.corners corners) Corners refl)
 
 pub buffer-plain : (lent needs : List ℕ) → Plain (bufferRefusal lent needs)
 unfolding bufferRefusal
@@ -112,7 +112,7 @@ unfolding countRefusal
 counts-fit words corners = go (threes limits.words words) refl (threes limits.corners corners) refl
   where
     go : (t : Bool) → threes limits.words words ≡ t → (u : Bool) → threes limits.corners corners ≡ u
-        → thenCheck (refuseIf (not t) Words) (refuseIf (not u) Corners) ≡ Done → Fitting words corners
+        → thenCheck (cond t Done Words) (cond u Done Corners) ≡ Done → Fitting words corners
     go true e true f d =
         let a = threes-say limits.words words e in
         let b = threes-say limits.corners corners f in

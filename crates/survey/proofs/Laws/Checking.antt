@@ -9,13 +9,13 @@ use lib.ListN.{length}
 use mir.Syntax.{w16}
 use mir.Val.{Fits}
 use Rattle.limits.specs.Limits as limits
-use Rattle.terms.specs.Answers.{refusing}
-use Rattle.terms.specs.declared.Answer.{Answer}
-use Rattle.terms.specs.declared.Answer.the-variants.{Done}
+use Rattle.answers.specs.Numbers.{refusing}
+use Rattle.answers.specs.declared.Answer.{Answer}
+use Rattle.answers.specs.declared.Answer.the-variants.{Done}
 use Rattle.surface.specs.Refusals.{thenCheck, bufferRefusal, cornerRefusal, wordRefusal, contentRefusal}
 use Rattle.surface.proofs.Laws.Thens.{then-refused, then-next, buffer-plain, corner-plain, done-of, Fitting, counts-fit, buffers-long, words-pass}
-use Rattle.twins.specs.Turns.{Room}
-use Rattle.survey.specs.Checks.{Counted, Fitted, CornersChecked, Checked}
+use Rattle.twins.specs.Workings.Turns.{Room}
+use Rattle.survey.specs.Workings.Checks.{Counted, Fitted, CornersChecked, Checked}
 
 module _ (words corners : List ℕ) where
   -- a refusal is not `Done`

@@ -22,7 +22,7 @@ use Rattle.grid.specs.declared.Coordinate.the-variants.{NotFinite, TooFar}
 use Rattle.surface.specs.Buffers.{over}
 use Rattle.surface.specs.Refusals.{notFinite, tooFar}
 use Rattle.surface.proofs.Laws.Smallest.{least-never}
-use Rattle.surface.proofs.Laws.Words.{not-finite-is, too-far-is}
+use Rattle.sifting.proofs.Laws.Words.{not-finite-is, too-far-is}
 use Rattle.surface.proofs.Laws.Over.{over-none, over-snoc}
 use Rattle.survey.specs.Grid.{wholeOf, gridOf, OnGrid}
 

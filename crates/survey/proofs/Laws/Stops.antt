@@ -12,7 +12,7 @@ use Rattle.surface.specs.Smallest.{least}
 use Rattle.surface.specs.Edges.{twice, repeats}
 use Rattle.surface.proofs.Laws.Smallest.{least-never, never-least, least-same}
 use Rattle.surface.proofs.Laws.Tests.{either-false}
-use Rattle.twins.specs.Turns.{stops}
+use Rattle.twins.specs.Workings.Turns.{stops}
 
 module _ (corners : List ℕ) (triples : length corners % 3 ≡ 0) where
   stop-parts : (h : ℕ) → stops corners h ≡ false → (repeats corners h ≡ false) × ((eqb (h % 3) 0 && twice corners (h / 3)) ≡ false)

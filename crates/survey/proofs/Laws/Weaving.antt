@@ -5,16 +5,16 @@ use Prim.Native.Nat.{ℕ, _/_, _<_}
 use native.Mathlib.Omega.{arith}
 use lib.ListN.{length, getD}
 use borrow.Author.Tests.{leb-false}
-use Rattle.terms.specs.declared.Answer.the-variants.{Done, Unnamed, Twice, Repeated}
+use Rattle.answers.specs.declared.Answer.the-variants.{Done, Unnamed, Twice, Repeated}
 use Rattle.surface.specs.declared.Found.{Found}
 use Rattle.surface.specs.declared.Found.the-variants.{At, Nothing}
 use Rattle.surface.specs.Smallest.{least}
 use Rattle.surface.specs.Edges.{twice, repeats}
 use Rattle.surface.specs.Refusals.{unnamed, cornerRefusal}
 use Rattle.surface.proofs.Laws.Smallest.{least-never}
-use Rattle.twins.specs.Turns.{Room, stops}
-use Rattle.pairing.specs.Outcome.{Paired}
-use Rattle.survey.specs.Checks.{CornersChecked}
+use Rattle.twins.specs.Workings.Turns.{Room, stops}
+use Rattle.pairing.specs.Workings.Outcome.{Paired}
+use Rattle.survey.specs.Workings.Checks.{CornersChecked}
 use Rattle.survey.proofs.Laws.Stops.{no-stop-single, no-stop-plain, stop-single}
 
 module _ (corners : List ℕ) (points : ℕ) where

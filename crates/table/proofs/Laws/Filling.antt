@@ -10,8 +10,8 @@ use lib.ListN.{length}
 use lib.Ieee.{Float}
 use Rattle.limits.specs.Limits.{longest}
 use Rattle.weight.specs.declared.Point.{Point}
-use Rattle.column.specs.Columns.{Long, Table, ProductsRoom, Multiplied, CopyRoom, Copied}
-use Rattle.table.specs.Table.{Loop, Filled, Sweeping, Sweepable, Swept, Fillable, Fills}
+use Rattle.column.specs.Workings.Columns.{Long, Table, ProductsRoom, Multiplied, CopyRoom, Copied}
+use Rattle.table.specs.Workings.Table.{Loop, Filled, Sweeping, Sweepable, Swept, Fillable, FillsTable}
 use Rattle.table.proofs.Laws.Fills.{sweeping-begins, filled-begins}
 
 pub record Filling (n : ℕ) (px py pz : List Float) (bars : List ℕ) (table₀ : List Float) (k : ℕ) (xs ys zs column table : List Float) : Type 0 where
@@ -90,5 +90,5 @@ module _ (n : ℕ) (px py pz : List Float) (bars : List ℕ) (table₀ : List Fl
           fills = λ at barred l. subst (λ (x : ℕ). Filled at barred x table₂) (sym (add-one k)) (s at barred n (begun at barred l));
         }
 
-  pub filling-ends : (k : ℕ) (xs ys zs column table : List Float) → n ≤ k → Filling n px py pz bars table₀ k xs ys zs column table → Fills n px py pz bars table
+  pub filling-ends : (k : ℕ) (xs ys zs column table : List Float) → n ≤ k → Filling n px py pz bars table₀ k xs ys zs column table → FillsTable n px py pz bars table
   filling-ends k xs ys zs column table h p at barred l = let m : k ≤ n = p .most in subst (λ (x : ℕ). Filled at barred x table) (omega arith) (p .fills at barred l)

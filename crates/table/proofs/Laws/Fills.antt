@@ -12,14 +12,14 @@ use lib.Ieee.{Float}
 use Rattle.weight.specs.declared.Point.{Point}
 use Rattle.weight.specs.Weight.{Coordinate}
 use Rattle.weight.specs.Edition.{triOf}
-use Rattle.exact.specs.Whole.{Whole, Natural}
+use Rattle.exact.specs.Workings.Whole.{Whole, Natural}
 use Rattle.exact.proofs.Laws.Sums.{whole-sub, whole-mul}
 use Rattle.exact.proofs.Laws.Casts.{natural-nought}
-use Rattle.column.specs.Columns.{cell, noughtFloat, Long, Table, row, pairs, productOf, Multiplied, Copied}
+use Rattle.column.specs.Workings.Columns.{cell, noughtFloat, Long, Table, row, pairs, productOf, Multiplied, Copied}
 use Rattle.column.proofs.Laws.Rows.{row-more, row-inside}
-use Rattle.table.specs.Products.{pair, pairX, pairY, pairZ}
-use Rattle.table.specs.Told.{far}
-use Rattle.table.specs.Table.{Multiples, Tells, Due, Loop, Filled, Sweeping}
+use Rattle.table.specs.Workings.Products.{pair, pairX, pairY, pairZ}
+use Rattle.table.specs.Workings.Told.{far}
+use Rattle.table.specs.Workings.Table.{Multiples, Tells, Due, Loop, Filled, Sweeping}
 use Rattle.table.proofs.Laws.Told.{lowest-begins}
 use Rattle.table.proofs.Laws.Products.{pair-most, product-small}
 use Rattle.table.proofs.Laws.Sweeps.{far-natural}

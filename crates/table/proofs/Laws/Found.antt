@@ -12,17 +12,17 @@ use lib.Ieee.{Float, binary64, lt, inUnsigned, toUnsigned}
 use borrow.Author.Tests.{ltb-true, ltb-false}
 use Rattle.limits.specs.Limits.{longest}
 use Rattle.covers.specs.Covers.{NoCover}
-use Rattle.covers.specs.Least.{Least}
+use Rattle.covers.specs.Workings.Least.{Least}
 use Rattle.weight.specs.Edition.{naturals, triOf, along}
 use Rattle.weight.proofs.Laws.Named.{named-on-grid}
 use Rattle.exact.proofs.Laws.Orders.{natural-less}
 use Rattle.exact.proofs.Laws.Casts.{natural-in-unsigned, natural-to-unsigned}
-use Rattle.column.specs.Columns.{cell, farFloat, Long, row, pairs}
+use Rattle.column.specs.Workings.Columns.{cell, farFloat, Long, row, pairs}
 use Rattle.column.proofs.Laws.Rows.{row-inside}
 use Rattle.table.specs.declared.Least.the-variants.{Weight, Nothing}
-use Rattle.table.specs.Told.{far, Told, some, none}
-use Rattle.table.specs.Table.{Tells, Points, Loop, Filled, Fillable, Fills}
-use Rattle.table.specs.Loops.{Barring, GatherRoom, LoopRoom, LeastIs}
+use Rattle.table.specs.Workings.Told.{far, Told, some, none}
+use Rattle.table.specs.Workings.Table.{Tells, Points, Loop, Filled, Fillable, FillsTable}
+use Rattle.table.specs.Workings.Loops.{Barring, GatherRoom, LoopRoom, LeastIs}
 use Rattle.table.proofs.Laws.Told.{told-near, told-most}
 use Rattle.table.proofs.Laws.Sweeps.{far-is, far-natural, light}
 
@@ -50,7 +50,7 @@ module _ (grid : List ℤ) (ring bars : List ℕ) (table : List Float) (r : Loop
     last-in : row (length ring - 1) + (length ring - 1) ≤ pairs
     last-in = let a : length ring ≤ longest = r .on .few in let b : 1 < length ring = r .some in row-inside (length ring - 1) (omega arith)
 
-    module _ (table′ : List Float) (long : length table′ ≡ length table) (f : Fills (length ring) px py pz bars table′) (a : ℕ) (e : a ≡ row (length ring - 1)) where
+    module _ (table′ : List Float) (long : length table′ ≡ length table) (f : FillsTable (length ring) px py pz bars table′) (a : ℕ) (e : a ≡ row (length ring - 1)) where
       pub place-in : 3 * pairs + a < length table′
       place-in = let b : 1 < length ring = r .some in let c : length table ≡ 4 * pairs = r .table-long in omega (arith, last-in)
 

@@ -13,11 +13,11 @@ use mir.Val.{toZ, ofZ}
 use Rattle.limits.specs.Limits.{longest}
 use Rattle.weight.specs.Weight.{Coordinates, pointOf}
 use Rattle.weight.specs.Edition.{along}
-use Rattle.exact.specs.Whole.{Whole}
+use Rattle.exact.specs.Workings.Whole.{Whole}
 use Rattle.exact.proofs.Laws.Casts.{whole-of-word}
 use Rattle.column.proofs.Laws.Columns.{cells-more}
-use Rattle.table.specs.Table.{Points}
-use Rattle.table.specs.Loops.{GatherRoom}
+use Rattle.table.specs.Workings.Table.{Points}
+use Rattle.table.specs.Workings.Loops.{GatherRoom}
 
 -- a number of the grid as a float
 abbrev pub gridFloat : List ℤ → ℕ → Float

@@ -7,12 +7,13 @@ use lib.IntN.{ℤ}
 use lib.ListN.{length}
 use Rattle.covers.proofs.Laws.Least.{least-unique}
 use Rattle.weight.specs.Edition.{naturals, triOf, along}
+use Rattle.weight.proofs.Laws.Naturals.{naturals-lawful}
 use Rattle.table.specs.declared.Least.{Least}
 use Rattle.table.specs.declared.Least.the-variants.{Weight, Nothing}
-use Rattle.table.specs.Loops.{LeastIs}
+use Rattle.table.specs.Workings.Loops.{LeastIs}
 
 pub least-once : (grid : List ℤ) (ring : List ℕ) (barred : ℕ → ℕ → Bool) (x y : Least) → LeastIs grid ring barred x → LeastIs grid ring barred y → x ≡ y
-least-once grid ring barred (Weight v) (Weight w) p q = ap Weight (least-unique naturals (triOf (along grid ring)) barred 0 (length ring - 1) v w p q)
+least-once grid ring barred (Weight v) (Weight w) p q = ap Weight (least-unique naturals naturals-lawful (triOf (along grid ring)) barred 0 (length ring - 1) v w p q)
 least-once grid ring barred (Weight v) Nothing p q = absurd (q (p .cover) (p .among))
 least-once grid ring barred Nothing (Weight w) p q = absurd (p (q .cover) (q .among))
 least-once grid ring barred Nothing Nothing p q = refl

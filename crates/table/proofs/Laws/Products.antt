@@ -9,7 +9,7 @@ use Rattle.weight.specs.Weight.{weightOf, Coordinate}
 use Rattle.weight.proofs.Laws.Sizes.{abs-negative, abs-sum, abs-difference}
 use Rattle.weight.proofs.Laws.Ring.{sum-product, negative-product, negative-difference}
 use Rattle.weight.proofs.Laws.Near.{most, component-most, product-most}
-use Rattle.table.specs.Products.{pair, pairX, pairY, pairZ}
+use Rattle.table.specs.Workings.Products.{pair, pairX, pairY, pairZ}
 
 -- a difference of differences, taken the other way
 regrouped : (a b c d : ℤ) → a -ℤ b -ℤ (c -ℤ d) ≡ a -ℤ c -ℤ (b -ℤ d)

@@ -19,17 +19,17 @@ use Rattle.weight.specs.Weight.{weightOf}
 use Rattle.weight.specs.Edition.{naturals, triOf}
 use Rattle.weight.proofs.Laws.Near.{most}
 use Rattle.weight.proofs.Laws.Totals.{cover-below}
-use Rattle.exact.specs.Whole.{Whole, Natural}
+use Rattle.exact.specs.Workings.Whole.{Whole, Natural}
 use Rattle.exact.proofs.Laws.Sums.{whole-add, whole-sub, natural-add}
 use Rattle.exact.proofs.Laws.Orders.{natural-less}
 use Rattle.exact.proofs.Laws.Clearing.{whole-size}
 use Rattle.exact.proofs.Laws.Casts.{natural-far}
-use Rattle.masks.specs.Masks.{bit}
-use Rattle.column.specs.Columns.{cell, farFloat, Long, Table, row, pairs, gapOf, byWay, Sizable, RelaxRoom, Relaxed, lesserOf}
+use Rattle.masks.specs.Workings.Masks.{bit}
+use Rattle.column.specs.Workings.Columns.{cell, farFloat, Long, Table, row, pairs, gapOf, byWay, Sizable, RelaxRoom, Relaxed, lesserOf}
 use Rattle.column.proofs.Laws.Rows.{row-next, row-more, row-inside}
-use Rattle.table.specs.Products.{pairX, pairY, pairZ}
-use Rattle.table.specs.Told.{far, Told, Way, Lowest}
-use Rattle.table.specs.Table.{settledOf, Multiples, Tells, Due, OnLoop, Sweeping}
+use Rattle.table.specs.Workings.Products.{pairX, pairY, pairZ}
+use Rattle.table.specs.Workings.Told.{far, Told, Way, Lowest}
+use Rattle.table.specs.Workings.Table.{settledOf, Multiples, Tells, Due, OnLoop, Sweeping}
 use Rattle.table.proofs.Laws.Told.{told-side, told-barred, told-free, told-most, lowest-take, lowest-keep, lowest-skip}
 use Rattle.table.proofs.Laws.Products.{pair-most, sum-most, weight-by-products}
 

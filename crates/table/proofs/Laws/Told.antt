@@ -7,12 +7,13 @@ use mathlib.Core.Bool.{Bool, true, false}
 use native.Mathlib.Nat.{le-trans, le-refl, le-of-lt, not-le-of-lt, eq-or-lt-of-le}
 use native.Mathlib.Omega.{arith}
 use Rattle.covers.specs.Covers.{Cover, empty, apex, Covers, weight, Allowed, NoCover}
-use Rattle.covers.specs.Least.{Least}
+use Rattle.covers.specs.Workings.Least.{Least, MadeAt}
 use Rattle.covers.proofs.Laws.Parts.{allowed-apex, allowed-before, allowed-after}
 use Rattle.covers.proofs.Laws.Steps.{none-barred}
-use Rattle.covers.proofs.Laws.Least.{least-unique, least-side, MadeAt, least-free}
+use Rattle.covers.proofs.Laws.Least.{least-unique, least-side, least-free}
 use Rattle.weight.specs.Edition.{naturals}
-use Rattle.table.specs.Told.{far, Told, some, none, Way, Lowest}
+use Rattle.weight.proofs.Laws.Naturals.{naturals-lawful}
+use Rattle.table.specs.Workings.Told.{far, Told, some, none, Way, Lowest}
 
 not-less : {a b : ℕ} → (a < b → ⊥) → b ≤ a
 not-less h = omega arith
@@ -23,13 +24,13 @@ module _ (tri : ℕ → ℕ → ℕ → ℕ) (barred : ℕ → ℕ → Bool) whe
 
   -- a side weighs nothing, and a barred stretch is far
   pub told-side : (i k : ℕ) → k ≡ suc i → Told tri barred i k 0
-  told-side i k e = some (least-side naturals tri barred i k e)
+  told-side i k e = some (least-side naturals naturals-lawful tri barred i k e)
 
   pub told-barred : (i k : ℕ) → suc i < k → barred i k ≡ true → Told tri barred i k far
   told-barred i k l e = none (none-barred barred i k l e) refl
 
   pub told-unique : (i k v w : ℕ) → Told tri barred i k v → Told tri barred i k w → v ≡ w
-  told-unique i k v w (some p) (some q) = least-unique naturals tri barred i k v w p q
+  told-unique i k v w (some p) (some q) = least-unique naturals naturals-lawful tri barred i k v w p q
   told-unique i k v w (some p) (none q e) = absurd (q (p .cover) (p .among))
   told-unique i k v w (none p d) (some q) = absurd (p (q .cover) (q .among))
   told-unique i k v w (none p d) (none q e) = d ∙ sym e
@@ -148,7 +149,7 @@ module _ (tri : ℕ → ℕ → ℕ → ℕ) (barred : ℕ → ℕ → Bool) whe
         go (some x) (none y f) = let g : h .right ≡ far = f in let a : w < far = w-near in omega (arith, e)
         go (some x) (some y) =
             subst (λ (z : ℕ). w ≤ z) (ap₂ (λ (a b : ℕ). tri i k m + (a + b)) (x .weighs) (y .weighs) ∙ sym e)
-            (not-less (p .least (apex m (x .cover) (y .cover)) (allowed-apex barred i k m (x .cover) (y .cover) (h .low) (h .high) (least-free naturals tri barred i k m w p (h .low) (h .high)) (x .among) (y .among))))
+            (not-less (p .least (apex m (x .cover) (y .cover)) (allowed-apex barred i k m (x .cover) (y .cover) (h .low) (h .high) (least-free naturals naturals-lawful tri barred i k m w p (h .low) (h .high)) (x .among) (y .among))))
 
     -- the way that is no heavier makes it up
     pub made-by : (i k m w v : ℕ) → k < n → Least naturals tri barred i k w → Way tri barred i k m v → v ≤ w → MadeAt naturals tri barred i k w m

@@ -11,11 +11,11 @@ use borrow.Author.Tests.{ltb-false}
 use Rattle.limits.specs.Limits.{longest}
 use Rattle.weight.specs.declared.Point.{Point}
 use Rattle.exact.proofs.Laws.Orders.{natural-less}
-use Rattle.masks.specs.Masks.{bit}
-use Rattle.column.specs.Columns.{cell, farFloat, Long, Table, row, pairs, RelaxRoom, Relaxed}
+use Rattle.masks.specs.Workings.Masks.{bit}
+use Rattle.column.specs.Workings.Columns.{cell, farFloat, Long, Table, row, pairs, RelaxRoom, Relaxed}
 use Rattle.column.proofs.Laws.Rows.{row-inside}
-use Rattle.table.specs.Told.{far}
-use Rattle.table.specs.Table.{settledOf, Tells, Sweeping, Sweepable, Filled}
+use Rattle.table.specs.Workings.Told.{far}
+use Rattle.table.specs.Workings.Table.{settledOf, Tells, Sweeping, Sweepable, Filled}
 use Rattle.table.proofs.Laws.Sweeps.{far-natural, settled, relax-room, turned-skips, turned-relaxes}
 use Rattle.table.proofs.Laws.Fills.{sweeping-ends}
 

@@ -4,18 +4,18 @@ use mathlib.Core.List.{List, [], _∷_, _++_, append-assoc}
 use Prim.Native.Nat.{ℕ, _≤_}
 use native.Mathlib.Omega.{arith}
 use Rattle.digits.specs.Numeral.{decimal}
-use Rattle.digits.specs.Reading.{Read, wrong, got, Exact, valueOf, readKey}
+use Rattle.digits.specs.Workings.Reading.{Read, wrong, got, Exact, valueOf, readKey}
 use Rattle.digits.proofs.Laws.Digit.{value-low}
 use Rattle.digits.proofs.Laws.Exactly.{wrong-not-got, key-exact, decimal-exact}
 use Rattle.texts.specs.Text.{feed, count}
-use Rattle.texts.specs.Parse.{after, readCount}
+use Rattle.texts.specs.Workings.Parse.{after, readCount}
 
 -- the line feed is no digit, so a count ends where its line does
 feed-free : 10 ≤ valueOf feed
 feed-free = omega (arith, value-low feed (omega arith))
 
 -- one reading after another, taken apart
-after-got : {A B : Type 0} (r : Read A) (f : A → List ℕ → Read B) (b : B) (rest : List ℕ) → after r f ≡ got b rest
+pub after-got : {A B : Type 0} (r : Read A) (f : A → List ℕ → Read B) (b : B) (rest : List ℕ) → after r f ≡ got b rest
     → (a : A) × (s : List ℕ) × (r ≡ got a s) × (f a s ≡ got b rest)
 after-got wrong f b rest h = absurd (wrong-not-got h)
 after-got (got a s) f b rest h = (a, s, refl, h)

@@ -4,9 +4,9 @@ use mathlib.Core.List.{List, [], _∷_, _++_, map, flatten}
 use Prim.Native.Nat.{ℕ, suc, _+_, _<_, _≤_}
 use native.Mathlib.Omega.{arith}
 use lib.ListN.{length}
-use Rattle.digits.specs.Reading.{Read, wrong, got, Exact}
+use Rattle.digits.specs.Workings.Reading.{Read, wrong, got, Exact}
 use Rattle.texts.specs.Text.{Part}
-use Rattle.texts.specs.Parse.{Rows, stuck, all, rows, readCount, fault, withSeconds, withCount, withFirsts, fromCount, parse}
+use Rattle.texts.specs.Workings.Parse.{Rows, stuck, all, rows, readCount, fault, withSeconds, withCount, withFirsts, fromCount, parse}
 use Rattle.texts.proofs.Laws.Rows.{reached}
 use Rattle.texts.proofs.Laws.Parts.{Begins, begins-count, begins-reach, begins-full}
 use Rattle.texts.proofs.Laws.Ways.{said-fault, fault-same, Way, at-once, in-first, in-second, to-end, way}

@@ -5,9 +5,9 @@ use mathlib.Core.List.{List, _++_, map, flatten}
 use Prim.Native.Nat.{ℕ, _≤_}
 use native.Mathlib.Omega.{arith}
 use lib.ListN.{length}
-use Rattle.digits.specs.Reading.{Read, wrong, got, Exact}
+use Rattle.digits.specs.Workings.Reading.{Read, wrong, got, Exact}
 use Rattle.texts.specs.Text.{count, All, Part}
-use Rattle.texts.specs.Parse.{stuck, all, rows, readCount}
+use Rattle.texts.specs.Workings.Parse.{stuck, all, rows, readCount}
 use Rattle.texts.proofs.Laws.Counts.{count-exact}
 use Rattle.texts.proofs.Laws.Rows.{reached, Lay, Run, through, broken, run, rows-full, rows-reach}
 

@@ -5,9 +5,9 @@ use Prim.Native.Nat.{ℕ, zero, suc, _+_, _-_, _<_, _≤_}
 use native.Mathlib.Nat.{suc-add, zero-add}
 use native.Mathlib.Omega.{arith}
 use lib.ListN.{length}
-use Rattle.digits.specs.Reading.{Read, wrong, got, Exact}
+use Rattle.digits.specs.Workings.Reading.{Read, wrong, got, Exact}
 use Rattle.texts.specs.Text.{All}
-use Rattle.texts.specs.Parse.{Rows, stuck, all, more, rows}
+use Rattle.texts.specs.Workings.Parse.{Rows, stuck, all, more, rows}
 
 module _ {A : Type 0} where
   -- lines that were read before others

@@ -4,10 +4,10 @@ use mathlib.Core.List.{List, [], _∷_}
 use Prim.Native.Nat.{ℕ, zero, suc, _+_, _<_, _≤_}
 use native.Mathlib.Omega.{arith}
 use lib.ListN.{length}
-use Rattle.digits.specs.Reading.{Read, wrong, got}
+use Rattle.digits.specs.Workings.Reading.{Read, wrong, got}
 use Rattle.texts.specs.Text.{Part}
 use Rattle.texts.specs.Fault.{Fault}
-use Rattle.texts.specs.Parse.{Rows, stuck, all, more, rowThen, rows, stops, leaves, outline, values, readCount, said, fault, ending, withSeconds, withCount, withFirsts, fromCount, parse}
+use Rattle.texts.specs.Workings.Parse.{Rows, stuck, all, more, rowThen, rows, stops, leaves, outline, values, readCount, said, fault, ending, withSeconds, withCount, withFirsts, fromCount, parse}
 use Rattle.texts.proofs.Laws.Lines.{lines-length}
 
 stops-leaves : {i : ℕ} {r : List ℕ} → stops i ≡ leaves r → ⊥

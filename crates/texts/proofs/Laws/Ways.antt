@@ -4,9 +4,9 @@ use mathlib.Core.List.{List, [], _∷_}
 use Prim.Native.Nat.{ℕ, _+_}
 use native.Mathlib.Omega.{arith}
 use lib.ListN.{length}
-use Rattle.digits.specs.Reading.{Read, Exact}
+use Rattle.digits.specs.Workings.Reading.{Read, Exact}
 use Rattle.texts.specs.Text.{Part}
-use Rattle.texts.specs.Parse.{Parsed, said, fault, ending, withCount, readCount, parse}
+use Rattle.texts.specs.Workings.Parse.{Parsed, said, fault, ending, withCount, readCount, parse}
 use Rattle.texts.proofs.Laws.Parts.{Begins, Reads, uncounted, cut, whole, reads}
 
 pub said-fault : {A B : Type 0} {xs : List A} {ys : List B} {l : ℕ} → said xs ys ≡ fault l → ⊥

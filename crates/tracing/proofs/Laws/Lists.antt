@@ -11,14 +11,15 @@ use lib.Ieee.{Float}
 use Rattle.surface.specs.Buffers.{laid}
 use Rattle.surface.proofs.Laws.Laid.{laid-none, laid-then, laid-length}
 use Rattle.covers.specs.Covers.{Cover, empty, apex, Covers, triangles, cornersOf, vertexOf, Sooner, weight, Allowed, Patch}
-use Rattle.covers.specs.Least.{Least}
+use Rattle.covers.specs.Workings.Least.{Least, MadeAt}
 use Rattle.covers.proofs.Laws.Parts.{allowed-apex, allowed-free, patch-before, patch-after}
-use Rattle.covers.proofs.Laws.Least.{MadeAt, made-at, patch-weighs}
+use Rattle.covers.proofs.Laws.Least.{made-at, patch-weighs}
 use Rattle.covers.proofs.Laws.Corners.{corners-append, cover-corners}
 use Rattle.weight.specs.declared.Point.{Point}
 use Rattle.weight.specs.Edition.{naturals, triOf}
-use Rattle.tracing.specs.Ways.{Weighed, Middle, First}
-use Rattle.tracing.specs.Lists.{ListRoom, Lists}
+use Rattle.weight.proofs.Laws.Naturals.{naturals-lawful}
+use Rattle.tracing.specs.Workings.Ways.{Weighed, Middle, First}
+use Rattle.tracing.specs.Workings.Lists.{ListRoom, ListsPatch}
 
 -- ---- the patch has the first apex
 
@@ -38,7 +39,7 @@ module _ (tri : ℕ → ℕ → ℕ → ℕ) (barred : ℕ → ℕ → Bool) (i 
           ap (λ (u : ℕ). tri i k m + (u + weight naturals tri m k (a .right-least .cover))) (a .left-least .weighs)
           ∙ ap (λ (v : ℕ). tri i k m + (a .left + v)) (a .right-least .weighs)
           ∙ a .makes
-          ∙ sym (patch-weighs naturals tri barred i k w (apex j y z) l p)
+          ∙ sym (patch-weighs naturals naturals-lawful tri barred i k w (apex j y z) l p)
 
       go : Sooner (apex j y z) (apex m (a .left-least .cover) (a .right-least .cover)) → ⊥
       go (inl g) = omega arith
@@ -47,13 +48,13 @@ module _ (tri : ℕ → ℕ → ℕ → ℕ) (barred : ℕ → ℕ → Bool) (i 
   pub patch-splits : (c : Cover) → suc i < k → Patch naturals tri barred i k c
       → (y z : Cover) × (c ≡ apex m y z) × Patch naturals tri barred i m y × Patch naturals tri barred m k z
   patch-splits empty h p = let e : k ≡ suc i = p .among .covers in absurd (omega arith)
-  patch-splits (apex j y z) h p = (y, z, ap (λ (x : ℕ). apex x y z) same, subst (λ (x : ℕ). Patch naturals tri barred i x y) same (patch-before naturals tri barred i k j y z p), subst (λ (x : ℕ). Patch naturals tri barred x k z) same (patch-after naturals tri barred i k j y z p))
+  patch-splits (apex j y z) h p = (y, z, ap (λ (x : ℕ). apex x y z) same, subst (λ (x : ℕ). Patch naturals tri barred i x y) same (patch-before naturals naturals-lawful tri barred i k j y z p), subst (λ (x : ℕ). Patch naturals tri barred x k z) same (patch-after naturals naturals-lawful tri barred i k j y z p))
     where
       not-later : m < j → ⊥
       not-later = no-later j y z p
 
       not-sooner : j < m → ⊥
-      not-sooner g = first j g (made-at naturals tri barred i k w l j y z (p .among) (patch-weighs naturals tri barred i k w (apex j y z) l p))
+      not-sooner g = first j g (made-at naturals naturals-lawful tri barred i k w l j y z (p .among) (patch-weighs naturals naturals-lawful tri barred i k w (apex j y z) l p))
 
       same : j ≡ m
       same = go (decLt j m) (decLt m j)
@@ -75,7 +76,7 @@ module _ (t i k m : ℕ) (e : k - i ≡ t) (lo : i < m) (hi : m < k) where
 
 module _ (table : List Float) (ring : List ℕ) (p i k : ℕ) where
   -- a side has no triangle
-  pub lists-side : (buffer : List ℕ) → i + 1 ≡ k → Lists table ring buffer p i k p buffer
+  pub lists-side : (buffer : List ℕ) → i + 1 ≡ k → ListsPatch table ring buffer p i k p buffer
   lists-side buffer e = (omega arith, λ at barred n w q c h. go c (h .among .covers))
     where
       go : (c : Cover) → Covers i k c → buffer ≡ laid p (cornersOf (vertexOf ring) (triangles i k c)) buffer
@@ -114,7 +115,7 @@ module _ (table : List Float) (ring : List ℕ) (p i k : ℕ) where
       room = subst (λ (x : ℕ). p + 3 + 3 * (m - i - 1) ≤ x) (sym (ap length e ∙ laid-length p buffer one lay-room)) (omega (arith, fits));
     }
 
-    module _ (buffer₁ : List ℕ) (e₁ : buffer₁ ≡ laid p one buffer) (o : ℕ) (buffer₂ : List ℕ) (same : length buffer₂ ≡ length buffer₁) (b : Lists table ring buffer₁ (p + 3) i m o buffer₂) where
+    module _ (buffer₁ : List ℕ) (e₁ : buffer₁ ≡ laid p one buffer) (o : ℕ) (buffer₂ : List ℕ) (same : length buffer₂ ≡ length buffer₁) (b : ListsPatch table ring buffer₁ (p + 3) i m o buffer₂) where
       pub room-after : ListRoom table ring buffer₂ o m k
       room-after =
           let g : o ≡ p + 3 + 3 * (m - i - 1) = b .0 in
@@ -130,8 +131,8 @@ module _ (table : List Float) (ring : List ℕ) (p i k : ℕ) where
             room = subst (λ (x : ℕ). o + 3 * (k - m - 1) ≤ x) (sym (same ∙ ap length e₁ ∙ laid-length p buffer one lay-room)) (omega (arith, fits));
           }
 
-      module _ (o′ : ℕ) (buffer₃ : List ℕ) (d : Lists table ring buffer₂ o m k o′ buffer₃) where
-        pub lists-all : Lists table ring buffer p i k o′ buffer₃
+      module _ (o′ : ℕ) (buffer₃ : List ℕ) (d : ListsPatch table ring buffer₂ o m k o′ buffer₃) where
+        pub lists-all : ListsPatch table ring buffer p i k o′ buffer₃
         lists-all = (ends, all)
           where
             ends : o′ ≡ p + 3 * (k - i - 1)

@@ -6,10 +6,12 @@ use Prim.Native.Nat.{ℕ, suc, _+_, _≤_, _<_}
 use native.Mathlib.Omega.{arith}
 use lib.Ieee.{Float}
 use borrow.Author.Count.{below-more}
-use Rattle.covers.proofs.Laws.Least.{MadeAt, some-apex}
+use Rattle.covers.specs.Workings.Least.{MadeAt}
+use Rattle.covers.proofs.Laws.Least.{some-apex}
 use Rattle.weight.specs.declared.Point.{Point}
 use Rattle.weight.specs.Edition.{naturals, triOf}
-use Rattle.tracing.specs.Ways.{Weighed, Weighable, IsWay, Middle}
+use Rattle.weight.proofs.Laws.Naturals.{naturals-lawful}
+use Rattle.tracing.specs.Workings.Ways.{Weighed, Weighable, IsWay, Middle}
 
 -- no apex below m makes it up
 pub record Seeking (table : List Float) (i k m : ℕ) : Type 0 where
@@ -41,6 +43,6 @@ module _ (table : List Float) (i k : ℕ) where
   pub always-found : (m : ℕ) → suc i < k → Weighable table i k → k ≤ m → Seeking table i k m → ⊥
   always-found m h q g s =
       let p = q .weighed in
-      let a = some-apex naturals (triOf (q .at)) (q .barred) i k (q .w) h (p .least) in
+      let a = some-apex naturals naturals-lawful (triOf (q .at)) (q .barred) i k (q .w) h (p .least) in
       let b : a .0 < k = a .1 .high in
       s .none (q .at) (q .barred) (q .n) (q .w) p (a .0) (omega arith) (a .1)

@@ -6,13 +6,14 @@ use Prim.Native.Nat.{ℕ}
 use lib.Ieee.{Float}
 use Rattle.covers.proofs.Laws.Steps.{patched, Patched}
 use Rattle.weight.specs.Edition.{naturals, triOf}
-use Rattle.tracing.specs.Ways.{Weighable}
-use Rattle.tracing.specs.Lists.{Lists}
+use Rattle.weight.proofs.Laws.Naturals.{naturals-lawful}
+use Rattle.tracing.specs.Workings.Ways.{Weighable}
+use Rattle.tracing.specs.Workings.Lists.{ListsPatch}
 
 pub lists-once : (table : List Float) (ring buffer : List ℕ) (p i k : ℕ) → Weighable table i k → (q r : ℕ) (b c : List ℕ)
-    → Lists table ring buffer p i k q b → Lists table ring buffer p i k r c → (q ≡ r) × (b ≡ c)
+    → ListsPatch table ring buffer p i k q b → ListsPatch table ring buffer p i k r c → (q ≡ r) × (b ≡ c)
 lists-once table ring buffer p i k h q r b c x y =
-    (x .0 ∙ sym (y .0), go (patched naturals (triOf (h .at)) (h .barred) i k (h .weighed .low)))
+    (x .0 ∙ sym (y .0), go (patched naturals naturals-lawful (triOf (h .at)) (h .barred) i k (h .weighed .low)))
   where
     go : Patched naturals (triOf (h .at)) (h .barred) i k → b ≡ c
     go (inl d) = x .1 (h .at) (h .barred) (h .n) (h .w) (h .weighed) (d .0) (d .1) ∙ sym (y .1 (h .at) (h .barred) (h .n) (h .w) (h .weighed) (d .0) (d .1))

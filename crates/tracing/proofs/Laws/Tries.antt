@@ -9,9 +9,9 @@ use lib.Ieee.{Float, binary64, add, lt, le}
 use Rattle.limits.specs.Limits.{longest}
 use Rattle.surface.specs.Buffers.{laid}
 use Rattle.surface.proofs.Laws.Laid.{laid-none, laid-more}
-use Rattle.exact.specs.Whole.{sizeOf}
-use Rattle.column.specs.Columns.{cell, Table, row, pairs}
-use Rattle.tracing.specs.Ways.{gapX, gapY, gapZ, triangleOf, TriangleRoom, Weighable, IsWay}
+use Rattle.exact.specs.Workings.Whole.{sizeOf}
+use Rattle.column.specs.Workings.Columns.{cell, Table, row, pairs}
+use Rattle.tracing.specs.Workings.Ways.{gapX, gapY, gapZ, triangleOf, TriangleRoom, Weighable, IsWay}
 use Rattle.tracing.proofs.Laws.Ways.{place-in, short, triangle-room, parts-heavy, way-is, way-is-not}
 
 pub triangle-is : (table : List Float) (im ik mk : ℕ) (a b c : Float) → a ≡ sizeOf (gapX table im ik mk) → b ≡ sizeOf (gapY table im ik mk) → c ≡ sizeOf (gapZ table im ik mk)

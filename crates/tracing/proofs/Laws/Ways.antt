@@ -9,25 +9,25 @@ use lib.Dec.{leb, lit<}
 use lib.IntN.{ℤ, natAbs, _+ℤ_, _-ℤ_}
 use lib.Ieee.{Float, binary64, add, lt, le}
 use borrow.Author.Tests.{ltb-true, leb-true, leb-false}
+use Rattle.covers.specs.Workings.Least.{MadeAt}
 use Rattle.limits.specs.Limits.{longest}
-use Rattle.covers.proofs.Laws.Least.{MadeAt}
 use Rattle.weight.specs.declared.Point.{Point}
 use Rattle.weight.specs.Weight.{weightOf}
 use Rattle.weight.specs.Edition.{naturals, triOf}
 use Rattle.weight.proofs.Laws.Near.{most}
-use Rattle.exact.specs.Whole.{Whole, Natural}
+use Rattle.exact.specs.Workings.Whole.{Whole, Natural}
 use Rattle.exact.proofs.Laws.Sums.{natural-add}
 use Rattle.exact.proofs.Laws.Orders.{natural-less, natural-at-most}
 use Rattle.exact.proofs.Laws.Clearing.{whole-size}
-use Rattle.column.specs.Columns.{cell, row, pairs}
+use Rattle.column.specs.Workings.Columns.{cell, row, pairs}
 use Rattle.column.proofs.Laws.Rows.{row-inside}
-use Rattle.table.specs.Products.{pairX, pairY, pairZ}
-use Rattle.table.specs.Told.{far, some, Way}
-use Rattle.table.specs.Table.{Multiples, Tells}
+use Rattle.table.specs.Workings.Products.{pairX, pairY, pairZ}
+use Rattle.table.specs.Workings.Told.{far, some, Way}
+use Rattle.table.specs.Workings.Table.{Multiples, Tells}
 use Rattle.table.proofs.Laws.Told.{told-unique, told-most, made-by, not-made-by}
 use Rattle.table.proofs.Laws.Products.{weight-by-products}
 use Rattle.table.proofs.Laws.Sweeps.{far-is, light, gap, product-most}
-use Rattle.tracing.specs.Ways.{gapX, gapY, gapZ, triangleOf, TriangleRoom, Weighed}
+use Rattle.tracing.specs.Workings.Ways.{gapX, gapY, gapZ, triangleOf, TriangleRoom, Weighed}
 
 -- the stretches' places within a part
 pub place-in : (i k : ℕ) → i < k → k < longest → row k + i < pairs

@@ -10,13 +10,13 @@ use lib.ListN.{length, getD, length-append}
 use Rattle.limits.specs.Limits as limits
 use Rattle.surface.proofs.Laws.Laid.{laid-none}
 use Rattle.bars.specs.Bars.{between}
-use Rattle.bars.specs.Chains.{Tells}
+use Rattle.bars.specs.Workings.Chains.{Tells}
 use Rattle.run.specs.Fates.{Fate, long, lays}
 use Rattle.run.proofs.Laws.Sides.{three-tells}
 use Rattle.plain.specs.declared.Became.{Became}
 use Rattle.rounds.proofs.Laws.Bench.{bench-kept}
-use Rattle.plain.specs.Threes.{ThreeRoom, ThreeTook}
-use Rattle.middling.specs.Turns.{TurnRoom, Takes}
+use Rattle.plain.specs.Workings.Threes.{ThreeRoom, ThreeTook}
+use Rattle.middling.specs.Workings.Turns.{TurnRoom, Takes}
 
 module _ (grid : List ℤ) (ring heads links ends marks : List ℕ) (base : ℕ) (rows : List ℕ) (table : List Float) (patches : List ℕ) (p e : ℕ) (room : TurnRoom grid ring heads links ends marks base rows table patches p e) where
   pub three-of : length ring ≡ 3 → ThreeRoom grid ring patches p

@@ -2,7 +2,7 @@
 use native.Mathlib.Omega.{arith}
 use borrow.Author.Needs.{needs}
 use Rattle.twins.proofs.Laws.Buckets.{product-fits}
-use Rattle.twins.specs.Chains.{bucketOf}
+use Rattle.twins.specs.Workings.Chains.{bucketOf}
 use Rattle.twins.proofs.bucket.Statement.{statement}
 use Rattle.twins.proofs.bucket.Tie as tie
 

@@ -11,7 +11,7 @@ use lib.IntN.{ℤ}
 use lib.ListN.{length, getD, take, drop, take-append-drop}
 use lib.Seq.{length-take-le}
 use borrow.Author.Tests.{eq-eqb, ne-eqb}
-use Rattle.closing.specs.Filling.{Fills, nothing, cover, Filled}
+use Rattle.closing.specs.Filling.{FillsRing, nothing, cover, Filled}
 use Rattle.verdicts.specs.Faults.{share, Right, patched, long, open-left}
 use Rattle.verdicts.specs.Verdicts.{taken, AllRight, parts}
 use Rattle.verdicts.proofs.Laws.Once.{RingsApart, rings-rest}
@@ -41,10 +41,16 @@ right-empty grid input laid ring state set n (patched e s c t a l) z =
 right-empty grid input laid ring state set n (long e s) z = inl e
 right-empty grid input laid ring state set n (open-left e s x) z = inr e
 
+-- what a right loop takes is there
+pub right-takes : (grid : List ℤ) (input laid ring : List ℕ) (state : ℕ) (set : List ℕ) → Right grid input laid ring state set → taken ring state ≤ length set
+right-takes grid input laid ring state set (patched e s c t a n) = subst (λ (k : ℕ). k ≤ length set) (sym (taken-patched ring state e)) (t .there)
+right-takes grid input laid ring state set (long e s) = let z : taken ring state ≡ 0 = taken-none ring state (λ f. omega arith) in omega arith
+right-takes grid input laid ring state set (open-left e s n) = let z : taken ring state ≡ 0 = taken-none ring state (λ f. omega arith) in omega arith
+
 pub right-fills : (grid : List ℤ) (input laid ring : List ℕ) (state : ℕ) (set : List ℕ) → Right grid input laid ring state set
-    → Fills input laid ring (take (taken ring state) set)
+    → FillsRing input laid ring (take (taken ring state) set)
 right-fills grid input laid ring state set (patched e s c t a l) =
-    subst (λ (k : ℕ). Fills input laid ring (take k set)) (sym (taken-patched ring state e))
+    subst (λ (k : ℕ). FillsRing input laid ring (take k set)) (sym (taken-patched ring state e))
     (cover c (length-take-le (share ring) set (t .there)) (t .covers) a)
 right-fills grid input laid ring state set (long e s) = nothing (part-none ring state set (λ f. omega arith))
 right-fills grid input laid ring state set (open-left e s n) = nothing (part-none ring state set (λ f. omega arith))

@@ -8,19 +8,20 @@ use native.Mathlib.Omega.{arith}
 use lib.ListN.{length, length-append}
 use lib.Seq.{take-at}
 use Rattle.covers.specs.Covers.{Cover, Covers, Triangle, triangles, cornersOf, patchOf, vertexOf}
-use Rattle.covers.specs.Sets.{Lists, named, triples}
+use Rattle.surface.specs.Threes.{threes}
+use Rattle.covers.specs.Sets.{ListsTriangles, named}
 use Rattle.covers.proofs.Laws.Corners.{patch-length}
 use Rattle.verdicts.specs.Faults.{share, IsCover}
 
-pub lists-itself : (ts : List Triangle) → Lists ts ts
+pub lists-itself : (ts : List Triangle) → ListsTriangles ts ts
 lists-itself [] = refl
 lists-itself (t ∷ ts) = ([], ts, t, refl, inl refl, lists-itself ts)
 
-pub triples-corners : (vertex : ℕ → ℕ) (ts : List Triangle) → triples (cornersOf vertex ts) ≡ map (named vertex) ts
+pub triples-corners : (vertex : ℕ → ℕ) (ts : List Triangle) → threes (cornersOf vertex ts) ≡ map (named vertex) ts
 triples-corners vertex [] = refl
 triples-corners vertex (t ∷ ts) = ap (λ (us : List Triangle). named vertex t ∷ us) (triples-corners vertex ts)
 
-pub triples-patch : (ring : List ℕ) (c : Cover) → triples (patchOf ring c) ≡ map (named (vertexOf ring)) (triangles 0 (length ring - 1) c)
+pub triples-patch : (ring : List ℕ) (c : Cover) → threes (patchOf ring c) ≡ map (named (vertexOf ring)) (triangles 0 (length ring - 1) c)
 triples-patch ring c = triples-corners (vertexOf ring) (triangles 0 (length ring - 1) c)
 
 -- whatever comes behind it
@@ -32,8 +33,8 @@ patch-is-cover ring c rest h =
       there = omega arith;
       covers = (
         h,
-        subst (λ (s : List Triangle). Lists s (map (named (vertexOf ring)) (triangles 0 (length ring - 1) c)))
-            (sym (ap triples (take-at (patchOf ring c) rest (share ring) e) ∙ triples-patch ring c))
+        subst (λ (s : List Triangle). ListsTriangles s (map (named (vertexOf ring)) (triangles 0 (length ring - 1) c)))
+            (sym (ap threes (take-at (patchOf ring c) rest (share ring) e) ∙ triples-patch ring c))
             (lists-itself (map (named (vertexOf ring)) (triangles 0 (length ring - 1) c))),
       );
     }

@@ -8,14 +8,15 @@ use Prim.Native.Nat.{ℕ, suc, _+_, _-_, _<_, _≤_}
 use native.Mathlib.Omega.{arith}
 use lib.IntN.{ℤ}
 use lib.ListN.{length, getD, take, drop}
-use Rattle.limits.specs.Limits as limits
-use Rattle.terms.specs.Answers.{refusing, numberOf}
-use Rattle.terms.specs.declared.Answer.{Answer}
-use Rattle.terms.specs.declared.Answer.the-variants.{Done, Misdeclared, Uncovered, Barred, Heavy}
+use Rattle.answers.specs.Numbers.{refusing, numberOf}
+use Rattle.answers.specs.declared.Answer.{Answer}
+use Rattle.answers.specs.declared.Answer.the-variants.{Done, Misdeclared, Uncovered, Barred, Heavy}
 use Rattle.covers.specs.Covers.{Cover, Uses, vertexOf}
-use Rattle.covers.specs.Sets.{triples}
+use Rattle.surface.specs.Threes.{threes}
 use Rattle.covers.proofs.Laws.Closed.{Different, covered-once}
-use Rattle.verdicts.specs.Faults.{share, IsCover, AllowedHere, Lighter, Right, patched, long, open-left, WrongState, no-state, two-on-a-short, not-two-on-a-long, three-with-a-cover, BarredTaken, HeavyTaken, Fault, misdeclared, no-cover, cover-barred, too-heavy}
+use Rattle.run.proofs.Laws.Once.{no-longer}
+use Rattle.run.specs.Here.{AllowedHere}
+use Rattle.verdicts.specs.Faults.{share, IsCover, Lighter, Right, patched, long, open-left, WrongState, no-state, two-on-a-short, not-two-on-a-long, three-with-a-cover, BarredTaken, HeavyTaken, Fault, misdeclared, no-cover, cover-barred, too-heavy}
 use Rattle.verdicts.specs.Verdicts.{taken, Verdict}
 
 -- "Every loop has 3 or more edges and no vertex twice."
@@ -29,9 +30,6 @@ rings-rest r rings h = record {
   three = λ l s. h .three (suc l) (omega arith);
   different = λ l s. h .different (suc l) (omega arith);
 }
-
-no-longer : (ring : List ℕ) → length ring ≤ limits.longest → limits.longest < length ring → ⊥
-no-longer ring a b = omega arith
 
 apart : (state a b : ℕ) → (a ≡ b → ⊥) → state ≡ a → state ≡ b → ⊥
 apart state a b n e f = n (sym e ∙ f)
@@ -69,7 +67,7 @@ module _ (grid : List ℤ) (input laid ring : List ℕ) (state : ℕ) (set : Lis
 -- the set is one cover at most: the one with a barred diagonal is not the allowed one, and the one that has a lighter one not the least
 module _ (ring set : List ℕ) (different : Different (length ring) (vertexOf ring)) where
   one-cover : (c d : Cover) → IsCover ring set c → IsCover ring set d → c ≡ d
-  one-cover c d p q = covered-once (length ring) (vertexOf ring) different (triples (take (share ring) set)) c d (p .covers) (q .covers)
+  one-cover c d p q = covered-once (length ring) (vertexOf ring) different (threes (take (share ring) set)) c d (p .covers) (q .covers)
 
   barred-not-allowed : (input laid : List ℕ) → BarredTaken input laid ring set → (c : Cover) → IsCover ring set c → AllowedHere input laid ring c → ⊥
   barred-not-allowed input laid b c t a =

@@ -6,8 +6,8 @@ use Prim.Native.Nat.{ℕ, suc, _+_}
 use native.Mathlib.Omega.{arith}
 use lib.IntN.{ℤ}
 use lib.ListN.{take, drop}
-use Rattle.terms.specs.declared.Answer.the-variants.{Done}
-use Rattle.terms.specs.Answers.{numberOf}
+use Rattle.answers.specs.declared.Answer.the-variants.{Done}
+use Rattle.answers.specs.Numbers.{numberOf}
 use Rattle.verdicts.specs.Verdicts.{taken, leftOver, Verdict, AllRight}
 use Rattle.verdicts.proofs.Laws.Once.{fault-said}
 

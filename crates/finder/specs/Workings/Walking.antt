@@ -1,0 +1,61 @@
+-- What holds while the code walks, for the contracts of its private functions: these definitions are the code's own, and no part of the promise.
+use mathlib.Core.Path.{_≡_}
+use mathlib.Core.Bool.{Bool, true, false, _||_}
+use mathlib.Core.List.{List, [], _∷_}
+use Prim.Native.Nat.{ℕ, suc, _+_, _/_, _≤_, _<_}
+use lib.Dec.{eqb}
+use lib.ListN.{length, getD}
+use Rattle.limits.specs.Limits as limits
+use Rattle.surface.specs.declared.Found.{Found}
+use Rattle.surface.specs.declared.Found.the-variants.{At, Nothing}
+use Rattle.surface.specs.Edges.{Sound, following, twin}
+use Rattle.twins.specs.Workings.Turns.{openMark}
+use Rattle.loops.specs.Loops.{leads, loopsBelow}
+use Rattle.loops.proofs.Laws.Surfaces.{edgesBelow}
+use Rattle.leaders.specs.Workings.Leading.{walkedMark}
+use Rattle.cutting.specs.Listing.{ListsLoops}
+use Rattle.cutting.specs.declared.Listed.{Listed}
+
+-- ---- the table of turns, in which walked edges are marked
+
+-- e is one of the list
+unfoldable pub holds : ℕ → List ℕ → Bool
+holds e [] = false
+holds e (x ∷ l) = eqb e x || holds e l
+
+-- the turn from e, or the mark of an open edge, walked or not
+abbrev pub turnNow : Found → Bool → ℕ → ℕ
+turnNow (At g) w e = following g
+turnNow Nothing true e = walkedMark
+turnNow Nothing false e = openMark + following e
+
+-- the table has every half-edge's turn, once the edges `walked` were walked
+unfoldable pub Turned : List ℕ → List ℕ → List ℕ → Type 0
+Turned corners walked turns = (e : ℕ) → e < length corners → getD turns e 0 ≡ turnNow (twin corners e) (holds e walked) e
+
+-- ---- the cycles
+
+-- what all cycles ask for
+pub record Room (corners turns path places rings lengths firsts : List ℕ) : Type 0 where
+  pub sound : Sound corners
+  pub few : length corners ≤ limits.corners
+  pub named : (i : ℕ) → i < length corners → getD corners i 0 < length places
+  pub turns-long : length corners ≤ length turns
+  pub path-long : length corners ≤ length path
+  pub rings-long : length corners ≤ length rings
+  pub lengths-long : length corners / 3 ≤ length lengths
+  pub firsts-long : length corners / 3 ≤ length firsts
+
+-- h is the first edge of a cycle, all smaller cycles were walked, and their loops are listed
+pub record CycleRoom (corners : List ℕ) (h : ℕ) (turns path places rings lengths firsts : List ℕ) (from : Listed) : Type 0 where
+  pub room : Room corners turns path places rings lengths firsts
+  pub edge : h < length corners
+  pub leading : leads corners h ≡ true
+  pub turned : Turned corners (edgesBelow corners h) turns
+  pub no-path : from .path ≡ 0
+  pub lists : ListsLoops corners (loopsBelow corners h) rings lengths firsts from rings lengths firsts
+
+pub record CycleListed (corners : List ℕ) (h : ℕ) (rings lengths firsts turns′ : List ℕ) (r : Listed) (rings′ lengths′ firsts′ : List ℕ) : Type 0 where
+  pub turned : Turned corners (edgesBelow corners (suc h)) turns′
+  pub no-path : r .path ≡ 0
+  pub lists : ListsLoops corners (loopsBelow corners (suc h)) rings lengths firsts r rings′ lengths′ firsts′

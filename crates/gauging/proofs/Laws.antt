@@ -1,0 +1,2 @@
+-- The laws of the checks of counts and of buffers.
+pub mod Refusing

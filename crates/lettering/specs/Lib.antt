@@ -1,0 +1,2 @@
+-- What the code that writes lines goes by.
+pub mod Workings

@@ -1,0 +1,18 @@
+-- What the patcher and the checker work with besides the lent buffers: these definitions are the code's own, and no part of a promise.
+use mathlib.Core.Path.{_≡_}
+use mathlib.Core.List.{List}
+use Prim.Native.Nat.{ℕ, _/_, _≤_}
+use lib.ListN.{length}
+use Rattle.answers.specs.declared.Answer.the-variants.{Done}
+use Rattle.surface.specs.Refusals.{countRefusal}
+
+-- so many points and corners are few
+abbrev pub few : ℕ
+few = 48
+
+-- 1 and 2 were not given, and there is room for a turn and an edge of the path for each corner, and a place for each point
+pub record Scratch (words corners turns path places : List ℕ) : Type 0 where
+  pub counts : countRefusal (length words) (length corners) ≡ Done
+  pub turns-long : length corners ≤ length turns
+  pub path-long : length corners ≤ length path
+  pub places-long : length words / 3 ≤ length places

@@ -1,0 +1,5 @@
+-- Definitions that serve the code: contracts of inner functions name them, and no promise of an entry point does.
+pub mod Told
+pub mod Products
+pub mod Table
+pub mod Loops

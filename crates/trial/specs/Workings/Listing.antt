@@ -1,0 +1,10 @@
+-- Room to list the loops apart from the lent buffers: the code's own, and no part of a promise.
+use mathlib.Core.List.{List}
+use Prim.Native.Nat.{ℕ, _/_, _≤_}
+use lib.ListN.{length}
+use Rattle.rounds.specs.Workings.Scratch.{Scratch}
+
+pub record ListingRoom (words corners turns path places rings lengths : List ℕ) : Type 0 where
+  pub scratch : Scratch words corners turns path places
+  pub rings-long : length corners ≤ length rings
+  pub lengths-long : length corners / 3 ≤ length lengths
