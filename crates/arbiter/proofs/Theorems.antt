@@ -5,13 +5,13 @@ use mathlib.Core.List.{List}
 use Prim.Native.Nat.{ℕ, suc, _≤_}
 use native.Mathlib.Omega.{arith}
 use lib.ListN.{length, take}
-use Rattle.limits.specs.Limits as limits
 use Rattle.answers.specs.declared.Answer.{Answer}
+use Rattle.limits.specs.Limits as limits
+use Rattle.surface.specs.Threes.{Three, flat}
 use Rattle.texts.specs.Text.{TextOf}
 use Rattle.texts.specs.Fault.{Fault}
 use Rattle.texts.proofs.Theorems.{Known}
 use Rattle.texts.proofs.Laws.Cut.{text-first, fault-first}
-use Rattle.surface.specs.Threes.{Three, flat}
 use Rattle.sheet.specs.Sheet.{points, triangles}
 use Rattle.sheet.proofs.Laws.Texts as sheets
 use Rattle.sheet.proofs.Theorems.{longest}

@@ -10,13 +10,13 @@ use Rattle.answers.specs.Numbers.{refusing}
 use Rattle.answers.specs.declared.Answer.{Answer}
 use Rattle.answers.specs.declared.Answer.the-variants.{States, Line}
 use Rattle.surface.specs.Refusals.{sheetRefusal}
+use Rattle.surface.specs.Threes.{Three, flat}
 use Rattle.loops.specs.Loops.{loops}
 use Rattle.survey.specs.Grid.{gridOf}
 use Rattle.run.specs.Run.{ringList}
 use Rattle.verdicts.specs.Verdicts.{Verdict}
 use Rattle.texts.specs.Text.{TextOf, lines}
 use Rattle.texts.specs.Fault.{Fault}
-use Rattle.surface.specs.Threes.{Three, flat}
 use Rattle.sheet.specs.Sheet.{points, triangles}
 use Rattle.sets.specs.Set as set
 

@@ -23,8 +23,8 @@ use Rattle.survey.specs.declared.Surveyed.{Surveyed}
 use Rattle.patching.specs.Outcome as patcher
 use Rattle.patching.specs.declared.Patched.{Patched}
 use Rattle.patching.proofs.Laws.Once.{patches-once}
-use Rattle.trial.specs.Outcome as checker
 use Rattle.sentence.specs.declared.Judged.{Judged}
+use Rattle.trial.specs.Outcome as checker
 use Rattle.trial.proofs.Laws.Once.{judges-once}
 use Rattle.archive.specs.Plain.{Tells, wholeOf, floatOf, Told, told, surveyed, JudgesTold, PatchTold, patchTold, patched, PatchesTold}
 

@@ -6,11 +6,11 @@ use lib.IntN.{ℤ, pos}
 use lib.Ieee.{Float, binary32, toBits}
 use Rattle.answers.specs.Numbers.{numberOf, placeOf}
 use Rattle.grid.specs.Places.{Places, answerOf}
+use Rattle.grid.specs.declared.Coordinate.{Coordinate}
+use Rattle.grid.specs.declared.Coordinate.the-variants.{Exact, Shifted, NotFinite, TooFar}
 use Rattle.survey.specs.Outcome.{Buffers, Outcome}
 use Rattle.patching.specs.Outcome as patcher
 use Rattle.trial.specs.Outcome.{Judges}
-use Rattle.grid.specs.declared.Coordinate.{Coordinate}
-use Rattle.grid.specs.declared.Coordinate.the-variants.{Exact, Shifted, NotFinite, TooFar}
 
 -- the whole number of an answer, or 0
 abbrev pub wholeOf : Coordinate → ℤ

@@ -3,8 +3,8 @@ use mathlib.Core.Path.{_≡_}
 use mathlib.Core.List.{List, [], _∷_, _++_}
 use Prim.Native.Nat.{ℕ, _-_, _*_}
 use lib.ListN.{length}
-use Rattle.covers.specs.Covers.{Cover, Allowed, vertexOf}
 use Rattle.surface.specs.Threes.{threes}
+use Rattle.covers.specs.Covers.{Cover, Allowed, vertexOf}
 use Rattle.covers.specs.Sets.{Covered}
 use Rattle.bars.specs.Bars.{barred}
 

@@ -4,16 +4,16 @@ use mathlib.Core.Logic.{inl, inr}
 use mathlib.Core.List.{List}
 use Prim.Native.Nat.{ℕ, suc, _/_}
 use lib.ListN.{length, take}
+use Rattle.answers.specs.declared.Answer.the-variants.{Unnamed}
 use Rattle.limits.specs.Limits as limits
 use Rattle.surface.specs.declared.Found.{Found}
 use Rattle.surface.specs.declared.Found.the-variants.{At, Nothing}
 use Rattle.surface.specs.Smallest.{least}
 use Rattle.surface.specs.Refusals.{unnamed, refuseAt, unnamedRefusal}
-use Rattle.answers.specs.declared.Answer.the-variants.{Unnamed}
+use Rattle.surface.specs.Threes.{Three, flat}
 use Rattle.texts.specs.Text.{TextOf}
 use Rattle.texts.proofs.Theorems.{Known}
 use Rattle.texts.proofs.Laws.Cut.{front-all, text-first, fault-first}
-use Rattle.surface.specs.Threes.{Three, flat}
 use Rattle.sheet.specs.Sheet.{points, triangles}
 use Rattle.sheet.proofs.Laws.Texts.{text-or-fault}
 use Rattle.sheet.proofs.Theorems.{longest}

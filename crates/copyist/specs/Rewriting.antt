@@ -7,9 +7,9 @@ use lib.ListN.{length, take}
 use Rattle.answers.specs.Numbers.{refusing}
 use Rattle.answers.specs.declared.Answer.the-variants.{Done, Unnamed, Line}
 use Rattle.surface.specs.Refusals.{unnamedRefusal}
+use Rattle.surface.specs.Threes.{Three, flat}
 use Rattle.texts.specs.Text.{TextOf}
 use Rattle.texts.specs.Fault.{Fault}
-use Rattle.surface.specs.Threes.{Three, flat}
 use Rattle.sheet.specs.Sheet.{points, triangles}
 use Rattle.scribe.specs.Outcome.{WriteOutcome}
 use Rattle.report.specs.Lines.{answerLine}

@@ -1,6 +1,6 @@
 // The run over all loops, in listed order.
-ghost use Rattle.course.specs.Workings.Courses.{RunRoom, Runs};
 ghost use Rattle.rounds.specs.Workings.Rings.{Plain};
+ghost use Rattle.course.specs.Workings.Courses.{RunRoom, Runs};
 use column::FAR;
 use column::PLACES;
 use terms::Loop;

@@ -1,8 +1,8 @@
 // A path that grows edge by edge: where it comes back to a vertex, the loop that closes there is cut off and listed.
 ghost use mathlib.Core.Path.{_≡_};
 ghost use lib.ListN.{take};
-ghost use Rattle.loops.specs.Loops.{ring, startsAt};
 ghost use Rattle.surface.specs.Buffers.{laid};
+ghost use Rattle.loops.specs.Loops.{ring, startsAt};
 ghost use Rattle.cutting.specs.Workings.Growing.{Sought, RingRoom, part, CutRoom, WasCut, GrowRoom, Grew};
 use surface::Found;
 

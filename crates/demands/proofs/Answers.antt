@@ -6,32 +6,32 @@ use mathlib.Core.List.{List, [], _∷_, _++_}
 use Prim.Native.Nat.{ℕ, _+_, _/_}
 use lib.Dec.{eqb}
 use lib.ListN.{length}
-use Rattle.limits.specs.Limits as limits
 use Rattle.answers.specs.Numbers.{refusing}
-use Rattle.terms.specs.Counts.{threes}
 use Rattle.answers.specs.declared.Answer.{Answer}
 use Rattle.answers.specs.declared.Answer.the-variants.{Done, Words, Corners, Buffer, Unnamed, TooFar, States}
+use Rattle.terms.specs.Counts.{threes}
+use Rattle.limits.specs.Limits as limits
 use Rattle.surface.specs.declared.Found.{Found}
 use Rattle.surface.specs.declared.Found.the-variants.{At, Nothing}
 use Rattle.surface.specs.Smallest.{least}
 use Rattle.surface.specs.Refusals.{tooFar, refuseAt, thenCheck, countRefusal, bufferRefusal, unnamedRefusal, cornerRefusal, wordRefusal, contentRefusal, refusal}
+use Rattle.surface.specs.Buffers.{over}
+use Rattle.surface.specs.Threes.{Three, flat}
 use Rattle.surface.proofs.Laws.Smallest.{least-at, least-never, least-sound, least-first, never-least}
 use Rattle.surface.proofs.Laws.Thens.{then-refused, then-next}
-use Rattle.surface.specs.Buffers.{over}
 use Rattle.loops.specs.Loops.{loops}
 use Rattle.survey.specs.Grid.{gridOf}
 use Rattle.survey.specs.Outcome as survey
-use Rattle.patching.specs.Outcome as patcher
-use Rattle.trial.specs.Outcome.{JudgesCounted, JudgesIf, Judges}
 use Rattle.run.specs.Run.{ringList}
 use Rattle.verdicts.proofs.Laws.Once.{verdict-told}
+use Rattle.patching.specs.Outcome as patcher
+use Rattle.trial.specs.Outcome.{JudgesCounted, JudgesIf, Judges}
 use Rattle.texts.specs.Text.{TextOf}
-use Rattle.surface.specs.Threes.{Three, flat}
 use Rattle.sheet.specs.Sheet.{points, triangles, text}
 use Rattle.intake.specs.Outcome as intake
-use Rattle.scribe.specs.Outcome.{writeRefusal, writes}
 use Rattle.sets.specs.Set as set
 use Rattle.sets.specs.Outcome as sets
+use Rattle.scribe.specs.Outcome.{writeRefusal, writes}
 use Rattle.demands.specs.Answers.{Check, Due, wordCount, cornerCount, shortBuffer, unnamedCorner, pointTwice, edgeRepeated, noNumber, farAway, stateCount, table, Answered, AnswersDemand}
 
 -- ---- what a list of checks gives, as the entry points compute it

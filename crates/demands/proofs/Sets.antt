@@ -29,8 +29,8 @@ use Rattle.verdicts.proofs.Laws.Passes.{passes-right, right-passes}
 use Rattle.verdicts.proofs.Laws.Patched.{run-right}
 use Rattle.verdicts.proofs.Laws.Filled.{right-filled, parts-all, part-empty, empty-part}
 use Rattle.patching.specs.Outcome as patcher
-use Rattle.trial.proofs.Laws.Apart.{rings-apart}
 use Rattle.trial.specs.Outcome.{JudgesCounted, JudgesIf, Judges}
+use Rattle.trial.proofs.Laws.Apart.{rings-apart}
 use Rattle.demands.specs.Sets.{begins, Passable, Closes, CheckerDemand, statesLeft, setLeft, PatcherDemand}
 use Rattle.demands.proofs.Closing.{closing-demand}
 use Rattle.demands.proofs.Passable.{right-each, right-none-left, each-right}

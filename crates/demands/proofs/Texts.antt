@@ -6,24 +6,24 @@ use mathlib.Core.List.{List, [], _∷_}
 use Prim.Native.Nat.{ℕ, _+_, _/_, _≤_}
 use native.Mathlib.Omega.{arith}
 use lib.ListN.{length, take}
-use Rattle.limits.specs.Limits as limits
 use Rattle.answers.specs.Numbers.{refusing}
 use Rattle.answers.specs.declared.Answer.{Answer}
 use Rattle.answers.specs.declared.Answer.the-variants.{Done, Buffer, Unnamed, Line}
+use Rattle.limits.specs.Limits as limits
 use Rattle.surface.specs.declared.Found.{Found}
 use Rattle.surface.specs.declared.Found.the-variants.{At, Nothing}
 use Rattle.surface.specs.Smallest.{least}
 use Rattle.surface.specs.Refusals.{short, unnamed, refuseAt, thenCheck, bufferRefusal, unnamedRefusal}
+use Rattle.surface.specs.Threes.{threes, flat}
 use Rattle.surface.proofs.Laws.Thens.{Fitting, counts-fit, two-long}
 use Rattle.surface.proofs.Laws.Over.{start-of}
 use Rattle.surface.proofs.Laws.Sound.{next-of}
+use Rattle.surface.proofs.Laws.Threes.{flat-threes}
 use Rattle.texts.specs.Fault.{Fault}
 use Rattle.texts.proofs.Theorems.{Known}
 use Rattle.texts.proofs.Laws.Cut.{fault-whole}
-use Rattle.surface.specs.Threes.{threes, flat}
 use Rattle.sheet.specs.Sheet.{points, triangles}
 use Rattle.sheet.proofs.Laws.Texts.{text-once, text-or-fault}
-use Rattle.surface.proofs.Laws.Threes.{flat-threes}
 use Rattle.sheet.proofs.Theorems.{longest, longest-met}
 use Rattle.intake.specs.Outcome.{ReadOutcome, Reads, deliver}
 use Rattle.scribe.specs.Outcome.{writes}

@@ -3,12 +3,12 @@ use mathlib.Core.Path.{_≡_}
 use mathlib.Core.List.{List}
 use Prim.Native.Nat.{ℕ, suc, _^_, _<_, _≤_}
 use lib.ListN.{length, getD, take}
-use Rattle.limits.specs.Limits as limits
 use Rattle.answers.specs.declared.Answer.the-variants.{Done, Line}
+use Rattle.limits.specs.Limits as limits
 use Rattle.surface.specs.Buffers.{over}
+use Rattle.surface.specs.Threes.{Three}
 use Rattle.texts.specs.Text.{TextOf}
 use Rattle.texts.specs.Fault.{Fault}
-use Rattle.surface.specs.Threes.{Three}
 use Rattle.sheet.specs.Sheet.{points, triangles}
 use Rattle.intake.specs.Outcome.{ReadOutcome, Reads}
 use Rattle.scribe.specs.Outcome.{WriteOutcome, writes}

@@ -7,9 +7,9 @@ use lib.IntN.{ℤ, pos, negsuc, negℤ, natAbs, _-ℤ_, _*ℤ_}
 use lib.Ieee.{Float, binary32, fits}
 use lib.Ieee.Scale.{finite}
 use lib.Ieee.Nearest.{closest}
-use Rattle.limits.specs.Limits.{greatest}
 use Rattle.answers.specs.declared.Answer.{Answer}
 use Rattle.answers.specs.declared.Answer.the-variants as answer
+use Rattle.limits.specs.Limits.{greatest}
 use Rattle.grid.specs.Units.{one, units}
 use Rattle.grid.specs.declared.Coordinate.{Coordinate}
 use Rattle.grid.specs.declared.Coordinate.the-variants.{Exact, Shifted, NotFinite, TooFar}

@@ -5,8 +5,8 @@ use mathlib.Core.List.{List}
 use Prim.Native.Nat.{ℕ}
 use Rattle.texts.proofs.Theorems.{Known}
 use Rattle.sheet.specs.Sheet.{points, triangles}
-use Rattle.intake.specs.Outcome.{ReadOutcome, Reads}
 use Rattle.sheet.proofs.Laws.Texts.{text-or-fault}
+use Rattle.intake.specs.Outcome.{ReadOutcome, Reads}
 
 -- two outcomes that are allowed are equal
 pub reads-once : (bytes words corners : List ℕ) (o o′ : ReadOutcome) → Reads bytes words corners o → Reads bytes words corners o′ → o ≡ o′

@@ -6,10 +6,11 @@ use mathlib.Core.Logic.{inl, inr}
 use mathlib.Core.List.{List, [], flatten}
 use Prim.Native.Nat.{ℕ, suc}
 use lib.ListN.{length, take}
-use Rattle.limits.specs.Limits as limits
 use Rattle.answers.specs.Numbers.{refusing}
 use Rattle.answers.specs.declared.Answer.{Answer}
+use Rattle.limits.specs.Limits as limits
 use Rattle.surface.specs.Refusals.{sheetRefusal}
+use Rattle.surface.specs.Threes.{flat}
 use Rattle.survey.specs.Grid.{gridOf}
 use Rattle.run.specs.Fates.{Fate}
 use Rattle.run.specs.Run.{ringList}
@@ -18,14 +19,13 @@ use Rattle.patching.specs.Outcome.{Buffers, Outcome}
 use Rattle.patching.proofs.Laws.Once.{patches-once}
 use Rattle.texts.proofs.Theorems.{Known}
 use Rattle.texts.proofs.Laws.Cut.{text-first, fault-first}
-use Rattle.surface.specs.Threes.{flat}
 use Rattle.sheet.specs.Sheet.{points, triangles}
 use Rattle.sheet.proofs.Laws.Texts.{text-or-fault}
 use Rattle.sheet.proofs.Theorems.{longest}
 use Rattle.report.specs.Listing.{Shown, listing}
-use Rattle.lister.specs.Lists.{Lists, loopsOf, PrintsIf, Prints}
 use Rattle.roll.specs.Pieces.{Pieces}
 use Rattle.roll.proofs.Theorems.{pieces-joined}
+use Rattle.lister.specs.Lists.{Lists, loopsOf, PrintsIf, Prints}
 use Rattle.lister.specs.Workings.Printed.{Full, Printed}
 use Rattle.lister.proofs.Laws.Printed.{text-refused, text-done, fault-prints}
 

@@ -9,13 +9,13 @@ use Rattle.answers.specs.Numbers.{refusing}
 use Rattle.answers.specs.declared.Answer.{Answer}
 use Rattle.answers.specs.declared.Answer.the-variants.{Line}
 use Rattle.surface.specs.Refusals.{sheetRefusal}
+use Rattle.surface.specs.Threes.{Three, flat}
 use Rattle.survey.specs.Grid.{gridOf}
 use Rattle.run.specs.Fates.{Fate, stateOf, weighs, lays}
 use Rattle.run.specs.Run.{Run, ringList}
 use Rattle.patching.specs.Outcome.{Buffers, Outcome, refused, Patches}
 use Rattle.texts.specs.Text.{TextOf}
 use Rattle.texts.specs.Fault.{Fault}
-use Rattle.surface.specs.Threes.{Three, flat}
 use Rattle.sheet.specs.Sheet.{points, triangles}
 use Rattle.report.specs.Lines.{answerLine}
 use Rattle.report.specs.Listing.{Shown, listing}

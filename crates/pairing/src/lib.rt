@@ -3,10 +3,10 @@
 ghost use mathlib.Core.Path.{_≡_};
 ghost use Prim.Native.Nat.{_%_, _≤_};
 ghost use lib.ListN.{length};
+ghost use Rattle.surface.specs.Edges.{following};
 ghost use Rattle.twins.specs.Workings.Turns.{Room};
 ghost use Rattle.pairing.specs.Workings.Outcome.{Paired};
 ghost use Rattle.pairing.specs.Workings.Triangles.{buckets, fewCorners, PlainTo, AfterRoom, alike, TriangleRoom, TriangleDone};
-ghost use Rattle.surface.specs.Edges.{following};
 use surface::Found;
 use terms::Surface;
 

@@ -18,9 +18,8 @@ use Rattle.surface.proofs.Laws.Lists.{flatten-append}
 use Rattle.report.specs.declared.Mark.{Mark}
 use Rattle.report.specs.Lines.{line, answerLine, loops=}
 use Rattle.report.specs.Listing.{Shown, loopLines, listing}
-use Rattle.roll.specs.Pieces.{head, between}
+use Rattle.roll.specs.Pieces.{head, between, Pieces, first, next}
 use Rattle.roll.specs.Workings.Roll.{Begins, Puts, Fills}
-use Rattle.roll.specs.Pieces.{Pieces, first, next}
 use Rattle.roll.proofs.Laws.Between.{between-joins}
 
 abbrev marked : ℕ → ℕ → ℕ → ℕ → Mark

@@ -16,10 +16,10 @@ use Rattle.surface.specs.Edges.{following, runs, twin, isOpen, repeats, twice}
 use Rattle.surface.specs.Refusals.{unnamed, cornerRefusal}
 use Rattle.loops.specs.Next.{step, turn, next}
 use Rattle.loops.specs.Loops.{around, cycle, leads, startsAt, grow, growAll, loopsOf, loopsBelow, loops}
+use Rattle.covers.specs.Covers.{Cover, Covers, on}
 use Rattle.weight.specs.Weight.{weightOf, pointOf}
 use Rattle.bars.specs.Bars.{follows, diagonal, edge, between, barred}
 use Rattle.run.specs.Fates.{patched, uncovered}
-use Rattle.covers.specs.Covers.{Cover, Covers, on}
 use Rattle.verdicts.specs.Faults as faults
 use Rattle.verdicts.specs.Faults.{IsCover, DeclaredPatched, Lighter}
 use Rattle.verdicts.proofs.Laws.Listing.{patch-is-cover}

@@ -7,9 +7,9 @@ use native.Mathlib.Omega.{arith}
 use lib.Dec.{eqb, ltb}
 use borrow.Author.Tests.{eqb-true, ltb-true, not-true, eq-eqb, lt-ltb}
 use Rattle.surface.proofs.Laws.Tests.{both-true}
-use Rattle.bars.proofs.Laws.Tests.{either-true}
 use Rattle.covers.specs.Covers.{Cover, empty, apex, Covers, Uses, Sooner, Allowed, NoCover, weight, Patch}
 use Rattle.weight.specs.Edition.{naturals}
+use Rattle.bars.proofs.Laws.Tests.{either-true}
 use Rattle.samples.specs.Table.{overOne, overTwo}
 
 -- ---- the covers of the shortest stretches

@@ -6,12 +6,12 @@ use Prim.Native.Nat.{ℕ, suc, _*_, _<_, _≤_}
 use native.Mathlib.Omega.{arith}
 use lib.ListN.{length, take, length-append}
 use Rattle.limits.specs.Limits as limits
+use Rattle.surface.specs.Threes.{Three}
 use Rattle.texts.specs.Text.{count, TextOf}
 use Rattle.texts.specs.Fault.{Fault}
 use Rattle.texts.proofs.Laws.Lines.{text-flat}
 use Rattle.texts.proofs.Laws.Cut.{fault-whole}
 use Rattle.texts.proofs.Theorems.{Known}
-use Rattle.surface.specs.Threes.{Three}
 use Rattle.sheet.proofs.Laws.Sizes.{count-length}
 use Rattle.sheet.proofs.Theorems.{few-digits, triangles-most}
 use Rattle.sets.specs.Set as text

@@ -10,9 +10,9 @@ use Rattle.answers.specs.declared.Answer.{Answer}
 use Rattle.answers.specs.declared.Answer.the-variants.{Done, Line}
 use Rattle.surface.specs.Buffers.{over}
 use Rattle.surface.specs.Refusals.{bufferRefusal}
+use Rattle.surface.specs.Threes.{Three, flat}
 use Rattle.texts.specs.Text.{TextOf}
 use Rattle.texts.specs.Fault.{Fault}
-use Rattle.surface.specs.Threes.{Three, flat}
 use Rattle.sets.specs.Set as text
 use Rattle.sets.specs.declared.ReadSet.{ReadSet}
 

@@ -2,9 +2,9 @@
 use mathlib.Core.List.{List, [], _∷_, _++_}
 use Prim.Native.Nat.{ℕ, _<_}
 use Rattle.limits.specs.Limits as limits
+use Rattle.surface.specs.Threes.{Three}
 use Rattle.digits.specs.Numeral.{byteOf}
 use Rattle.texts.specs.Text.{feed, Part}
-use Rattle.surface.specs.Threes.{Three}
 use Rattle.sheet.specs.Sheet as sheet
 
 -- `s=` and `states=`

@@ -4,20 +4,20 @@ use mathlib.Core.List.{List, [], _∷_, map, flatten}
 use Prim.Native.Nat.{ℕ, zero, suc, _+_, _-_, _*_, _/_, _^_, _<_, _≤_}
 use native.Mathlib.Omega.{arith}
 use lib.ListN.{length, getD, replicate, length-append, length-replicate}
+use Rattle.answers.specs.declared.Answer.the-variants.{Done}
 use Rattle.limits.specs.Limits as limits
 use Rattle.limits.proofs.Figures.{longest-text}
-use Rattle.answers.specs.declared.Answer.the-variants.{Done}
 use Rattle.surface.specs.Refusals.{countRefusal}
+use Rattle.surface.specs.Threes.{Three, three, threes, flat}
 use Rattle.surface.proofs.Laws.Thens.{Fitting, counts-fit}
+use Rattle.surface.proofs.Laws.Threes.{threes-length, flat-threes}
 use Rattle.digits.specs.Numeral.{size}
 use Rattle.digits.proofs.Laws.Sizes.{size-four, size-below}
 use Rattle.texts.specs.Text.{All, TextOf}
 use Rattle.texts.specs.Text as texts
 use Rattle.texts.proofs.Laws.Lists.{all-replicate}
-use Rattle.surface.specs.Threes.{Three, three, threes, flat}
 use Rattle.sheet.specs.Sheet.{Every, points, triangles, text}
 use Rattle.sheet.proofs.Laws.Sizes.{triangle-size, lists-length}
-use Rattle.surface.proofs.Laws.Threes.{threes-length, flat-threes}
 
 -- ---- the text of words and corners
 

@@ -2,8 +2,8 @@
 use mathlib.Core.List.{List, [], _∷_, _++_}
 use Prim.Native.Nat.{ℕ, _^_, _<_}
 use Rattle.limits.specs.Limits as limits
-use Rattle.digits.specs.Numeral.{hex, decimal}
 use Rattle.surface.specs.Threes.{Three, threes}
+use Rattle.digits.specs.Numeral.{hex, decimal}
 use Rattle.texts.specs.Text.{feed, Part}
 use Rattle.texts.specs.Text as texts
 

@@ -7,11 +7,11 @@ use lib.IntN.{natAbs}
 use lib.ListN.{length, getD}
 use lib.Ieee.{binary32, ofBits}
 use lib.Ieee.Scale.{finite}
-use Rattle.limits.specs.Limits as limits
 use Rattle.answers.specs.Numbers.{refusing}
-use Rattle.terms.specs.Counts.{threes}
 use Rattle.answers.specs.declared.Answer.{Answer}
 use Rattle.answers.specs.declared.Answer.the-variants.{Done, Words, Corners, Buffer, Unnamed, Twice, Repeated, NotFinite, TooFar}
+use Rattle.terms.specs.Counts.{threes}
+use Rattle.limits.specs.Limits as limits
 use Rattle.grid.specs.Units.{units}
 use Rattle.grid.specs.Places.{whole}
 use Rattle.surface.specs.declared.Found.{Found}

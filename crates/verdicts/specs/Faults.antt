@@ -7,11 +7,11 @@ use mathlib.Core.List.{List}
 use Prim.Native.Nat.{ℕ, _-_, _*_, _<_, _≤_}
 use lib.IntN.{ℤ}
 use lib.ListN.{length, take}
-use Rattle.limits.specs.Limits as limits
 use Rattle.answers.specs.declared.Answer.{Answer}
 use Rattle.answers.specs.declared.Answer.the-variants.{Misdeclared, Uncovered, Barred, Heavy}
-use Rattle.covers.specs.Covers.{Cover, Uses, vertexOf}
+use Rattle.limits.specs.Limits as limits
 use Rattle.surface.specs.Threes.{threes}
+use Rattle.covers.specs.Covers.{Cover, Uses, vertexOf}
 use Rattle.covers.specs.Sets.{Covered}
 use Rattle.bars.specs.Bars.{barred}
 use Rattle.run.specs.Here.{AllowedHere, NoneHere, weightHere}

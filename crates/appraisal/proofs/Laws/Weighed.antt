@@ -8,30 +8,30 @@ use native.Mathlib.Omega.{arith}
 use lib.IntN.{ℤ}
 use lib.Ieee.{Float}
 use lib.ListN.{length, take}
-use Rattle.limits.specs.Limits as limits
 use Rattle.answers.specs.declared.Answer.{Answer}
 use Rattle.answers.specs.declared.Answer.the-variants.{Done, Uncovered, Barred, Heavy}
-use Rattle.covers.specs.Covers.{Cover, Allowed}
+use Rattle.limits.specs.Limits as limits
 use Rattle.surface.specs.Threes.{threes}
+use Rattle.covers.specs.Covers.{Cover, Allowed}
 use Rattle.weight.specs.Weight.{Coordinates}
 use Rattle.masks.specs.Workings.Masks.{Rows}
 use Rattle.bars.specs.Bars.{barred}
+use Rattle.keys.specs.Workings.Covering.{Covering}
+use Rattle.keys.specs.Workings.Keys.{Threes}
+use Rattle.scales.specs.Workings.Weighing.{setWeight, AllNamed}
+use Rattle.scales.proofs.Laws.Weighing.{cover-weight, cover-named}
+use Rattle.reading.specs.declared.Reading.{Reading}
+use Rattle.reading.specs.declared.Reading.the-variants as reading
+use Rattle.reading.specs.Workings.Reading.{ReadsCover}
+use Rattle.reading.specs.Workings.Rows.{Readable, SidesFree}
 use Rattle.table.specs.declared.Least.{Least}
 use Rattle.table.specs.declared.Least.the-variants.{Weight, Nothing}
 use Rattle.table.specs.Workings.Loops.{Barring, LoopRoom, LeastIs}
 use Rattle.tracing.specs.Workings.Patches.{FindsLeast}
-use Rattle.reading.specs.declared.Reading.{Reading}
-use Rattle.reading.specs.declared.Reading.the-variants as reading
-use Rattle.keys.specs.Workings.Covering.{Covering}
-use Rattle.reading.specs.Workings.Reading.{ReadsCover}
-use Rattle.keys.specs.Workings.Keys.{Threes}
-use Rattle.reading.specs.Workings.Rows.{Readable, SidesFree}
-use Rattle.scales.specs.Workings.Weighing.{setWeight, AllNamed}
-use Rattle.scales.proofs.Laws.Weighing.{cover-weight, cover-named}
 use Rattle.run.specs.Here.{weightHere}
 use Rattle.verdicts.specs.Faults.{share, IsCover, patched, no-cover, cover-barred, too-heavy}
-use Rattle.sight.specs.Workings.Findings.{right, fault}
 use Rattle.verdicts.proofs.Laws.Declared.{declared-patched}
+use Rattle.sight.specs.Workings.Findings.{right, fault}
 use Rattle.appraisal.specs.Workings.Parts.{PartRoom, FindsCover, WeightRoom, FindsWeight}
 
 -- the part at the set's front is a cover

@@ -6,15 +6,15 @@ use Prim.Native.Nat.{ℕ, _-_, _≤_}
 use lib.IntN.{ℤ}
 use lib.ListN.{length, take}
 use lib.Ieee.{Float}
-use Rattle.limits.specs.Limits as limits
 use Rattle.answers.specs.declared.Answer.{Answer}
-use Rattle.covers.specs.Covers.{Cover, Allowed}
+use Rattle.limits.specs.Limits as limits
 use Rattle.surface.specs.Threes.{threes}
+use Rattle.covers.specs.Covers.{Cover, Allowed}
 use Rattle.bars.specs.Bars.{barred}
-use Rattle.column.specs.Workings.Columns.{Table}
-use Rattle.table.specs.Workings.Loops.{OnGrid, Barring}
 use Rattle.keys.specs.Workings.Covering.{Covering}
 use Rattle.keys.specs.Workings.Keys.{Ringed}
+use Rattle.column.specs.Workings.Columns.{Table}
+use Rattle.table.specs.Workings.Loops.{OnGrid, Barring}
 use Rattle.verdicts.specs.Faults.{share}
 use Rattle.sight.specs.Workings.Findings.{Finds}
 

@@ -6,9 +6,9 @@ use Prim.Native.Nat.{ℕ, _/_, _≤_}
 use native.Mathlib.Omega.{arith}
 use lib.Dec.{eqb}
 use lib.ListN.{length}
-use Rattle.limits.specs.Limits as limits
 use Rattle.answers.specs.Numbers.{refusing}
 use Rattle.answers.specs.declared.Answer.{Answer}
+use Rattle.limits.specs.Limits as limits
 use Rattle.surface.specs.Refusals.{refusal, sheetRefusal}
 use Rattle.surface.proofs.Laws.Thens.{three-long}
 use Rattle.surface.proofs.Laws.Deciding.{buffers-pass}

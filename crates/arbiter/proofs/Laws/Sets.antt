@@ -6,17 +6,17 @@ use mathlib.Core.List.{List, [], _∷_}
 use Prim.Native.Nat.{ℕ, _+_, _/_, _≤_}
 use native.Mathlib.Omega.{arith}
 use lib.ListN.{length, take}
-use Rattle.limits.specs.Limits as limits
 use Rattle.answers.specs.Numbers.{refusing}
 use Rattle.answers.specs.declared.Answer.{Answer}
 use Rattle.answers.specs.declared.Answer.the-variants.{Done, Line}
+use Rattle.limits.specs.Limits as limits
 use Rattle.surface.specs.Buffers.{over}
 use Rattle.surface.specs.Refusals.{bufferRefusal}
+use Rattle.surface.specs.Threes.{Three, flat}
 use Rattle.surface.proofs.Laws.Thens.{two-long}
 use Rattle.surface.proofs.Laws.Over.{start-of}
-use Rattle.texts.specs.Text.{TextOf}
-use Rattle.surface.specs.Threes.{Three, flat}
 use Rattle.surface.proofs.Laws.Threes.{flat-length}
+use Rattle.texts.specs.Text.{TextOf}
 use Rattle.sets.specs.Set as text
 use Rattle.sets.specs.Outcome.{SetOutcome, deliver, ReadsSet}
 use Rattle.arbiter.specs.Hears.{Answers}

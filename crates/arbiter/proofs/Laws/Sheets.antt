@@ -5,9 +5,11 @@ use Prim.Native.Nat.{ℕ, _+_, _*_, _/_, _≤_}
 use native.Mathlib.Omega.{arith}
 use lib.ListN.{length, take}
 use lib.Seq.{length-take-le}
-use Rattle.limits.specs.Limits as limits
 use Rattle.answers.specs.declared.Answer.{Answer}
 use Rattle.answers.specs.declared.Answer.the-variants.{Line}
+use Rattle.limits.specs.Limits as limits
+use Rattle.surface.specs.Threes.{Three, flat}
+use Rattle.surface.proofs.Laws.Threes.{flat-length, front-of}
 use Rattle.texts.specs.Text.{lines}
 use Rattle.texts.specs.Workings.Parse.{said}
 use Rattle.texts.specs.Workings.Scanning.{Scanned}
@@ -15,10 +17,7 @@ use Rattle.texts.specs.declared.Scan.{Scan}
 use Rattle.texts.specs.declared.Scan.the-variants.{Whole, Wrong}
 use Rattle.texts.proofs.Laws.Scanning.{whole-wrong, Kept, kept}
 use Rattle.texts.proofs.Laws.Lines.{lines-length}
-use Rattle.surface.specs.Threes.{Three, flat}
 use Rattle.sheet.specs.Sheet.{points, triangles}
-use Rattle.surface.proofs.Laws.Threes.{flat-length}
-use Rattle.surface.proofs.Laws.Threes.{front-of}
 use Rattle.sheet.specs.Workings.Parse.{parse}
 use Rattle.sheet.proofs.Laws.Texts.{parse-text, fault-only}
 use Rattle.intake.proofs.Laws.Deliver as deliver

@@ -6,11 +6,11 @@ use Prim.Native.Nat.{ℕ, _+_, _/_}
 use lib.ListN.{length}
 use Rattle.answers.specs.declared.Answer.{Answer}
 use Rattle.answers.specs.declared.Answer.the-variants.{Line}
+use Rattle.surface.specs.Threes.{Three, flat}
 use Rattle.texts.specs.Text.{TextOf}
 use Rattle.texts.specs.Fault.{Fault}
 use Rattle.texts.specs.Workings.Scanning.{Scanned}
 use Rattle.texts.specs.declared.Scan.{Scan}
-use Rattle.surface.specs.Threes.{Three, flat}
 use Rattle.sheet.specs.Workings.Parse.{parse}
 use Rattle.sets.specs.Set as set
 use Rattle.arbiter.specs.Hears.{Answers, Hears}

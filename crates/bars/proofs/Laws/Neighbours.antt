@@ -9,9 +9,9 @@ use lib.Bits.{bitOr}
 use lib.Dec.{eqb, leb, ltb}
 use borrow.Author.Tests.{eqb-true, eqb-false, ltb-true, leb-true, eq-eqb, lt-ltb, le-leb}
 use Rattle.limits.specs.Limits as limits
+use Rattle.surface.proofs.Laws.Tests.{both-true, either-false, lt-or-le}
 use Rattle.masks.specs.Workings.Masks.{bit}
 use Rattle.masks.proofs.Laws.Masks.{or-bit, one-bit, ones-bit, window-bit}
-use Rattle.surface.proofs.Laws.Tests.{both-true, either-false, lt-or-le}
 use Rattle.bars.specs.Bars.{follows}
 use Rattle.bars.specs.Workings.Chains.{touches}
 use Rattle.bars.proofs.Laws.Tests.{either-true, or-left, or-right, surely, same-truth}

@@ -8,8 +8,8 @@ use native.Mathlib.Omega.{arith}
 use lib.Dec.{eqb, ltb}
 use lib.ListN.{length, getD}
 use borrow.Author.Tests.{ne-eqb, lt-ltb, le-ltb}
-use Rattle.masks.specs.Workings.Masks.{Rows}
 use Rattle.surface.proofs.Laws.Tests.{eq-or-not}
+use Rattle.masks.specs.Workings.Masks.{Rows}
 use Rattle.bars.specs.Workings.Chains.{Edge, reaches, Chained, leads, withFrom, metBelow, met, RowsRoom, FromDone, AllDone}
 use Rattle.bars.proofs.Laws.Reaches.{joins-reaches}
 use Rattle.bars.proofs.Laws.Rows.{rows-same, rows-clear}

@@ -11,9 +11,9 @@ use lib.ListN.{length, getD, set, length-set}
 use lib.Seq.{getD-set-same, getD-set-other}
 use borrow.Author.Tests.{eq-eqb, ne-eqb}
 use Rattle.limits.specs.Limits as limits
+use Rattle.surface.proofs.Laws.Tests.{eq-or-not}
 use Rattle.masks.specs.Workings.Masks.{bit, Rows}
 use Rattle.masks.proofs.Laws.Masks.{with-bit, less-bit, bit-zero}
-use Rattle.surface.proofs.Laws.Tests.{eq-or-not}
 
 module _ (n : ℕ) (p q : ℕ → ℕ → Bool) (rows : List ℕ) (told : Rows n p rows) where
   pub rows-same : ((a b : ℕ) → a < n → b < limits.longest → p a b ≡ q a b) → Rows n q rows

@@ -11,10 +11,10 @@ use lib.Dec.{eqb, ltb}
 use lib.ListN.{length, getD, set, drop, length-set}
 use borrow.Author.Tests.{eq-eqb, ne-eqb, lt-ltb, le-ltb, eqb-true}
 use Rattle.limits.specs.Limits as limits
-use Rattle.masks.specs.Workings.Masks.{Rows}
+use Rattle.surface.proofs.Laws.Tests.{eq-or-not, lt-or-le}
 use Rattle.twins.specs.Workings.Chains.{top}
 use Rattle.twins.proofs.Laws.Tops.{top-le, top-says}
-use Rattle.surface.proofs.Laws.Tests.{eq-or-not, lt-or-le}
+use Rattle.masks.specs.Workings.Masks.{Rows}
 use Rattle.bars.specs.Workings.Chains.{Edge, edgeOf, reaches, leaves, Chained, Marked, leads, withFrom, RowsRoom, FromDone}
 use Rattle.bars.proofs.Laws.Reaches.{reaches-none, met-here, reaches-top}
 use Rattle.bars.proofs.Laws.Rows.{one, rows-same, rows-one}

@@ -7,8 +7,8 @@ use mathlib.Core.Logic.{_⊎_, inl, inr}
 use mathlib.Core.List.{List, []}
 use native.Mathlib.Omega.{arith}
 use lib.ListN.{length}
-use Rattle.covers.specs.Covers.{Cover, Allowed, vertexOf}
 use Rattle.surface.specs.Threes.{threes}
+use Rattle.covers.specs.Covers.{Cover, Allowed, vertexOf}
 use Rattle.covers.specs.Sets.{Covered}
 use Rattle.covers.proofs.Laws.Counted.{InnerUse}
 use Rattle.covers.proofs.Laws.Closed.{Different}

@@ -10,11 +10,11 @@ use native.Mathlib.Omega.{arith}
 use native.Mathlib.Decide.{decLt}
 use lib.ListN.{length, getD}
 use Rattle.surface.specs.Edges.{following, startOf, endOf, isOpen}
+use Rattle.surface.specs.Threes.{threes}
 use Rattle.surface.proofs.Laws.Tests.{not-so, either-false}
 use Rattle.surface.proofs.Laws.Smallest.{any-index, index-any}
 use Rattle.surface.proofs.Laws.Edges.{runs-says, runs-from, twin-says, not-open, opposed}
 use Rattle.covers.specs.Covers.{Triangle, on}
-use Rattle.surface.specs.Threes.{threes}
 use Rattle.covers.proofs.Laws.Pairs.{Pair, pair, count, count-append}
 use Rattle.covers.proofs.Laws.Wound.{edges, edges-append}
 use Rattle.bars.specs.Bars.{edge, between}

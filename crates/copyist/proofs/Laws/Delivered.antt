@@ -4,15 +4,15 @@ use mathlib.Core.List.{List, [], _∷_}
 use Prim.Native.Nat.{ℕ, _/_, _≤_}
 use native.Mathlib.Omega.{arith}
 use lib.ListN.{length}
-use Rattle.limits.specs.Limits as limits
 use Rattle.answers.specs.declared.Answer.the-variants.{Done, Unnamed}
+use Rattle.limits.specs.Limits as limits
 use Rattle.surface.specs.Buffers.{over}
 use Rattle.surface.specs.Refusals.{bufferRefusal, unnamedRefusal}
-use Rattle.surface.proofs.Laws.Thens.{two-long}
-use Rattle.texts.specs.Text.{TextOf}
 use Rattle.surface.specs.Threes.{Three, flat}
-use Rattle.sheet.specs.Sheet.{points, triangles}
+use Rattle.surface.proofs.Laws.Thens.{two-long}
 use Rattle.surface.proofs.Laws.Threes.{flat-length}
+use Rattle.texts.specs.Text.{TextOf}
+use Rattle.sheet.specs.Sheet.{points, triangles}
 use Rattle.intake.specs.Outcome.{notRead, deliver}
 
 module _ {bytes : List ℕ} {ps ts : List Three} (t : TextOf points triangles bytes ps ts) where

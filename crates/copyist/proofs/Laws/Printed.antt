@@ -4,12 +4,12 @@ use mathlib.Core.Bool.{true, false, true≢false}
 use mathlib.Core.List.{List}
 use Prim.Native.Nat.{ℕ, _≤_}
 use lib.ListN.{length, take}
-use Rattle.limits.specs.Limits as limits
 use Rattle.answers.specs.Numbers.{refusing}
 use Rattle.answers.specs.declared.Answer.{Answer}
+use Rattle.limits.specs.Limits as limits
 use Rattle.surface.specs.Buffers.{over}
-use Rattle.surface.proofs.Laws.Over.{start-of}
 use Rattle.surface.specs.Threes.{flat}
+use Rattle.surface.proofs.Laws.Over.{start-of}
 use Rattle.intake.specs.Outcome.{ReadOutcome, Reads}
 use Rattle.scribe.specs.declared.Written.{Written}
 use Rattle.scribe.specs.Outcome.{writeOutcome, writes}

@@ -11,12 +11,12 @@ use Rattle.bars.specs.Workings.Chains.{Tells}
 use Rattle.column.specs.Workings.Columns.{Table}
 use Rattle.run.specs.Fates.{lays}
 use Rattle.run.specs.Run.{laidBy}
-use Rattle.plain.specs.declared.Became.{Became}
-use Rattle.middling.specs.Workings.Turns.{TurnRoom, Took, Takes}
 use Rattle.rounds.specs.Workings.Rings.{RingOf, Loops}
 use Rattle.rounds.specs.Workings.Bench.{Bench}
 use Rattle.rounds.proofs.Laws.Reading.{as-many, length-at}
 use Rattle.rounds.proofs.Laws.Bench.{noughts, edgesMost, Standing, standing-begins, standing-room, standing-next}
+use Rattle.plain.specs.declared.Became.{Became}
+use Rattle.middling.specs.Workings.Turns.{TurnRoom, Took, Takes}
 use Rattle.course.specs.Workings.Courses.{Lent, RunRoom, Ran}
 use Rattle.course.proofs.Laws.Courses.{patches-in, ran-more, laid-next}
 use Rattle.course.proofs.Laws.Going.{Going, going-begins, part-is, going-next, places}

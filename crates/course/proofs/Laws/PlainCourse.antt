@@ -10,10 +10,10 @@ use lib.ListN.{length, getD, take, drop, set}
 use Rattle.limits.specs.Limits as limits
 use Rattle.surface.proofs.Laws.Laid.{laid-none}
 use Rattle.run.specs.Fates.{long}
-use Rattle.plain.specs.declared.Became.{Became}
-use Rattle.plain.specs.Workings.Threes.{ThreeRoom, ThreeTook}
 use Rattle.rounds.specs.Workings.Rings.{RingOf, Loops, Plain}
 use Rattle.rounds.proofs.Laws.Reading.{as-many, length-at}
+use Rattle.plain.specs.declared.Became.{Became}
+use Rattle.plain.specs.Workings.Threes.{ThreeRoom, ThreeTook}
 use Rattle.course.specs.Workings.Courses.{Lent, RunRoom, Ran}
 use Rattle.course.proofs.Laws.Courses.{patches-in, ran-more}
 use Rattle.course.proofs.Laws.Going.{Going, part-is, going-next}

@@ -10,8 +10,8 @@ use borrow.Author.Tests.{ltb-true, ltb-false, eqb-true, eqb-false}
 use Rattle.digits.specs.Numeral.{size}
 use Rattle.digits.specs.Workings.Reading.{Read, wrong, got, valueOf, until, readDecimal}
 use Rattle.digits.proofs.Laws.Digit.{value-under, size-pos}
-use Rattle.decimals.proofs.Laws.Decimals.{dec-end, dec-zeros, dec-bad, dec-big, dec-more}
 use Rattle.digits.proofs.Laws.Sizes.{size-four}
+use Rattle.decimals.proofs.Laws.Decimals.{dec-end, dec-zeros, dec-bad, dec-big, dec-more}
 use Rattle.decimals.proofs.Laws.Leads.{dec-full}
 
 -- where a digit's byte lies

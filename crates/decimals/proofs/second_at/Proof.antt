@@ -5,9 +5,9 @@ use borrow.Author.Tests.{not-true, not-false}
 use mathlib.Core.Path.{sym, _∙_}
 use native.Mathlib.Omega.{arith}
 use borrow.Author.Needs.{needs}
+use Rattle.digits.proofs.Laws.Digit.{size-one}
 use Rattle.decimals.proofs.Laws.Rooms.{up-to}
 use Rattle.decimals.proofs.Laws.Leads.{dec-lead}
-use Rattle.digits.proofs.Laws.Digit.{size-one}
 use Rattle.decimals.proofs.Laws.Chain.{digit-from, chain-end, chain-bad, chain-more}
 use Rattle.decimals.proofs.second_at.Statement.{statement}
 use Rattle.decimals.proofs.second_at.Tie as tie

@@ -5,8 +5,8 @@ use borrow.Author.Tests.{not-true, not-false}
 use mathlib.Core.Path.{sym, _∙_}
 use native.Mathlib.Omega.{arith}
 use borrow.Author.Needs.{needs}
-use Rattle.decimals.proofs.Laws.Rooms.{up-to}
 use Rattle.digits.proofs.Laws.Sizes.{size-two}
+use Rattle.decimals.proofs.Laws.Rooms.{up-to}
 use Rattle.decimals.proofs.Laws.Chain.{digit-from, chain-end, chain-bad, chain-more}
 use Rattle.decimals.proofs.third_at.Statement.{statement}
 use Rattle.decimals.proofs.third_at.Tie as tie

@@ -6,10 +6,10 @@ use native.Mathlib.Omega.{arith}
 use lib.ListN.{length, set}
 use Rattle.surface.specs.Buffers.{laid}
 use Rattle.digits.specs.Numeral.{byteOf, places, decimal}
-use Rattle.figures.specs.Workings.Tables.{four, fourOf}
 use Rattle.digits.proofs.Laws.Digit.{byte-small, byte-ten, size-one}
 use Rattle.digits.proofs.Laws.Sizes.{size-two, size-three, size-four}
 use Rattle.digits.proofs.Laws.Lay.{lay-byte}
+use Rattle.figures.specs.Workings.Tables.{four, fourOf}
 use Rattle.figures.proofs.Laws.Spelling.{lay-pair}
 
 cons : (x y : ℕ) (k l : List ℕ) → x ≡ y → k ≡ l → byteOf x ∷ k ≡ byteOf y ∷ l

@@ -7,14 +7,14 @@ use native.Mathlib.Nat.{div-div-eq-div-mul}
 use native.Mathlib.Omega.{arith}
 use lib.ListN.{length, getD, set, length-set}
 use lib.Seq.{getD-set-same, getD-set-other}
-use Rattle.surface.proofs.Laws.Tests.{eq-or-not}
 use Rattle.surface.specs.Buffers.{laid}
-use Rattle.digits.specs.Numeral.{byteOf, places, hex}
-use Rattle.figures.specs.Workings.Tables.{pairOf, Spelled, four}
-use Rattle.digits.proofs.Laws.Digit.{byte-small}
-use Rattle.figures.proofs.Laws.Parts.{part-div, part-mod}
+use Rattle.surface.proofs.Laws.Tests.{eq-or-not}
 use Rattle.surface.proofs.Laws.Laid.{laid-none, laid-length}
+use Rattle.digits.specs.Numeral.{byteOf, places, hex}
+use Rattle.digits.proofs.Laws.Digit.{byte-small}
 use Rattle.digits.proofs.Laws.Lay.{laid-cons, lay-two, lay-byte}
+use Rattle.figures.specs.Workings.Tables.{pairOf, Spelled, four}
+use Rattle.figures.proofs.Laws.Parts.{part-div, part-mod}
 
 -- nothing is spelt yet
 pub spell-none : (pairs : List ℕ) → length pairs ≡ 256 → Spelled 0 pairs

@@ -2,8 +2,8 @@
 use mathlib.Core.Path.{refl}
 use native.Mathlib.Omega.{arith}
 use borrow.Author.Needs.{needs}
-use Rattle.figures.proofs.Laws.Fours.{put-three, put-four-ended}
 use Rattle.digits.proofs.Laws.Sizes.{size-three, size-four}
+use Rattle.figures.proofs.Laws.Fours.{put-three, put-four-ended}
 use Rattle.figures.proofs.put_decimal_ended.Statement.{statement}
 use Rattle.figures.proofs.put_decimal_ended.Tie as tie
 

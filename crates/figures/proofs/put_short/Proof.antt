@@ -2,9 +2,9 @@
 use lib.ListN.{length-set}
 use native.Mathlib.Omega.{arith}
 use borrow.Author.Needs.{needs}
-use Rattle.figures.proofs.Laws.Fours.{put-one, put-two}
 use Rattle.digits.proofs.Laws.Sizes.{size-two}
 use Rattle.digits.proofs.Laws.Digit.{size-one}
+use Rattle.figures.proofs.Laws.Fours.{put-one, put-two}
 use Rattle.figures.proofs.put_short.Statement.{statement}
 use Rattle.figures.proofs.put_short.Tie as tie
 

@@ -3,10 +3,10 @@ use mathlib.Core.Path.{_∙_, _≡_, sym}
 use Prim.Native.Nat.{_≤_, _-_, _+_, _*_}
 use borrow.Author.Needs.{needs}
 use native.Mathlib.Omega.{arith}
-use Rattle.figures.specs.Workings.Tables.{Spelled}
 use Rattle.digits.specs.Numeral.{byteOf}
-use Rattle.figures.proofs.Laws.Spelling.{row-pair, spell-more, spell-end}
 use Rattle.digits.proofs.Laws.Digit.{byte-small}
+use Rattle.figures.specs.Workings.Tables.{Spelled}
+use Rattle.figures.proofs.Laws.Spelling.{row-pair, spell-more, spell-end}
 use Rattle.figures.proofs.spell_row.Statement.{statement}
 use Rattle.figures.proofs.spell_row.Tie as tie
 

@@ -10,10 +10,10 @@ use Rattle.surface.specs.Edges.{Sound}
 use Rattle.surface.proofs.Laws.Tests.{not-so}
 use Rattle.twins.specs.Workings.Turns.{openMark}
 use Rattle.loops.specs.Loops.{leads, loopsBelow}
-use Rattle.leaders.specs.Workings.Leading.{Quiet}
-use Rattle.finder.specs.Workings.Walking.{Turned}
 use Rattle.loops.proofs.Laws.Leaders.{leads-open}
 use Rattle.loops.proofs.Laws.Surfaces.{edgesBelow, edges-other, loops-other, leader-new, new-leads}
+use Rattle.leaders.specs.Workings.Leading.{Quiet}
+use Rattle.finder.specs.Workings.Walking.{Turned}
 use Rattle.finder.proofs.Laws.Marks.{among-holds, open-at, walked-at, turned-same}
 
 module _ (corners : List ℕ) (sound : Sound corners) (few : length corners ≤ limits.corners) (turns : List ℕ) where

@@ -12,13 +12,8 @@ use Rattle.surface.specs.declared.Found.the-variants.{At}
 use Rattle.surface.specs.Edges.{Sound, following, startOf, endOf, isOpen}
 use Rattle.surface.proofs.Laws.Edges.{below-after}
 use Rattle.twins.specs.Workings.Turns.{openMark}
-use Rattle.cutting.specs.declared.Listed.{Listed}
 use Rattle.loops.specs.Next.{next}
 use Rattle.loops.specs.Loops.{Split, startsAt, grow, cycle, loopsOf, loopsBelow}
-use Rattle.cutting.specs.Listing.{ListsLoops, ringsOf}
-use Rattle.leaders.specs.Workings.Leading.{walkedMark, Landing, Landed}
-use Rattle.cutting.specs.Workings.Growing.{Path, Stands, GrowRoom, Grew}
-use Rattle.finder.specs.Workings.Walking.{Turned, CycleRoom, CycleListed}
 use Rattle.loops.proofs.Laws.Distinct.{Distinct}
 use Rattle.loops.proofs.Laws.Counts.{Among}
 use Rattle.loops.proofs.Laws.Places.{among-back}
@@ -28,6 +23,11 @@ use Rattle.loops.proofs.Laws.Leaders.{leads-open}
 use Rattle.loops.proofs.Laws.Members.{among-either}
 use Rattle.loops.proofs.Laws.Surfaces.{edgesBelow, edges-leader, loops-leader, cycle-new}
 use Rattle.loops.proofs.Laws.Middle.{rings-total}
+use Rattle.cutting.specs.declared.Listed.{Listed}
+use Rattle.cutting.specs.Listing.{ListsLoops, ringsOf}
+use Rattle.cutting.specs.Workings.Growing.{Path, Stands, GrowRoom, Grew}
+use Rattle.leaders.specs.Workings.Leading.{walkedMark, Landing, Landed}
+use Rattle.finder.specs.Workings.Walking.{Turned, CycleRoom, CycleListed}
 use Rattle.finder.proofs.Laws.Marks.{among-holds, OpenAt, open-at, walked-at, turned-same, turned-more, landing, landed-next}
 use Rattle.finder.proofs.Laws.After.{after, after-none, take-more, after-more, after-total, after-fits, after-room, after-free, after-all}
 

@@ -18,10 +18,10 @@ use Rattle.surface.proofs.Laws.Tests.{eq-or-not}
 use Rattle.surface.proofs.Laws.Edges.{below-after, twin-says, open-none, none-open, not-open}
 use Rattle.twins.specs.Workings.Turns.{openMark, turnBy, Turns}
 use Rattle.loops.specs.Next.{across, step, turn, next}
-use Rattle.leaders.specs.Workings.Leading.{walkedMark, jump, Lands, Landing, Landed}
-use Rattle.finder.specs.Workings.Walking.{holds, turnNow, Turned}
 use Rattle.loops.proofs.Laws.Counts.{Among, among-later}
 use Rattle.loops.proofs.Laws.Fan.{Reaches, reach, hand-below}
+use Rattle.leaders.specs.Workings.Leading.{walkedMark, jump, Lands, Landing, Landed}
+use Rattle.finder.specs.Workings.Walking.{holds, turnNow, Turned}
 
 -- ---- what a list holds
 

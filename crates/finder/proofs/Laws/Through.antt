@@ -7,14 +7,14 @@ use native.Mathlib.Numerals.{add-one}
 use native.Mathlib.Omega.{arith}
 use lib.ListN.{length, getD}
 use Rattle.twins.specs.Workings.Turns.{openMark}
-use Rattle.cutting.specs.declared.Listed.{Listed}
 use Rattle.loops.specs.Loops.{leads, loops, loopsOf, loopsBelow}
-use Rattle.cutting.specs.Listing.{ListsLoops}
-use Rattle.finder.specs.Workings.Asked.{Ready, Lent}
-use Rattle.leaders.specs.Workings.Leading.{Quiet}
-use Rattle.finder.specs.Workings.Walking.{Turned, CycleRoom, CycleListed}
 use Rattle.loops.proofs.Laws.Surfaces.{edgesBelow, loops-leader}
+use Rattle.cutting.specs.declared.Listed.{Listed}
+use Rattle.cutting.specs.Listing.{ListsLoops}
 use Rattle.cutting.proofs.Laws.Cuts.{lists-none, lists-self, lists-on}
+use Rattle.leaders.specs.Workings.Leading.{Quiet}
+use Rattle.finder.specs.Workings.Asked.{Ready, Lent}
+use Rattle.finder.specs.Workings.Walking.{Turned, CycleRoom, CycleListed}
 use Rattle.finder.proofs.Laws.Marks.{turned-begins}
 use Rattle.finder.proofs.Laws.Below.{marked-leads, quiet-same}
 

@@ -12,9 +12,9 @@ use Rattle.surface.specs.Edges.{Sound, following, twin}
 use Rattle.twins.specs.Workings.Turns.{openMark}
 use Rattle.loops.specs.Loops.{leads, loopsBelow}
 use Rattle.loops.proofs.Laws.Surfaces.{edgesBelow}
-use Rattle.leaders.specs.Workings.Leading.{walkedMark}
 use Rattle.cutting.specs.Listing.{ListsLoops}
 use Rattle.cutting.specs.declared.Listed.{Listed}
+use Rattle.leaders.specs.Workings.Leading.{walkedMark}
 
 -- ---- the table of turns, in which walked edges are marked
 

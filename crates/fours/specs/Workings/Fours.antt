@@ -6,9 +6,9 @@ use Prim.Native.Nat.{ℕ, _+_, _<_, _≤_}
 use lib.IntN.{ℤ}
 use lib.ListN.{length, getD}
 use Rattle.limits.specs.Limits as limits
-use Rattle.masks.specs.Workings.Masks.{bit}
 use Rattle.covers.specs.Covers.{Cover, empty, apex}
 use Rattle.weight.specs.Edition.{triOf, along}
+use Rattle.masks.specs.Workings.Masks.{bit}
 use Rattle.table.specs.Workings.Loops.{OnGrid}
 
 -- the two covers, by the apexes 1 and 2

@@ -4,9 +4,9 @@ use mathlib.Core.Bool.{true, false}
 use mathlib.Core.List.{List}
 use Prim.Native.Nat.{ℕ, _+_}
 use lib.ListN.{length}
-use Rattle.limits.specs.Limits as limits
-use Rattle.terms.specs.Counts.{threes}
 use Rattle.answers.specs.declared.Answer.the-variants.{Done, Words, Corners, Buffer}
+use Rattle.terms.specs.Counts.{threes}
+use Rattle.limits.specs.Limits as limits
 use Rattle.surface.specs.declared.Found.the-variants.{At, Nothing}
 use Rattle.surface.specs.Smallest.{least}
 use Rattle.surface.specs.Refusals.{short, countRefusal, bufferRefusal}

@@ -5,27 +5,27 @@ use mathlib.Core.List.{List, [], _∷_}
 use Prim.Native.Nat.{ℕ, _*_, _/_, _≤_}
 use native.Mathlib.Omega.{arith}
 use lib.ListN.{length, take}
-use Rattle.limits.specs.Limits as limits
 use Rattle.answers.specs.Numbers.{refusing}
 use Rattle.answers.specs.declared.Answer.{Answer}
 use Rattle.answers.specs.declared.Answer.the-variants.{Done, Line, Unnamed}
+use Rattle.limits.specs.Limits as limits
 use Rattle.surface.specs.declared.Found.{Found}
 use Rattle.surface.specs.declared.Found.the-variants.{At, Nothing}
 use Rattle.surface.specs.Smallest.{least}
 use Rattle.surface.specs.Buffers.{over}
 use Rattle.surface.specs.Refusals.{unnamed, refuseAt, thenCheck, bufferRefusal, unnamedRefusal}
+use Rattle.surface.specs.Threes.{Three, flat}
 use Rattle.surface.proofs.Laws.Thens.{then-refused, then-next}
+use Rattle.surface.proofs.Laws.Threes.{front-of, front-within}
 use Rattle.texts.specs.Workings.Parse.{Parsed, said, fault}
 use Rattle.texts.specs.Workings.Scanning.{Scanned}
 use Rattle.texts.specs.declared.Scan.{Scan}
 use Rattle.texts.specs.declared.Scan.the-variants.{Wrong}
 use Rattle.texts.proofs.Laws.Scanning.{wrong-parsed, Kept}
-use Rattle.surface.specs.Threes.{Three, flat}
 use Rattle.sheet.specs.Workings.Parse.{parse}
+use Rattle.sheet.proofs.Laws.Texts.{parse-text, text-parse, fault-only}
 use Rattle.intake.specs.Outcome.{ReadOutcome, readOutcome, notRead, deliver, Reads}
 use Rattle.intake.specs.declared.ReadSheet.{ReadSheet}
-use Rattle.surface.proofs.Laws.Threes.{front-of, front-within}
-use Rattle.sheet.proofs.Laws.Texts.{parse-text, text-parse, fault-only}
 
 -- an answer that refuses
 abbrev pub Refused : ReadSheet → Answer → Type 0

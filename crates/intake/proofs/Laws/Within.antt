@@ -9,9 +9,9 @@ use lib.ListN.{length}
 use Rattle.answers.specs.Numbers.{refusing}
 use Rattle.surface.specs.Buffers.{over}
 use Rattle.surface.specs.Refusals.{thenCheck, bufferRefusal, unnamedRefusal}
+use Rattle.surface.specs.Threes.{flat}
 use Rattle.surface.proofs.Laws.Over.{front-in}
 use Rattle.texts.proofs.Theorems.{Known}
-use Rattle.surface.specs.Threes.{flat}
 use Rattle.sheet.specs.Sheet.{points, triangles}
 use Rattle.sheet.proofs.Laws.Texts.{text-or-fault}
 use Rattle.intake.specs.Outcome.{ReadOutcome, deliver, Reads}

@@ -3,8 +3,8 @@ use mathlib.Core.Path.{sym}
 use native.Mathlib.Omega.{arith}
 use lib.Seq.{length-take-le}
 use borrow.Author.Needs.{needs}
-use Rattle.texts.proofs.Laws.Scanning.{kept}
 use Rattle.surface.specs.Threes.{flat}
+use Rattle.texts.proofs.Laws.Scanning.{kept}
 use Rattle.sheet.specs.Workings.Parse.{parse}
 use Rattle.intake.proofs.Laws.Deliver.{fault-promised, few-points, few-triangles, words-in, corners-in, delivered}
 use Rattle.intake.proofs.read_by.Statement.{statement}

@@ -2,13 +2,13 @@
 use native.Mathlib.Omega.{arith}
 use borrow.Author.Needs.{needs}
 use Rattle.surface.specs.Threes.{flat}
+use Rattle.texts.proofs.Laws.Taking.{stops-less}
+use Rattle.texts.proofs.Laws.Scanning.{no-first, wrong-first, no-second, wrong-second, text-left, all-read}
 use Rattle.sheet.specs.Sheet.{points, triangles}
 use Rattle.sheet.specs.Workings.Parse.{readPoint, readTriangle}
 use Rattle.sheet.proofs.Laws.Told.{number-is, number-not, number-by, pass-stuck, pass-through}
 use Rattle.sheet.proofs.Laws.Rooms.{room-less}
 use Rattle.sheet.proofs.Laws.Exactly.{count-few}
-use Rattle.texts.proofs.Laws.Taking.{stops-less}
-use Rattle.texts.proofs.Laws.Scanning.{no-first, wrong-first, no-second, wrong-second, text-left, all-read}
 use Rattle.intake.proofs.take_in.Statement.{statement}
 use Rattle.intake.proofs.take_in.Tie as tie
 

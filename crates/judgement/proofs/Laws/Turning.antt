@@ -9,31 +9,30 @@ use lib.IntN.{ℤ}
 use lib.Ieee.{Float}
 use lib.ListN.{length, getD, take, drop, length-append, length-drop}
 use lib.Seq.{length-take-le}
-use Rattle.limits.specs.Limits as limits
 use Rattle.answers.specs.declared.Answer.{Answer}
 use Rattle.answers.specs.declared.Answer.the-variants.{Done, Misdeclared, Uncovered}
+use Rattle.limits.specs.Limits as limits
 use Rattle.surface.proofs.Laws.Tests.{eq-or-not}
 use Rattle.bars.specs.Bars.{barred}
 use Rattle.bars.specs.Workings.Chains.{Tells, BarsRoom, BarsDone}
 use Rattle.bars.proofs.Laws.Barring.{tells-walkable}
+use Rattle.keys.specs.Workings.Keys.{Ringed}
+use Rattle.linking.specs.Workings.Chaining as chaining
 use Rattle.table.specs.declared.Least.{Least}
 use Rattle.table.specs.declared.Least.the-variants.{Weight, Nothing}
 use Rattle.table.specs.Workings.Loops.{OnGrid, Barring, LoopRoom, LeastIs}
 use Rattle.tracing.specs.Workings.Patches.{FindsLeast}
-use Rattle.keys.specs.Workings.Keys.{Ringed}
-use Rattle.linking.specs.Workings.Chaining as chaining
 use Rattle.run.proofs.Laws.Three.{sides-free}
+use Rattle.verdicts.specs.Faults.{share, Right, Fault, patched, long, open-left, no-state, two-on-a-short, three-with-a-cover, misdeclared, no-cover}
+use Rattle.verdicts.specs.Verdicts.{taken}
+use Rattle.verdicts.proofs.Laws.Once.{fault-said, right-patched}
+use Rattle.verdicts.proofs.Laws.Filled.{taken-patched, part-none}
+use Rattle.verdicts.proofs.Laws.Declared.{declared-patched}
 use Rattle.rounds.specs.Workings.Rings.{RingOf}
 use Rattle.rounds.specs.Workings.Bench.{Bench}
 use Rattle.rounds.proofs.Laws.Bench.{bench-kept}
-use Rattle.verdicts.specs.Faults.{share, Right, Fault, patched, long, open-left, no-state, two-on-a-short, three-with-a-cover, misdeclared, no-cover}
-use Rattle.verdicts.proofs.Laws.Once.{fault-said}
-use Rattle.verdicts.specs.Verdicts.{taken}
-use Rattle.verdicts.proofs.Laws.Filled.{taken-patched, part-none}
-use Rattle.verdicts.proofs.Laws.Once.{right-patched}
 use Rattle.sight.specs.Workings.Findings.{right, fault, PlainRoom, FindsPlain}
 use Rattle.sight.proofs.Laws.Findings.{done-right}
-use Rattle.verdicts.proofs.Laws.Declared.{declared-patched}
 use Rattle.sight.proofs.Laws.Threes.{three-told}
 use Rattle.appraisal.specs.Workings.Parts.{PartRoom, FindsCover}
 use Rattle.appraisal.proofs.Laws.Weighed.{cover-part}

@@ -5,13 +5,13 @@ use Prim.Native.Nat.{ℕ, _+_, _-_, _≤_}
 use lib.IntN.{ℤ}
 use lib.ListN.{length, take}
 use lib.Ieee.{Float}
-use Rattle.limits.specs.Limits as limits
 use Rattle.answers.specs.declared.Answer.{Answer}
 use Rattle.answers.specs.declared.Answer.the-variants.{Done}
-use Rattle.rounds.specs.Workings.Rings.{RingOf}
-use Rattle.rounds.specs.Workings.Bench.{Bench, BenchRoom}
+use Rattle.limits.specs.Limits as limits
 use Rattle.verdicts.specs.Faults.{share}
 use Rattle.verdicts.specs.Verdicts.{taken}
+use Rattle.rounds.specs.Workings.Rings.{RingOf}
+use Rattle.rounds.specs.Workings.Bench.{Bench, BenchRoom}
 use Rattle.sight.specs.Workings.Findings.{Finds}
 
 pub record LoopTurn (grid : List ℤ) (ring heads links ends marks : List ℕ) (base : ℕ) (rows : List ℕ) (table : List Float) (e : ℕ) : Type 0 where

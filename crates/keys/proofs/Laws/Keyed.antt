@@ -5,8 +5,8 @@ use mathlib.Core.Path.{_≡_, sym, subst}
 use mathlib.Core.List.{List}
 use lib.ListN.{length, getD}
 use Rattle.limits.specs.Limits as limits
-use Rattle.covers.specs.Covers.{Cover, Triangle, on, vertexOf}
 use Rattle.surface.specs.Threes.{threes}
+use Rattle.covers.specs.Covers.{Cover, Triangle, on, vertexOf}
 use Rattle.covers.specs.Sets.{Alike, named}
 use Rattle.covers.proofs.Laws.Sets.{corners-of, by-corners}
 use Rattle.covers.proofs.Laws.Closed.{Below, begun, below, below-alike, alike-named, key-alike, covered-key, cover-keyed}

@@ -6,8 +6,8 @@ use mathlib.Core.List.{List, [], _∷_, _++_, append-assoc, append-nil}
 use native.Mathlib.Omega.{arith}
 use lib.ListN.{length, getD, drop, drop-of-length-le}
 use lib.Seq.{drop-cons}
-use Rattle.covers.specs.Covers.{Triangle, on}
 use Rattle.surface.specs.Threes.{threes}
+use Rattle.covers.specs.Covers.{Triangle, on}
 use Rattle.covers.specs.Workings.Reading.{In}
 use Rattle.covers.proofs.Laws.Listed.{in-right}
 use Rattle.keys.specs.Workings.Keys.{Threes, tripleAt}

@@ -5,8 +5,8 @@ use mathlib.Core.List.{List}
 use native.Mathlib.Omega.{arith}
 use lib.ListN.{length, getD}
 use Rattle.limits.specs.Limits as limits
-use Rattle.covers.proofs.Laws.Closed.{Different}
 use Rattle.covers.specs.Covers.{vertexOf}
+use Rattle.covers.proofs.Laws.Closed.{Different}
 use Rattle.keys.specs.Workings.Keys.{Ringed, Lies, on-ring, off-ring}
 
 module _ (ring : List ℕ) (base : ℕ) (marks : List ℕ) (h : Ringed ring base marks) where

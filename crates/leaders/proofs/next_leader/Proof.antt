@@ -1,8 +1,8 @@
 -- `next_leader` goes on one by one from where the quiet eights end, and does not stop at the one that is known not to lead.
 use Prim.Native.Nat.{_≤_, _-_}
 use borrow.Author.Needs.{needs}
-use Rattle.leaders.proofs.Laws.Quiets.{quiet-more, quiet-after}
 use Rattle.leaders.specs.Workings.Leading.{Quiet}
+use Rattle.leaders.proofs.Laws.Quiets.{quiet-more, quiet-after}
 use Rattle.leaders.proofs.next_leader.Statement.{statement}
 use Rattle.leaders.proofs.next_leader.Tie as tie
 

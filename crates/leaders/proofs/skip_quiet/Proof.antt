@@ -2,8 +2,8 @@
 use borrow.Author.Tests.{not-false}
 use Prim.Native.Nat.{_≤_, _-_}
 use borrow.Author.Needs.{needs}
-use Rattle.leaders.proofs.Laws.Quiets.{quiet-none, quiet-join}
 use Rattle.leaders.specs.Workings.Leading.{Quiet}
+use Rattle.leaders.proofs.Laws.Quiets.{quiet-none, quiet-join}
 use Rattle.leaders.proofs.skip_quiet.Statement.{statement}
 use Rattle.leaders.proofs.skip_quiet.Tie as tie
 

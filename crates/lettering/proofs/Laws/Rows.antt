@@ -5,13 +5,13 @@ use Prim.Native.Nat.{ℕ, _+_, _≤_}
 use native.Mathlib.Omega.{arith}
 use lib.ListN.{length, set, length-append, length-set}
 use Rattle.surface.specs.Buffers.{laid}
+use Rattle.surface.specs.Threes.{three}
 use Rattle.surface.proofs.Laws.Laid.{laid-length}
 use Rattle.digits.specs.Numeral.{size, hex, decimal}
 use Rattle.digits.proofs.Laws.Exactly.{length-places, ended-length}
 use Rattle.digits.proofs.Laws.Lay.{lay-two}
 use Rattle.figures.proofs.Laws.Spelling.{lay-pair}
 use Rattle.texts.specs.Text.{feed, count}
-use Rattle.surface.specs.Threes.{three}
 use Rattle.sheet.specs.Sheet.{comma, p=, t=, points, triangles}
 use Rattle.sheet.proofs.Laws.Sizes.{row-ended, triangle-size}
 

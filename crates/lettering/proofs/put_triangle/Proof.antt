@@ -2,8 +2,8 @@
 use native.Mathlib.Omega.{arith}
 use lib.ListN.{length-set}
 use borrow.Author.Needs.{needs}
-use Rattle.sheet.proofs.Laws.Sizes.{triangle-size}
 use Rattle.surface.specs.Threes.{three}
+use Rattle.sheet.proofs.Laws.Sizes.{triangle-size}
 use Rattle.lettering.proofs.Laws.Rows.{pair-length, triangle-laid}
 use Rattle.lettering.proofs.put_triangle.Statement.{statement}
 use Rattle.lettering.proofs.put_triangle.Tie as tie

@@ -17,10 +17,10 @@ use Rattle.bars.proofs.Laws.Joins.{joins-append}
 use Rattle.bars.proofs.Laws.Triples.{firsts-append, firsts-length}
 use Rattle.keys.specs.declared.Key.the-variants.{Of, Not}
 use Rattle.keys.specs.Workings.Keys.{Found, tripleAt}
-use Rattle.linking.specs.Workings.Chaining.{CoverRoom, CoverChained}
 use Rattle.keys.proofs.Laws.Places.{different}
 use Rattle.keys.proofs.Laws.Passed.{Passed, passed-none, passed-room, passed-all, passed-more}
 use Rattle.keys.proofs.Laws.Keyed.{keyless}
+use Rattle.linking.specs.Workings.Chaining.{CoverRoom, CoverChained}
 use Rattle.linking.proofs.Laws.Joined.{Keys, keys-same}
 
 -- ---- keys, one more

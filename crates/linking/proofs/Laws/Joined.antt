@@ -7,8 +7,8 @@ use mathlib.Core.Logic.{inl, inr, ⊎-elim}
 use mathlib.Core.List.{List, [], _∷_, _++_}
 use native.Mathlib.Omega.{arith}
 use lib.ListN.{length, getD}
-use Rattle.covers.specs.Covers.{Cover, Triangle, triangles, cornersOf, vertexOf, patchOf}
 use Rattle.surface.specs.Threes.{threes}
+use Rattle.covers.specs.Covers.{Cover, Triangle, triangles, cornersOf, vertexOf, patchOf}
 use Rattle.covers.specs.Sets.{Alike, named}
 use Rattle.covers.specs.Workings.Reading.{In, Stands, Keyed}
 use Rattle.covers.proofs.Laws.Closed.{Different, covered-key, covered-stands, covered-in, cover-keyed, one-key}

@@ -5,8 +5,8 @@ use mathlib.Core.List.{List, _++_}
 use Prim.Native.Nat.{ℕ, _+_, _-_, _*_, _/_, _%_, _^_, _<_, _≤_}
 use lib.ListN.{length, getD}
 use Rattle.limits.specs.Limits as limits
-use Rattle.covers.specs.Covers.{Cover}
 use Rattle.surface.specs.Threes.{threes}
+use Rattle.covers.specs.Covers.{Cover}
 use Rattle.bars.specs.Bars.{between}
 use Rattle.bars.specs.Workings.Chains.{Tells}
 use Rattle.keys.specs.Workings.Keys.{Ringed, Threes}

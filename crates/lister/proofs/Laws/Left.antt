@@ -6,15 +6,17 @@ use mathlib.Core.List.{List, [], _∷_, map, flatten}
 use Prim.Native.Nat.{ℕ, _<_, _≤_}
 use native.Mathlib.Omega.{arith}
 use lib.ListN.{length, take, getD, length-map, List·getD-map}
-use Rattle.limits.specs.Limits as limits
 use Rattle.answers.specs.Numbers.{refusing}
 use Rattle.answers.specs.declared.Answer.{Answer}
 use Rattle.answers.specs.declared.Answer.the-variants.{Line}
+use Rattle.limits.specs.Limits as limits
 use Rattle.surface.specs.Edges.{Sound, startOf}
 use Rattle.surface.specs.Buffers.{over}
 use Rattle.surface.specs.Refusals.{refusal}
+use Rattle.surface.specs.Threes.{flat}
 use Rattle.surface.proofs.Laws.Sound.{Passed, passed, passed-sound}
 use Rattle.surface.proofs.Laws.Thens.{counts-fit}
+use Rattle.surface.proofs.Laws.Over.{start-of, front-in}
 use Rattle.loops.specs.Loops.{loops, ring}
 use Rattle.loops.proofs.Theorems.{three-or-more, vertices-in-all, vertices-few}
 use Rattle.cutting.specs.Listing.{ringsOf}
@@ -24,10 +26,8 @@ use Rattle.run.specs.Run.{Run, ringList, statesOf, weightsOf, laidBy}
 use Rattle.run.proofs.Laws.Grows.{run-length}
 use Rattle.run.proofs.Laws.Lengths.{states-length, weights-length}
 use Rattle.patching.specs.Outcome.{Buffers, Outcome, refused, done, lent, needs, PatchesIf, Patches}
-use Rattle.surface.proofs.Laws.Over.{start-of, front-in}
-use Rattle.surface.specs.Threes.{flat}
-use Rattle.sheet.specs.Sheet.{points, triangles}
 use Rattle.texts.proofs.Theorems.{Known}
+use Rattle.sheet.specs.Sheet.{points, triangles}
 use Rattle.sheet.proofs.Laws.Texts.{text-or-fault}
 use Rattle.report.specs.Workings.Telling.{Lying}
 use Rattle.lister.specs.Lists.{Lists, loopsOf}

@@ -5,22 +5,22 @@ use mathlib.Core.List.{List, []}
 use Prim.Native.Nat.{ℕ, zero, suc, _<_, _≤_}
 use native.Mathlib.Omega.{arith}
 use lib.ListN.{length, getD}
-use Rattle.limits.specs.Limits as limits
 use Rattle.answers.specs.Numbers.{refusing}
 use Rattle.answers.specs.declared.Answer.{Answer}
 use Rattle.answers.specs.declared.Answer.the-variants.{Line}
+use Rattle.limits.specs.Limits as limits
 use Rattle.surface.specs.Refusals.{refusal, sheetRefusal}
+use Rattle.surface.specs.Threes.{Three, flat}
 use Rattle.surface.proofs.Laws.Thens.{buffers-enough}
 use Rattle.surface.proofs.Laws.Deciding.{buffers-pass}
+use Rattle.surface.proofs.Laws.Threes.{flat-length}
 use Rattle.survey.specs.Grid.{gridOf}
 use Rattle.run.specs.Fates.{Fate}
 use Rattle.run.specs.Run.{Run, ringList}
 use Rattle.patching.specs.Outcome.{Buffers, Outcome, lent, needs, PatchesIf, Patches}
 use Rattle.texts.specs.Text.{TextOf}
 use Rattle.texts.specs.Fault.{Fault}
-use Rattle.surface.specs.Threes.{Three, flat}
 use Rattle.sheet.specs.Sheet.{points, triangles}
-use Rattle.surface.proofs.Laws.Threes.{flat-length}
 use Rattle.sheet.proofs.Laws.Texts.{parse-text, fault-only, text-once}
 use Rattle.report.specs.Lines.{answerLine}
 use Rattle.report.specs.Listing.{listing}

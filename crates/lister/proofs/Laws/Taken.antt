@@ -5,13 +5,13 @@ use Prim.Native.Nat.{ℕ, _*_}
 use native.Mathlib.Omega.{arith}
 use lib.ListN.{take}
 use Rattle.answers.specs.declared.Answer.the-variants.{Line}
+use Rattle.surface.specs.Threes.{Three, flat}
 use Rattle.patching.specs.Outcome.{Buffers, Outcome, refused, Patches}
 use Rattle.texts.specs.Workings.Parse.{Parsed, said, fault}
 use Rattle.texts.specs.Workings.Scanning.{Scanned}
 use Rattle.texts.specs.declared.Scan.{Scan}
 use Rattle.texts.specs.declared.Scan.the-variants.{Wrong}
 use Rattle.texts.proofs.Laws.Scanning.{wrong-parsed, Kept}
-use Rattle.surface.specs.Threes.{Three, flat}
 use Rattle.sheet.specs.Workings.Parse.{parse}
 use Rattle.sheet.proofs.Laws.Texts.{parse-text, fault-only}
 use Rattle.intake.proofs.Laws.Deliver.{words-are, corners-are}

@@ -1,11 +1,11 @@
 -- `list` has room for the longest sheet, and hands on what was taken in.
 use native.Mathlib.Omega.{arith}
 use borrow.Author.Needs.{needs}
-use Rattle.surface.proofs.Laws.Lists.{as-long}
-use Rattle.sheet.proofs.Laws.Rooms.{long-words, long-corners}
-use Rattle.texts.proofs.Laws.Scanning.{kept}
 use Rattle.surface.specs.Threes.{flat}
+use Rattle.surface.proofs.Laws.Lists.{as-long}
+use Rattle.texts.proofs.Laws.Scanning.{kept}
 use Rattle.sheet.specs.Workings.Parse.{parse}
+use Rattle.sheet.proofs.Laws.Rooms.{long-words, long-corners}
 use Rattle.intake.proofs.Laws.Deliver.{few-points, few-triangles}
 use Rattle.lister.proofs.Laws.Taken.{wrong-lists, whole-lists}
 use Rattle.lister.proofs.list.Statement.{statement}

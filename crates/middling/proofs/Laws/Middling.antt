@@ -23,8 +23,8 @@ use Rattle.tracing.specs.Workings.Patches.{LaysIf, LaysPatch}
 use Rattle.laying.specs.Workings.Patches as laying
 use Rattle.run.specs.Fates.{patched, long, uncovered}
 use Rattle.run.proofs.Laws.Three.{sides-free}
-use Rattle.plain.specs.declared.Became.{Became}
 use Rattle.rounds.proofs.Laws.Bench.{bench-kept}
+use Rattle.plain.specs.declared.Became.{Became}
 use Rattle.middling.specs.Workings.Turns.{TurnRoom, Takes}
 
 -- ---- what is laid stands in its place

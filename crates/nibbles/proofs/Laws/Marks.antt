@@ -13,8 +13,8 @@ use borrow.Author.Tests.{lt-ltb, le-ltb, eq-eqb, ne-eqb}
 use Rattle.surface.proofs.Laws.Tests.{eq-or-not}
 use Rattle.digits.specs.Numeral.{byteOf}
 use Rattle.digits.specs.Workings.Reading.{wrong, got, valueOf, digits, ending, readHex}
-use Rattle.nibbles.specs.Workings.Tables.{weighs, Marked, half}
 use Rattle.digits.proofs.Laws.Digit.{lt-or-ge, value-byte, byte-value, byte-small}
+use Rattle.nibbles.specs.Workings.Tables.{weighs, Marked, half}
 
 pub weigh-digit : (n t x : ℕ) → valueOf x < n → weighs n t x ≡ t * valueOf x
 unfolding weighs

@@ -4,9 +4,9 @@ use lib.ListN.{length-set}
 use Prim.Native.Nat.{_≤_, _-_}
 use borrow.Author.Needs.{needs}
 use native.Mathlib.Omega.{arith}
+use Rattle.digits.proofs.Laws.Digit.{byte-small}
 use Rattle.nibbles.specs.Workings.Tables.{Marked}
 use Rattle.nibbles.proofs.Laws.Marks.{mark-more, mark-end}
-use Rattle.digits.proofs.Laws.Digit.{byte-small}
 use Rattle.nibbles.proofs.mark_digits.Statement.{statement}
 use Rattle.nibbles.proofs.mark_digits.Tie as tie
 

@@ -13,8 +13,8 @@ use Rattle.surface.specs.Edges.{following, startOf, twice}
 use Rattle.surface.proofs.Laws.Smallest.{At-not-Nothing, least-at, least-never, least-sound, least-first}
 use Rattle.surface.proofs.Laws.Edges.{following-below}
 use Rattle.twins.specs.Workings.Turns.{stops, Room}
-use Rattle.pairing.specs.Workings.Outcome.{Paired}
 use Rattle.twins.specs.Workings.Chains.{TurnsBelow, Going, PairRoom, PairDone}
+use Rattle.pairing.specs.Workings.Outcome.{Paired}
 use Rattle.pairing.specs.Workings.Triangles.{fewCorners, fewBuckets, PlainTo, AfterRoom}
 use Rattle.pairing.proofs.Laws.Triangles.{repeats-stops, twice-stops}
 use Rattle.pairing.proofs.Laws.Rounds.{round-begins, turns-all}

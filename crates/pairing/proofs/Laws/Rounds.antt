@@ -11,11 +11,11 @@ use Rattle.surface.specs.Smallest.{least}
 use Rattle.surface.specs.Edges.{twin}
 use Rattle.surface.proofs.Laws.Smallest.{At-not-Nothing, least-none}
 use Rattle.twins.specs.Workings.Turns.{stops, Room, Turns}
-use Rattle.pairing.specs.Workings.Outcome.{Paired}
 use Rattle.twins.specs.Workings.Chains.{TurnsBelow, Going}
-use Rattle.pairing.specs.Workings.Triangles.{TriangleRoom, TriangleDone}
 use Rattle.twins.proofs.Laws.Searches.{least-keeps}
 use Rattle.twins.proofs.Laws.Chaining.{chained-begins}
+use Rattle.pairing.specs.Workings.Outcome.{Paired}
+use Rattle.pairing.specs.Workings.Triangles.{TriangleRoom, TriangleDone}
 
 -- the triangle whose first half-edge is i is next, if there is one
 pub record Round (size : ℕ) (corners : List ℕ) (i : ℕ) (heads links ends table : List ℕ) : Type 0 where

@@ -4,8 +4,8 @@ use lib.ListN.{length}
 use mathlib.Core.Path.{_≡_, refl, sym, _∙_}
 use Prim.Native.Nat.{_-_}
 use native.Mathlib.Omega.{arith}
-use Rattle.pairing.proofs.Laws.Few.{Side, side-begins, side-twice, side-ends, side-inside, side-after, side-there, side-room, side-stops, side-next, side-same}
 use Rattle.pairing.specs.Workings.Triangles.{fewCorners}
+use Rattle.pairing.proofs.Laws.Few.{Side, side-begins, side-twice, side-ends, side-inside, side-after, side-there, side-room, side-stops, side-next, side-same}
 use Rattle.pairing.proofs.pair_few.Statement.{statement}
 use Rattle.pairing.proofs.pair_few.Tie as tie
 

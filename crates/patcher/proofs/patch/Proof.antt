@@ -1,8 +1,8 @@
 -- `patch` refuses by the counts, or hands on what they let pass.
 use mathlib.Core.Path.{sym, _∙_}
 use Rattle.surface.proofs.Laws.Deciding.{counts-pass}
-use Rattle.patching.proofs.Laws.Patching.{counts-refuse}
 use Rattle.patching.specs.Outcome.{buffers}
+use Rattle.patching.proofs.Laws.Patching.{counts-refuse}
 use Rattle.patcher.proofs.patch.Statement.{statement}
 use Rattle.patcher.proofs.patch.Tie as tie
 

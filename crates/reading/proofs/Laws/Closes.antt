@@ -7,20 +7,20 @@ use mathlib.Core.List.{List, [], _∷_, _++_}
 use native.Mathlib.Omega.{arith}
 use lib.ListN.{length, getD}
 use borrow.Author.Tests.{not-true, not-false}
+use Rattle.surface.specs.Threes.{threes}
 use Rattle.surface.proofs.Laws.Tests.{both-true}
 use Rattle.covers.specs.Covers.{Triangle, on, vertexOf}
-use Rattle.surface.specs.Threes.{threes}
 use Rattle.covers.specs.Workings.Reading.{In, Parted}
 use Rattle.covers.proofs.Laws.Listed.{in-cases}
 use Rattle.covers.proofs.Laws.Closed.{covered-parts}
 use Rattle.masks.specs.Workings.Masks.{bit}
 use Rattle.keys.specs.declared.Key.the-variants.{Of, Not}
 use Rattle.keys.specs.Workings.Keys.{Ringed, Threes, Found, tripleAt}
-use Rattle.reading.specs.Workings.Rows.{Held, Closes}
-use Rattle.reading.proofs.Laws.Tests.{and-both}
 use Rattle.keys.proofs.Laws.Places.{different}
 use Rattle.keys.proofs.Laws.Passed.{Passed, passed-none, passed-room, passed-all, passed-in, passed-more}
 use Rattle.keys.proofs.Laws.Keyed.{keyless}
+use Rattle.reading.specs.Workings.Rows.{Held, Closes}
+use Rattle.reading.proofs.Laws.Tests.{and-both}
 
 -- the triangles before q have both their parts
 pub record Closing (corners marks : List ℕ) (base : ℕ) (rows : List ℕ) (q : ℕ) : Type 0 where

@@ -10,11 +10,11 @@ use Rattle.covers.specs.Covers.{Triangle, vertexOf}
 use Rattle.masks.specs.Workings.Masks.{bit}
 use Rattle.keys.specs.declared.Key.the-variants.{Of, Not}
 use Rattle.keys.specs.Workings.Keys.{Ringed, Threes, Found, tripleAt}
-use Rattle.reading.specs.Workings.Rows.{Held, Collects}
 use Rattle.keys.proofs.Laws.Places.{different}
 use Rattle.keys.proofs.Laws.Keyed.{keyless}
-use Rattle.reading.proofs.Laws.Rows.{held-more}
 use Rattle.keys.proofs.Laws.Passed.{Passed, passed-none, passed-room, passed-all, passed-more}
+use Rattle.reading.specs.Workings.Rows.{Held, Collects}
+use Rattle.reading.proofs.Laws.Rows.{held-more}
 
 -- the stretches of the triangles before q were added to the rows
 pub record Collecting (corners marks : List ℕ) (base : ℕ) (rows₀ : List ℕ) (q : ℕ) (rows : List ℕ) : Type 0 where

@@ -15,9 +15,9 @@ use mir.Val.{Fits}
 use borrow.Author.Tests.{ltb-true, ltb-false}
 use Rattle.limits.specs.Limits as limits
 use Rattle.surface.proofs.Laws.Tests.{not-so, both-true}
-use Rattle.bars.proofs.Laws.Tests.{either-true, or-left, or-right}
 use Rattle.masks.specs.Workings.Masks.{bit}
 use Rattle.masks.proofs.Laws.Masks.{or-bit, and-bit, bit-zero, zero-bits}
+use Rattle.bars.proofs.Laws.Tests.{either-true, or-left, or-right}
 use Rattle.reading.specs.Workings.Rows.{Clashes}
 use Rattle.reading.proofs.Laws.Tests.{and-both}
 

@@ -8,21 +8,21 @@ use native.Mathlib.Omega.{arith}
 use lib.ListN.{length, getD}
 use borrow.Author.Tests.{not-true, not-false}
 use Rattle.limits.specs.Limits as limits
+use Rattle.surface.specs.Threes.{threes}
 use Rattle.covers.specs.Covers as covers
 use Rattle.covers.specs.Covers.{Cover, Triangle, Uses, vertexOf}
-use Rattle.surface.specs.Threes.{threes}
 use Rattle.covers.specs.Workings.Reading.{Laid}
 use Rattle.covers.proofs.Laws.Chords.{uses-in}
 use Rattle.covers.proofs.Laws.Closed.{Different, covered-once, covered-whole, used-laid, laid-used, closed-covered}
 use Rattle.masks.specs.Workings.Masks.{bit, Rows}
-use Rattle.reading.specs.declared.Reading.{Reading}
-use Rattle.reading.specs.declared.Reading.the-variants.{NoCover, Barred, Allowed}
 use Rattle.keys.specs.Workings.Covering.{Covering}
-use Rattle.reading.specs.Workings.Reading.{ReadsCover}
 use Rattle.keys.specs.Workings.Keys.{Threes}
-use Rattle.reading.specs.Workings.Rows.{Readable, SidesFree, Held, Collects, Closes, Clashes}
 use Rattle.keys.proofs.Laws.Places.{different}
 use Rattle.keys.proofs.Laws.Passed.{triples-length}
+use Rattle.reading.specs.declared.Reading.{Reading}
+use Rattle.reading.specs.declared.Reading.the-variants.{NoCover, Barred, Allowed}
+use Rattle.reading.specs.Workings.Reading.{ReadsCover}
+use Rattle.reading.specs.Workings.Rows.{Readable, SidesFree, Held, Collects, Closes, Clashes}
 
 -- ---- one reading
 

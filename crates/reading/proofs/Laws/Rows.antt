@@ -17,9 +17,9 @@ use Rattle.covers.specs.Workings.Reading.{Stands, Keyed, Laid, side, laid}
 use Rattle.covers.proofs.Laws.Sets.{corners-of}
 use Rattle.covers.proofs.Laws.Listed.{in-left, in-right, in-cases}
 use Rattle.covers.proofs.Laws.Closed.{Different, one-key}
-use Rattle.bars.proofs.Laws.Tests.{either-true, or-left, or-right}
 use Rattle.masks.specs.Workings.Masks.{bit}
 use Rattle.masks.proofs.Laws.Masks.{bit-zero}
+use Rattle.bars.proofs.Laws.Tests.{either-true, or-left, or-right}
 use Rattle.reading.specs.Workings.Rows.{Held}
 
 -- ---- sides

@@ -6,8 +6,8 @@ use mathlib.Core.Bool.{Bool, true, false}
 use mathlib.Core.List.{List, []}
 use lib.ListN.{length, getD}
 use Rattle.limits.specs.Limits as limits
-use Rattle.covers.specs.Covers.{Cover, Triangle, vertexOf}
 use Rattle.surface.specs.Threes.{threes}
+use Rattle.covers.specs.Covers.{Cover, Triangle, vertexOf}
 use Rattle.covers.specs.Workings.Reading.{In, Laid, Parted}
 use Rattle.masks.specs.Workings.Masks.{bit}
 use Rattle.keys.specs.Workings.Keys.{Ringed}

@@ -15,9 +15,9 @@ use Rattle.surface.proofs.Laws.Laid.{laid-none}
 use Rattle.digits.specs.Numeral.{byteOf, size, sizeIn, places, decimal}
 use Rattle.digits.proofs.Laws.Digit.{lt-or-ge, byte-ten, size-one}
 use Rattle.digits.proofs.Laws.Sizes.{size-below}
-use Rattle.figures.proofs.Laws.Parts.{part-div, part-mod}
 use Rattle.digits.proofs.Laws.Exactly.{length-places}
 use Rattle.digits.proofs.Laws.Lay.{lay-byte}
+use Rattle.figures.proofs.Laws.Parts.{part-div, part-mod}
 
 -- more steps than are needed change nothing
 sizeIn-same : (f g n : ℕ) → n ≤ f → n ≤ g → sizeIn f n ≡ sizeIn g n

@@ -8,10 +8,10 @@ use lib.Seq.{drop-cons}
 use Rattle.surface.specs.Buffers.{laid}
 use Rattle.digits.specs.Numeral.{size, decimal}
 use Rattle.digits.proofs.Laws.Exactly.{ended-length}
+use Rattle.digits.proofs.Laws.Laying.{Laying, laying-begins, laying-room, laying-more}
 use Rattle.texts.specs.Text.{feed}
 use Rattle.sheet.specs.Sheet.{comma}
 use Rattle.report.specs.Lines.{joined, line}
-use Rattle.digits.proofs.Laws.Laying.{Laying, laying-begins, laying-room, laying-more}
 
 -- the number that comes first, with the byte that ends it
 pub joined-next : (a b : ℕ) (l : List ℕ) → joined (a ∷ b ∷ l) ≡ (decimal a ++ (comma ∷ [])) ++ joined (b ∷ l)

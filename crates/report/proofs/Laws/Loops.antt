@@ -4,10 +4,10 @@ use mathlib.Core.List.{List, [], _∷_, _++_}
 use Prim.Native.Nat.{ℕ, _+_, _≤_}
 use lib.ListN.{length}
 use Rattle.surface.specs.Buffers.{laid}
+use Rattle.digits.proofs.Laws.Laying.{Laying, laying-begins, laying-room, laying-more, laying-last, laying-left, laying-ends}
 use Rattle.report.specs.Lines.{line, loop=, ring=}
 use Rattle.report.specs.Listing.{loopLines, patchLines}
 use Rattle.report.specs.Workings.Telling.{shown}
-use Rattle.digits.proofs.Laws.Laying.{Laying, laying-begins, laying-room, laying-more, laying-last, laying-left, laying-ends}
 
 module _ (ring : List ℕ) (state weight : ℕ) (patch out : List ℕ) (at : ℕ) (room : at + length (loopLines (shown ring state weight patch)) ≤ length out) where
   begins : Laying (loopLines (shown ring state weight patch)) at out (line loop= (length ring ∷ state ∷ weight ∷ []) ++ (line ring= ring ++ patchLines patch)) at out

@@ -3,9 +3,9 @@ use Prim.Native.Nat.{_≤_, _+_, _-_, _*_, _/_}
 use native.Mathlib.Omega.{arith}
 use lib.ListN.{length, drop}
 use borrow.Author.Needs.{needs}
+use Rattle.digits.proofs.Laws.Laying.{Laying, laying-begins}
 use Rattle.report.specs.Listing.{patchLines}
 use Rattle.report.proofs.Laws.Patches.{patch-room, patch-put, patch-over}
-use Rattle.digits.proofs.Laws.Laying.{Laying, laying-begins}
 use Rattle.report.proofs.put_patch.Statement.{statement}
 use Rattle.report.proofs.put_patch.Tie as tie
 

@@ -11,8 +11,8 @@ use lib.ListN.{length, getD}
 use mir.Syntax.{w64}
 use mir.Val.{Fits}
 use Rattle.limits.specs.Limits as limits
-use Rattle.covers.specs.Covers.{Cover, empty, apex, Triangle, triangles, weight, vertexOf}
 use Rattle.surface.specs.Threes.{threes}
+use Rattle.covers.specs.Covers.{Cover, empty, apex, Triangle, triangles, weight, vertexOf}
 use Rattle.covers.specs.Sets.{Alike, ListsTriangles, named}
 use Rattle.covers.proofs.Laws.Sets.{corners-of}
 use Rattle.covers.proofs.Laws.Listed.{listed-of}
@@ -22,9 +22,9 @@ use Rattle.weight.specs.Edition.{naturals, triOf, along}
 use Rattle.weight.proofs.Laws.Bounds.{heaviest, weight-most, weight-turned}
 use Rattle.weight.proofs.Laws.Named.{named-on-grid}
 use Rattle.keys.specs.Workings.Covering.{Covering}
-use Rattle.scales.specs.Workings.Weighing.{namedWeight, setWeight, AllNamed}
 use Rattle.keys.specs.Workings.Keys.{Threes, tripleAt}
 use Rattle.keys.proofs.Laws.Passed.{Passed, passed-none, passed-room, passed-all, passed-more, every-corner}
+use Rattle.scales.specs.Workings.Weighing.{namedWeight, setWeight, AllNamed}
 
 module _ (grid : List ℤ) where
   pub weight-append : (s t : List Triangle) → setWeight grid (s ++ t) ≡ setWeight grid s + setWeight grid t

@@ -3,11 +3,11 @@ use Prim.Native.Nat.{ℕ, _-_, _+_, _*_}
 use native.Mathlib.Omega.{arith}
 use lib.ListN.{drop, getD, length-replicate}
 use borrow.Author.Needs.{needs}
-use Rattle.figures.proofs.Laws.Spelling.{spell-none}
-use Rattle.sheet.proofs.Laws.Exactly.{point-length}
 use Rattle.surface.specs.Threes.{three}
-use Rattle.sheet.specs.Sheet.{points}
 use Rattle.digits.proofs.Laws.Laying.{Laying, laying-begins}
+use Rattle.figures.proofs.Laws.Spelling.{spell-none}
+use Rattle.sheet.specs.Sheet.{points}
+use Rattle.sheet.proofs.Laws.Exactly.{point-length}
 use Rattle.sheet.proofs.Laws.Putting.{linesOf, putting-room, putting-more, putting-ends}
 use Rattle.scribe.proofs.put_points.Statement.{statement}
 use Rattle.scribe.proofs.put_points.Tie as tie

@@ -3,10 +3,10 @@ use Prim.Native.Nat.{_-_, _+_, _*_}
 use native.Mathlib.Omega.{arith}
 use lib.ListN.{drop}
 use borrow.Author.Needs.{needs}
-use Rattle.sheet.specs.Sheet.{triangles}
-use Rattle.scribe.proofs.Laws.Fours.{served}
 use Rattle.digits.proofs.Laws.Laying.{Laying, laying-begins}
+use Rattle.sheet.specs.Sheet.{triangles}
 use Rattle.sheet.proofs.Laws.Putting.{linesOf, putting-room, putting-more, putting-ends}
+use Rattle.scribe.proofs.Laws.Fours.{served}
 use Rattle.scribe.proofs.put_triangles.Statement.{statement}
 use Rattle.scribe.proofs.put_triangles.Tie as tie
 

@@ -5,21 +5,21 @@ use mathlib.Core.List.{List, [], _∷_}
 use Prim.Native.Nat.{ℕ, _+_, _*_, _≤_}
 use native.Mathlib.Omega.{arith}
 use lib.ListN.{length, take}
-use Rattle.limits.specs.Limits as limits
 use Rattle.answers.specs.Numbers.{refusing}
 use Rattle.answers.specs.declared.Answer.{Answer}
 use Rattle.answers.specs.declared.Answer.the-variants.{Done, Line}
+use Rattle.limits.specs.Limits as limits
 use Rattle.surface.specs.Buffers.{over}
 use Rattle.surface.specs.Refusals.{bufferRefusal}
+use Rattle.surface.specs.Threes.{Three, flat}
 use Rattle.surface.proofs.Laws.Over.{start-of, front-in}
+use Rattle.surface.proofs.Laws.Threes.{front-of, front-within}
 use Rattle.texts.specs.Workings.Parse.{Parsed, said, fault}
 use Rattle.texts.specs.Workings.Scanning.{Scanned}
 use Rattle.texts.specs.declared.Scan.{Scan}
 use Rattle.texts.specs.declared.Scan.the-variants.{Wrong}
 use Rattle.texts.proofs.Laws.Scanning.{wrong-parsed, Kept}
-use Rattle.surface.specs.Threes.{Three, flat}
 use Rattle.sheet.specs.Workings.Parse.{Room}
-use Rattle.surface.proofs.Laws.Threes.{front-of, front-within}
 use Rattle.sets.specs.Outcome.{SetOutcome, setOutcome, notRead, deliver, ReadsSet}
 use Rattle.sets.specs.Workings.Scanning.{parse, numbers}
 use Rattle.sets.specs.declared.ReadSet.{ReadSet}

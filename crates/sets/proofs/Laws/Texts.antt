@@ -4,12 +4,12 @@ use mathlib.Core.List.{List}
 use Prim.Native.Nat.{ℕ, _+_, _≤_}
 use native.Mathlib.Omega.{arith}
 use Rattle.limits.specs.Limits as limits
+use Rattle.surface.specs.Threes.{Three, three}
 use Rattle.texts.specs.Text.{TextOf}
 use Rattle.texts.specs.Fault.{Fault}
 use Rattle.texts.specs.Workings.Parse.{said, fault}
 use Rattle.texts.proofs.Theorems as theorems
 use Rattle.texts.proofs.Laws.Taking.{fault-near}
-use Rattle.surface.specs.Threes.{Three, three}
 use Rattle.sheet.specs.Workings.Parse.{readTriangle}
 use Rattle.sheet.proofs.Laws.Exactly.{triangle-exact}
 use Rattle.sets.specs.Set.{states, triangles}

@@ -9,9 +9,9 @@ use lib.ListN.{length}
 use Rattle.answers.specs.Numbers.{refusing}
 use Rattle.surface.specs.Buffers.{over}
 use Rattle.surface.specs.Refusals.{bufferRefusal}
+use Rattle.surface.specs.Threes.{flat}
 use Rattle.surface.proofs.Laws.Over.{front-in}
 use Rattle.texts.proofs.Theorems.{Known}
-use Rattle.surface.specs.Threes.{flat}
 use Rattle.sets.specs.Set as text
 use Rattle.sets.specs.Outcome.{SetOutcome, deliver, ReadsSet}
 use Rattle.sets.proofs.Laws.Texts.{text-or-fault}

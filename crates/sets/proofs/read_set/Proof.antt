@@ -1,7 +1,7 @@
 -- `read_set` has scratch for the longest text, so the lent buffers change only once the whole text is read.
+use Rattle.surface.specs.Threes.{flat}
 use Rattle.surface.proofs.Laws.Lists.{as-long}
 use Rattle.texts.proofs.Laws.Scanning.{kept}
-use Rattle.surface.specs.Threes.{flat}
 use Rattle.sets.specs.Workings.Scanning.{parse, numbers}
 use Rattle.sets.proofs.Laws.Deliver.{scratch-room, wrong-line, fault-promised, few-triangles, states-in, corners-in, delivered}
 use native.Mathlib.Omega.{arith}

@@ -1,8 +1,8 @@
 -- `read_states` keeps what is left to read, laid over the present buffer, the same.
-use Rattle.sets.proofs.Laws.Exactly.{state-takes, state-small}
-use Rattle.sets.specs.Workings.Scanning.{readState}
 use Rattle.sheet.proofs.Laws.Told.{number-is, number-not, number-by}
 use Rattle.sheet.proofs.Laws.Going.{Going, by-ones, going-begins, going-more, going-stuck, going-ends}
+use Rattle.sets.specs.Workings.Scanning.{readState}
+use Rattle.sets.proofs.Laws.Exactly.{state-takes, state-small}
 use lib.ListN.{length, drop}
 use Prim.Native.Nat.{_≤_, _-_}
 use borrow.Author.Needs.{needs}

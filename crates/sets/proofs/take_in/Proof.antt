@@ -1,14 +1,14 @@
 -- `take_in` goes line kind by line kind, as the reading of a text does.
+use Rattle.limits.specs.Limits as limits
+use Rattle.surface.specs.Threes.{flat}
 use Rattle.texts.proofs.Laws.Scanning.{no-first, wrong-first, no-second, wrong-second, text-left, all-read}
-use Rattle.sets.specs.Set.{states, triangles}
-use Rattle.sets.specs.Workings.Scanning.{readState, numbers}
+use Rattle.texts.proofs.Laws.Taking.{stops-less}
+use Rattle.sheet.specs.Workings.Parse.{readTriangle}
 use Rattle.sheet.proofs.Laws.Told.{number-is, number-not, number-by, pass-stuck, pass-through}
 use Rattle.sheet.proofs.Laws.Rooms.{room-less}
 use Rattle.sheet.proofs.Laws.Exactly.{count-few}
-use Rattle.surface.specs.Threes.{flat}
-use Rattle.sheet.specs.Workings.Parse.{readTriangle}
-use Rattle.texts.proofs.Laws.Taking.{stops-less}
-use Rattle.limits.specs.Limits as limits
+use Rattle.sets.specs.Set.{states, triangles}
+use Rattle.sets.specs.Workings.Scanning.{readState, numbers}
 use native.Mathlib.Omega.{arith}
 use borrow.Author.Needs.{needs}
 use Rattle.sets.proofs.take_in.Statement.{statement}

@@ -1,10 +1,10 @@
 -- Reading the text of a patch set line by line. It serves the code that reads: no promise needs it.
 use mathlib.Core.List.{List}
 use Prim.Native.Nat.{ℕ}
+use Rattle.surface.specs.Threes.{Three}
 use Rattle.digits.specs.Workings.Reading.{Read}
 use Rattle.texts.specs.Workings.Parse.{readCount, Parsed}
 use Rattle.texts.specs.Workings.Parse as texts
-use Rattle.surface.specs.Threes.{Three}
 use Rattle.sheet.specs.Workings.Parse.{readTriangle}
 use Rattle.sets.specs.Set.{s=, states, triangles}
 

@@ -7,6 +7,7 @@ use native.Mathlib.Omega.{arith}
 use lib.Dec.{ltb}
 use lib.ListN.{length, length-append}
 use Rattle.limits.specs.Limits as limits
+use Rattle.surface.specs.Threes.{Three, three}
 use Rattle.digits.specs.Numeral.{size, sizeIn, hex, decimal}
 use Rattle.digits.specs.Workings.Reading.{Read, got, Exact, readKey, readHex, readDecimal, valueOf}
 use Rattle.digits.proofs.Laws.Exactly.{key-exact, hex-exact, decimal-exact, length-places}
@@ -14,7 +15,6 @@ use Rattle.digits.proofs.Laws.Digit.{value-low}
 use Rattle.texts.specs.Text.{feed}
 use Rattle.texts.specs.Workings.Parse.{readCount}
 use Rattle.texts.proofs.Laws.Counts.{after-got, count-exact}
-use Rattle.surface.specs.Threes.{Three, three}
 use Rattle.sheet.specs.Sheet.{comma, p=, t=, Every, row, points, triangles}
 use Rattle.sheet.specs.Workings.Parse.{readRow, readPoint, readTriangle}
 

@@ -6,11 +6,11 @@ use native.Mathlib.Omega.{arith}
 use native.Mathlib.Nat.{add-assoc, zero-add}
 use lib.ListN.{length, drop, set, length-set, length-drop}
 use Rattle.surface.specs.Buffers.{over, laid}
+use Rattle.surface.specs.Threes.{Three, flat}
 use Rattle.surface.proofs.Laws.Laid.{laid-none}
 use Rattle.digits.specs.Workings.Reading.{Read, wrong, got}
 use Rattle.digits.proofs.Laws.Lay.{laid-cons}
 use Rattle.texts.specs.Workings.Parse.{Rows, stuck, all, more, rows, Outline, stops, leaves, outline, values}
-use Rattle.surface.specs.Threes.{Three, flat}
 use Rattle.sheet.specs.Workings.Parse.{Room}
 
 -- a buffer's start is its place 0

@@ -7,8 +7,8 @@ use native.Mathlib.Omega.{arith}
 use lib.ListN.{length, drop, getD, length-drop}
 use lib.Seq.{drop-cons}
 use borrow.Author.Tests.{eq-eqb, ne-eqb}
-use Rattle.digits.specs.Workings.Reading.{Read, wrong, got, readKey}
 use Rattle.surface.specs.Threes.{Three}
+use Rattle.digits.specs.Workings.Reading.{Read, wrong, got, readKey}
 use Rattle.sheet.specs.Workings.Parse.{readPoint}
 use Rattle.sheet.proofs.Laws.Exactly.{point-takes}
 

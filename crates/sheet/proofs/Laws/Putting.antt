@@ -6,8 +6,8 @@ use native.Mathlib.Omega.{arith}
 use lib.ListN.{length, drop, getD, length-drop}
 use lib.Seq.{drop-cons}
 use Rattle.surface.specs.Buffers.{laid}
-use Rattle.digits.proofs.Laws.Laying.{Laying, laying-room, laying-more, laying-ends}
 use Rattle.surface.specs.Threes.{Three, three, threes}
+use Rattle.digits.proofs.Laws.Laying.{Laying, laying-room, laying-more, laying-ends}
 
 -- the next three of a list, or none where fewer are left
 drop-three : (l : List ℕ) (k : ℕ) → k + 3 ≤ length l → drop k l ≡ getD l k 0 ∷ getD l (k + 1) 0 ∷ getD l (k + 2) 0 ∷ drop (k + 3) l

@@ -4,10 +4,10 @@ use mathlib.Core.Bool.{false}
 use mathlib.Core.List.{[], _∷_}
 use Prim.Native.Nat.{ℕ, _*_, _≤_}
 use native.Mathlib.Omega.{arith}
-use Rattle.limits.specs.Limits as limits
 use Rattle.answers.specs.Numbers.{refusing}
 use Rattle.answers.specs.declared.Answer.{Answer}
 use Rattle.answers.specs.declared.Answer.the-variants.{Done}
+use Rattle.limits.specs.Limits as limits
 use Rattle.surface.specs.Refusals.{bufferRefusal}
 use Rattle.surface.proofs.Laws.Thens.{buffer-plain, done-of, buffers-long}
 use Rattle.sheet.specs.Workings.Parse.{Room}

@@ -4,16 +4,16 @@ use mathlib.Core.List.{List, [], _∷_, _++_, map, flatten, append-assoc, append
 use Prim.Native.Nat.{ℕ, zero, suc, _+_, _*_, _<_, _≤_}
 use native.Mathlib.Omega.{arith}
 use lib.ListN.{length, getD, length-append}
+use Rattle.surface.specs.Threes.{Three, three, threes}
+use Rattle.surface.proofs.Laws.Threes.{threes-length}
 use Rattle.digits.specs.Numeral.{size, decimal}
 use Rattle.digits.proofs.Laws.Exactly.{length-places, ended-length}
 use Rattle.digits.proofs.Laws.Sizes.{size-most}
 use Rattle.texts.specs.Text.{feed, count}
 use Rattle.texts.specs.Text as texts
 use Rattle.texts.proofs.Laws.Lines.{text-flat}
-use Rattle.surface.specs.Threes.{Three, three, threes}
 use Rattle.sheet.specs.Sheet.{comma, t=, points=, triangles=, row, points, triangles, text}
 use Rattle.sheet.proofs.Laws.Exactly.{point-length}
-use Rattle.surface.proofs.Laws.Threes.{threes-length}
 
 -- ---- lines
 

@@ -3,11 +3,11 @@ use mathlib.Core.Path.{_≡_}
 use mathlib.Core.List.{List}
 use Prim.Native.Nat.{ℕ}
 use native.Mathlib.Omega.{arith}
+use Rattle.surface.specs.Threes.{Three, three}
 use Rattle.texts.specs.Text.{TextOf}
 use Rattle.texts.specs.Fault.{Fault}
 use Rattle.texts.specs.Workings.Parse.{said, fault}
 use Rattle.texts.proofs.Theorems as theorems
-use Rattle.surface.specs.Threes.{Three, three}
 use Rattle.sheet.specs.Sheet.{points, triangles}
 use Rattle.sheet.specs.Workings.Parse.{readPoint, readTriangle, parse}
 use Rattle.sheet.proofs.Laws.Exactly.{point-exact, triangle-exact}

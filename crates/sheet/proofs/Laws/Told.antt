@@ -3,6 +3,7 @@ use mathlib.Core.Path.{_≡_, sym, ap, _∙_, subst}
 use mathlib.Core.List.{List}
 use Prim.Native.Nat.{ℕ, _≤_}
 use lib.ListN.{drop}
+use Rattle.surface.specs.Threes.{Three, three}
 use Rattle.digits.specs.Workings.Reading.{Read, wrong, got, readKey, readDecimal, seen, met, UpTo}
 use Rattle.digits.specs.declared.Number.{Number}
 use Rattle.digits.specs.declared.Number.the-variants.{Is, Wrong}
@@ -10,7 +11,6 @@ use Rattle.digits.specs.declared.Place.{Place}
 use Rattle.digits.specs.declared.Place.the-variants.{Past, Not}
 use Rattle.texts.specs.Text.{feed}
 use Rattle.texts.specs.Workings.Parse.{readCount, Outline, stops, leaves}
-use Rattle.surface.specs.Threes.{Three, three}
 use Rattle.sheet.specs.Workings.Parse.{readRow, seenRow, RowBy, PassBy, passed}
 use Rattle.sheet.specs.declared.Pass.{Pass}
 use Rattle.sheet.specs.declared.Pass.the-variants.{Through, Stuck}

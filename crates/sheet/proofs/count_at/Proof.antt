@@ -1,11 +1,11 @@
 use Rattle.sheet.proofs.Laws.Told.{past-is, past-not, count-not, count-is}
 use borrow.Author.Needs.{needs}
+use Rattle.digits.proofs.key_at.Reads as key-at-reads
+use Rattle.decimals.proofs.decimal_at.Reads as decimal-at-reads
 use Rattle.sheet.proofs.count_at.Statement.{statement}
 use Rattle.sheet.proofs.count_at.Tie as tie
 use Rattle.sheet.proofs.count_at.Reads as reads
 use Rattle.sheet.proofs.count_at.Lts as lts
-use Rattle.decimals.proofs.decimal_at.Reads as decimal-at-reads
-use Rattle.digits.proofs.key_at.Reads as key-at-reads
 
 -- src/lib.rt:58:26
 key-at-requires : tie.Need-key-at-requires

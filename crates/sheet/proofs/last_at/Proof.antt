@@ -1,16 +1,16 @@
-use Rattle.sheet.proofs.Laws.Told.{past-is, past-not, number-is, number-not, number-by, row-key, row-first, row-second, row-third, row-whole}
-use Rattle.sheet.specs.Sheet.{t=, comma}
 use Rattle.texts.specs.Text.{feed}
+use Rattle.sheet.specs.Sheet.{t=, comma}
+use Rattle.sheet.proofs.Laws.Told.{past-is, past-not, number-is, number-not, number-by, row-key, row-first, row-second, row-third, row-whole}
 use Prim.Native.Nat.{_-_}
 use Rattle.limits.specs.Limits as limits
 use Rattle.digits.specs.Workings.Reading.{readDecimal}
 use borrow.Author.Needs.{needs}
+use Rattle.digits.proofs.key_at.Reads as key-at-reads
+use Rattle.decimals.proofs.decimal_at.Reads as decimal-at-reads
 use Rattle.sheet.proofs.last_at.Statement.{statement}
 use Rattle.sheet.proofs.last_at.Tie as tie
 use Rattle.sheet.proofs.last_at.Reads as reads
 use Rattle.sheet.proofs.last_at.Lts as lts
-use Rattle.decimals.proofs.decimal_at.Reads as decimal-at-reads
-use Rattle.digits.proofs.key_at.Reads as key-at-reads
 
 -- src/lib.rt:121:17
 sub-most : tie.Need-sub-most

@@ -1,15 +1,15 @@
-use Rattle.sheet.specs.Sheet.{p=, comma}
 use Rattle.digits.specs.Workings.Reading.{readHex}
 use Rattle.texts.specs.Text.{feed}
+use Rattle.sheet.specs.Sheet.{p=, comma}
 use Rattle.sheet.proofs.Laws.Told.{number-is, number-not, number-by, row-key, row-first, row-second, row-third, row-whole}
 use Rattle.sheet.proofs.Laws.Keys.{key-first-bad, key-second-bad, key-whole, point-short}
 use native.Mathlib.Omega.{arith}
 use borrow.Author.Needs.{needs}
+use Rattle.nibbles.proofs.hex_at.Reads as hex-at-reads
 use Rattle.sheet.proofs.point_at.Statement.{statement}
 use Rattle.sheet.proofs.point_at.Tie as tie
 use Rattle.sheet.proofs.point_at.Reads as reads
 use Rattle.sheet.proofs.point_at.Lts as lts
-use Rattle.nibbles.proofs.hex_at.Reads as hex-at-reads
 
 -- src/lib.rt:69:21
 add-if1 : tie.Need-add-if1

@@ -7,11 +7,11 @@ use Rattle.sheet.proofs.Laws.Told.{row-is, row-not, row-by}
 use Rattle.sheet.proofs.Laws.Going.{Going, by-threes, going-begins, next-room, next-going, going-stuck, going-ends}
 use borrow.Author.Needs.{needs}
 use native.Mathlib.Omega.{arith}
+use Rattle.nibbles.proofs.mark_digits.Reads as mark-digits-reads
 use Rattle.sheet.proofs.read_points.Statement.{statement}
 use Rattle.sheet.proofs.read_points.Tie as tie
 use Rattle.sheet.proofs.read_points.Reads as reads
 use Rattle.sheet.proofs.read_points.Lts as lts
-use Rattle.nibbles.proofs.mark_digits.Reads as mark-digits-reads
 use Rattle.sheet.proofs.point_at.Reads as point-at-reads
 
 abbrev Inv-loop : tie.InvT-loop

@@ -7,11 +7,11 @@ use Rattle.sheet.proofs.Laws.Told.{number-is, number-not, number-by, ro
 use Rattle.sheet.proofs.Laws.Keys.{key-first-bad, key-second-bad, key-whole}
 use native.Mathlib.Omega.{arith}
 use borrow.Author.Needs.{needs}
+use Rattle.decimals.proofs.number_at.Reads as number-at-reads
 use Rattle.sheet.proofs.triangle_at.Statement.{statement}
 use Rattle.sheet.proofs.triangle_at.Tie as tie
 use Rattle.sheet.proofs.triangle_at.Reads as reads
 use Rattle.sheet.proofs.triangle_at.Lts as lts
-use Rattle.decimals.proofs.number_at.Reads as number-at-reads
 use Rattle.sheet.proofs.last_at.Reads as last-at-reads
 
 -- src/lib.rt:95:21

@@ -3,11 +3,11 @@ use mathlib.Core.List.{List}
 use Prim.Native.Nat.{ℕ, _-_, _*_, _≤_}
 use lib.ListN.{drop}
 use Rattle.limits.specs.Limits as limits
+use Rattle.surface.specs.Threes.{Three, three}
 use Rattle.digits.specs.Workings.Reading.{Read, wrong, got, readKey, readHex, readDecimal}
 use Rattle.texts.specs.Text.{feed}
 use Rattle.texts.specs.Workings.Parse.{after, Outline, stops, leaves, Parsed}
 use Rattle.texts.specs.Workings.Parse as texts
-use Rattle.surface.specs.Threes.{Three, three}
 use Rattle.sheet.specs.Sheet.{comma, p=, t=, points, triangles}
 use Rattle.sheet.specs.declared.Line.{Line}
 use Rattle.sheet.specs.declared.Line.the-variants.{Row, Bad}

@@ -8,11 +8,11 @@ use native.Mathlib.Omega.{arith}
 use lib.IntN.{ℤ}
 use lib.ListN.{length, getD, take, drop, length-drop}
 use lib.Seq.{getD-take, getD-drop, length-take-le}
-use Rattle.limits.specs.Limits as limits
 use Rattle.answers.specs.declared.Answer.the-variants.{Done, Misdeclared, Uncovered}
+use Rattle.limits.specs.Limits as limits
+use Rattle.surface.specs.Threes.{threes}
 use Rattle.surface.proofs.Laws.Tests.{eq-or-not}
 use Rattle.covers.specs.Covers.{Cover, empty, apex, Triangle, on, triangles, vertexOf, patchOf}
-use Rattle.surface.specs.Threes.{threes}
 use Rattle.covers.specs.Sets.{Alike, ListsTriangles, named}
 use Rattle.covers.specs.Workings.Reading.{In}
 use Rattle.covers.proofs.Laws.Listed.{listed-in}
@@ -24,8 +24,8 @@ use Rattle.keys.specs.Workings.Covering.{Covering}
 use Rattle.run.proofs.Laws.Three.{three-meets}
 use Rattle.run.proofs.Laws.Sides.{three-tells}
 use Rattle.verdicts.specs.Faults.{share, patched, long, WrongState, no-state, two-on-a-short, not-two-on-a-long, three-with-a-cover, misdeclared, no-cover}
-use Rattle.sight.specs.Workings.Findings.{right, fault, PlainRoom, FindsPlain, WoundAgainst}
 use Rattle.verdicts.proofs.Laws.Declared.{declared-patched}
+use Rattle.sight.specs.Workings.Findings.{right, fault, PlainRoom, FindsPlain, WoundAgainst}
 
 -- ---- the long loop
 

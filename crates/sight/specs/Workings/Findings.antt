@@ -6,9 +6,9 @@ use mathlib.Core.List.{List}
 use Prim.Native.Nat.{ℕ, _<_, _≤_}
 use lib.IntN.{ℤ}
 use lib.ListN.{length, getD, drop}
-use Rattle.limits.specs.Limits as limits
 use Rattle.answers.specs.declared.Answer.{Answer}
 use Rattle.answers.specs.declared.Answer.the-variants.{Done}
+use Rattle.limits.specs.Limits as limits
 use Rattle.covers.specs.Covers.{Triangle, on}
 use Rattle.covers.specs.Sets.{Alike}
 use Rattle.verdicts.specs.Faults.{Right, Fault}

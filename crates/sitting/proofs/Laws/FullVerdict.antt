@@ -7,16 +7,16 @@ use lib.IntN.{ℤ}
 use lib.ListN.{length, getD, take, drop}
 use lib.Seq.{take-add}
 use lib.Ieee.{Float}
-use Rattle.limits.specs.Limits as limits
 use Rattle.answers.specs.declared.Answer.{Answer}
 use Rattle.answers.specs.declared.Answer.the-variants.{Done}
+use Rattle.limits.specs.Limits as limits
 use Rattle.bars.specs.Workings.Chains.{Tells}
 use Rattle.column.specs.Workings.Columns.{Table}
+use Rattle.verdicts.specs.Verdicts.{taken, leftOver}
 use Rattle.rounds.specs.Workings.Rings.{RingOf, Loops, RingPlace}
 use Rattle.rounds.specs.Workings.Bench.{Bench}
 use Rattle.rounds.proofs.Laws.Reading.{as-many, places-of}
 use Rattle.rounds.proofs.Laws.Bench.{noughts, edgesMost, Standing, standing-begins, standing-room, standing-next}
-use Rattle.verdicts.specs.Verdicts.{taken, leftOver}
 use Rattle.judgement.specs.Workings.Turns.{LoopTurn, Judging, FindsLoop}
 use Rattle.summary.specs.Workings.Courses.{VerdictRoom, Gives}
 use Rattle.summary.proofs.Laws.Verdicts.{Gone, gone-begins, gone-ends, ring-here, turn-decides, turn-goes}

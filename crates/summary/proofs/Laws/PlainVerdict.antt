@@ -6,12 +6,12 @@ use Prim.Native.Nat.{ℕ, _+_, _-_, _≤_, _<_}
 use native.Mathlib.Omega.{arith}
 use lib.IntN.{ℤ}
 use lib.ListN.{length, getD, take, drop}
-use Rattle.limits.specs.Limits as limits
 use Rattle.answers.specs.declared.Answer.{Answer}
 use Rattle.answers.specs.declared.Answer.the-variants.{Done}
+use Rattle.limits.specs.Limits as limits
+use Rattle.verdicts.specs.Verdicts.{taken, leftOver}
 use Rattle.rounds.specs.Workings.Rings.{Loops, RingPlace}
 use Rattle.rounds.proofs.Laws.Reading.{as-many, places-of}
-use Rattle.verdicts.specs.Verdicts.{taken, leftOver}
 use Rattle.sight.specs.Workings.Findings.{PlainRoom, FindsPlain}
 use Rattle.summary.specs.Workings.Courses.{PlainVerdictRoom, GivesPlain}
 use Rattle.summary.proofs.Laws.Verdicts.{Gone, gone-begins, gone-ends, turn-decides, turn-goes}

@@ -10,11 +10,11 @@ use lib.ListN.{length, getD, take, drop, length-append, length-drop, drop-of-len
 use lib.Seq.{drop-cons, drop-drop, take-add}
 use Rattle.answers.specs.declared.Answer.{Answer}
 use Rattle.answers.specs.declared.Answer.the-variants.{Done}
-use Rattle.rounds.specs.Workings.Rings.{RingOf, Loops}
-use Rattle.rounds.proofs.Laws.Reading.{as-many, length-at, ring-at, ring-next}
 use Rattle.verdicts.specs.Faults.{Right, Fault}
 use Rattle.verdicts.specs.Verdicts.{taken, leftOver, Verdict}
 use Rattle.verdicts.proofs.Laws.Filled.{right-takes}
+use Rattle.rounds.specs.Workings.Rings.{RingOf, Loops}
+use Rattle.rounds.proofs.Laws.Reading.{as-many, length-at, ring-at, ring-next}
 use Rattle.sight.specs.Workings.Findings.{Finds, right, fault}
 use Rattle.sight.proofs.Laws.Findings.{done-right}
 

@@ -5,8 +5,8 @@ use Prim.Native.Nat.{ℕ}
 use lib.IntN.{ℤ}
 use lib.ListN.{length}
 use Rattle.answers.specs.declared.Answer.{Answer}
-use Rattle.rounds.specs.Workings.Rings.{Loops, Input, Plain}
 use Rattle.verdicts.specs.Verdicts.{Verdict}
+use Rattle.rounds.specs.Workings.Rings.{Loops, Input, Plain}
 
 pub record VerdictRoom (grid : List ℤ) (input rings lengths states : List ℕ) : Type 0 where
   pub rs : List (List ℕ)

@@ -5,8 +5,8 @@ use Prim.Native.Nat.{ℕ, zero, suc, _*_, _≤_}
 use native.Mathlib.Omega.{arith}
 use lib.ListN.{length, take}
 use Rattle.surface.specs.Buffers.{over}
-use Rattle.surface.proofs.Laws.Over.{start-of, front-in}
 use Rattle.surface.specs.Threes.{Three, threes, flat}
+use Rattle.surface.proofs.Laws.Over.{start-of, front-in}
 
 pub flat-length : (l : List Three) → length (flat l) ≡ 3 * length l
 flat-length [] = refl

@@ -8,10 +8,10 @@ use native.Mathlib.Omega.{arith}
 use lib.ListN.{length}
 use mir.Syntax.{w16}
 use mir.Val.{Fits}
-use Rattle.limits.specs.Limits as limits
 use Rattle.answers.specs.Numbers.{refusing}
 use Rattle.answers.specs.declared.Answer.{Answer}
 use Rattle.answers.specs.declared.Answer.the-variants.{Done}
+use Rattle.limits.specs.Limits as limits
 use Rattle.surface.specs.Refusals.{thenCheck, bufferRefusal, cornerRefusal, wordRefusal, contentRefusal}
 use Rattle.surface.proofs.Laws.Thens.{then-refused, then-next, buffer-plain, corner-plain, done-of, Fitting, counts-fit, buffers-long, words-pass}
 use Rattle.twins.specs.Workings.Turns.{Room}

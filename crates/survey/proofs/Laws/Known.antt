@@ -6,10 +6,10 @@ use Prim.Native.Nat.{ℕ, suc, _/_, _≤_, _<_}
 use native.Mathlib.Omega.{arith}
 use lib.IntN.{ℤ}
 use lib.ListN.{length, getD}
-use Rattle.limits.specs.Limits as limits
 use Rattle.answers.specs.Numbers.{refusing}
 use Rattle.answers.specs.declared.Answer.{Answer}
 use Rattle.answers.specs.declared.Answer.the-variants.{Done}
+use Rattle.limits.specs.Limits as limits
 use Rattle.surface.specs.Refusals.{countRefusal, refusal}
 use Rattle.surface.proofs.Laws.Thens.{Fitting, counts-fit}
 use Rattle.surface.proofs.Laws.Deciding.{content-decides, content-pass}

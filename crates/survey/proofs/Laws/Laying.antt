@@ -15,15 +15,15 @@ use mir.Syntax.{w32}
 use mir.Val.{toZ, ofZ}
 use Rattle.grid.specs.Units.{units}
 use Rattle.grid.specs.Places.{whole, Places}
+use Rattle.grid.specs.declared.Coordinate.the-variants.{NotFinite, TooFar}
 use Rattle.grid.proofs.Laws.Floats.{field, no-number}
 use Rattle.grid.proofs.Laws.Coordinates.{beyond, held}
-use Rattle.surface.proofs.Laws.Tests.{eq-or-not, lt-or-le}
-use Rattle.grid.specs.declared.Coordinate.the-variants.{NotFinite, TooFar}
 use Rattle.surface.specs.Buffers.{over}
 use Rattle.surface.specs.Refusals.{notFinite, tooFar}
+use Rattle.surface.proofs.Laws.Tests.{eq-or-not, lt-or-le}
 use Rattle.surface.proofs.Laws.Smallest.{least-never}
-use Rattle.sifting.proofs.Laws.Words.{not-finite-is, too-far-is}
 use Rattle.surface.proofs.Laws.Over.{over-none, over-snoc}
+use Rattle.sifting.proofs.Laws.Words.{not-finite-is, too-far-is}
 use Rattle.survey.specs.Grid.{wholeOf, gridOf, OnGrid}
 
 -- of the answers for a coordinate two are not met

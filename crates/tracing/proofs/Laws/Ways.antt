@@ -9,8 +9,8 @@ use lib.Dec.{leb, lit<}
 use lib.IntN.{ℤ, natAbs, _+ℤ_, _-ℤ_}
 use lib.Ieee.{Float, binary64, add, lt, le}
 use borrow.Author.Tests.{ltb-true, leb-true, leb-false}
-use Rattle.covers.specs.Workings.Least.{MadeAt}
 use Rattle.limits.specs.Limits.{longest}
+use Rattle.covers.specs.Workings.Least.{MadeAt}
 use Rattle.weight.specs.declared.Point.{Point}
 use Rattle.weight.specs.Weight.{weightOf}
 use Rattle.weight.specs.Edition.{naturals, triOf}

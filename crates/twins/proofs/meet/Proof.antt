@@ -3,8 +3,8 @@ use Prim.Native.Nat.{_-_}
 use mathlib.Core.Logic.{⊎-elim}
 use native.Mathlib.Omega.{arith}
 use borrow.Author.Needs.{needs}
-use Rattle.twins.proofs.Laws.Walks.{Walking, walk-begins, walk-ends, walk-inside, walk-twin, walk-like, walk-less, walk-more}
 use Rattle.twins.specs.Workings.Chains.{MeetRoom}
+use Rattle.twins.proofs.Laws.Walks.{Walking, walk-begins, walk-ends, walk-inside, walk-twin, walk-like, walk-less, walk-more}
 use Rattle.twins.proofs.meet.Statement.{statement}
 use Rattle.twins.proofs.meet.Tie as tie
 

@@ -7,8 +7,8 @@ use Prim.Native.Nat.{ℕ, _+_, _-_}
 use native.Mathlib.Omega.{arith}
 use lib.ListN.{length, length-append}
 use lib.Seq.{take-at}
-use Rattle.covers.specs.Covers.{Cover, Covers, Triangle, triangles, cornersOf, patchOf, vertexOf}
 use Rattle.surface.specs.Threes.{threes}
+use Rattle.covers.specs.Covers.{Cover, Covers, Triangle, triangles, cornersOf, patchOf, vertexOf}
 use Rattle.covers.specs.Sets.{ListsTriangles, named}
 use Rattle.covers.proofs.Laws.Corners.{patch-length}
 use Rattle.verdicts.specs.Faults.{share, IsCover}

@@ -11,11 +11,11 @@ use lib.ListN.{length, getD, take, drop}
 use Rattle.answers.specs.Numbers.{refusing, numberOf}
 use Rattle.answers.specs.declared.Answer.{Answer}
 use Rattle.answers.specs.declared.Answer.the-variants.{Done, Misdeclared, Uncovered, Barred, Heavy}
-use Rattle.covers.specs.Covers.{Cover, Uses, vertexOf}
 use Rattle.surface.specs.Threes.{threes}
+use Rattle.covers.specs.Covers.{Cover, Uses, vertexOf}
 use Rattle.covers.proofs.Laws.Closed.{Different, covered-once}
-use Rattle.run.proofs.Laws.Once.{no-longer}
 use Rattle.run.specs.Here.{AllowedHere}
+use Rattle.run.proofs.Laws.Once.{no-longer}
 use Rattle.verdicts.specs.Faults.{share, IsCover, Lighter, Right, patched, long, open-left, WrongState, no-state, two-on-a-short, not-two-on-a-long, three-with-a-cover, BarredTaken, HeavyTaken, Fault, misdeclared, no-cover, cover-barred, too-heavy}
 use Rattle.verdicts.specs.Verdicts.{taken, Verdict}
 
