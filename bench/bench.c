@@ -1,21 +1,26 @@
 /* The archive and the plain implementation side by side.
    bench compare COUNT SEED FILE...  compares both with the slow reference, every byte of what is lent, on the sheets of these files, on full
                                      sheets and on that many made surfaces; what the archive does not export is left out.
-   bench count FILE...               calls both on the sheet of each file; under callgrind, leaves what every call cost in a dump of its own,
-                                     named by the side, the work and the sheet.
+   bench count FILE...               calls both on the sheet of each file; before each call it prints the side, the work and the sheet. Under
+                                     callgrind what the call cost is left in a dump of that name; compiled as EMULATED, the call stands between
+                                     the marks that bench/count.c looks for.
    bench make FOLDER SEED            writes the full sheets as files into a folder. */
 #include <inttypes.h>
 #include <stdint.h>
 #include <stdio.h>
 #include <stdlib.h>
 #include <string.h>
-#include <valgrind/callgrind.h>
 
 #include "../tests/reference/generate.h"
 #include "../tests/reference/reference.h"
 #include "../tests/reference/sheets.h"
+#include "marks.h"
 #include "plain.h"
 #include "wazelpunt.h"
+
+#ifndef EMULATED
+#include <valgrind/callgrind.h>
+#endif
 
 /* An archive that lacks one of these is linked all the same; the function is then null. */
 #pragma weak wazelpunt_patch
@@ -298,16 +303,34 @@ static const char *sheet_name(const char *path) {
     return name;
 }
 
-/* One call, in a dump of its own. */
+#ifdef EMULATED
+#define MARK(number) __asm__ volatile("nopl %c0(%%rax,%%rax)" : : "i"(number) : "memory")
+#define BEGIN MARK(MARK_BEGIN)
+#define END(name) MARK(MARK_END)
+#else
+#define BEGIN \
+    do { \
+        CALLGRIND_START_INSTRUMENTATION; \
+        CALLGRIND_ZERO_STATS; \
+    } while (0)
+#define END(name) \
+    do { \
+        CALLGRIND_DUMP_STATS_AT(name); \
+        CALLGRIND_STOP_INSTRUMENTATION; \
+    } while (0)
+#endif
+
+/* One call. What this function and the work's own take is not counted: callgrind collects only within the call, and of the emulator's
+   counts by function theirs are left out. */
 static void count(const struct side *side, size_t work, const char *sheet) {
     char name[320];
     struct answer answer = {0};
     snprintf(name, sizeof name, "%s %s %s", side->name, works[work].name, sheet);
-    CALLGRIND_START_INSTRUMENTATION;
-    CALLGRIND_ZERO_STATS;
+    puts(name);
+    fflush(stdout);
+    BEGIN;
     works[work].by(side, &theirs, &answer);
-    CALLGRIND_DUMP_STATS_AT(name);
-    CALLGRIND_STOP_INSTRUMENTATION;
+    END(name);
 }
 
 static int run_count(char **files, int count_of_files) {

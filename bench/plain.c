@@ -1,6 +1,7 @@
 /* The rules of the scope in plain C, written for speed and without tricks: no vector instructions by hand, and tables only of digits, where
-   numbers are read and written. Edges are paired and loops found in linear time; the lightest cover is found by the table over stretches,
-   with a triangle's weight computed anew at every step. */
+   numbers are read and written. Edges are paired, and loops, pieces and rims found in linear time; the lightest cover is found by the table
+   over stretches, with a triangle's weight computed anew at every step. */
+#include <stdlib.h>
 #include <string.h>
 
 #include "plain.h"
@@ -14,14 +15,18 @@ enum {
     BUFFERS = 6,
     /* a patch has fewer diagonals than its loop has edges, so all of them are fewer than the corners */
     EDGES = 2 * CORNERS,
-    /* what stands for no half-edge, and in its stead at an open one that a walk has passed */
+    /* what stands for no half-edge and for no piece, and in its stead at an open half-edge that a walk has passed */
     NONE = 0xffff,
-    PASSED = 0xfffe
+    PASSED = 0xfffe,
+    RIM = 4
 };
 
 /* The bits of 32767.5, the smallest that goes to 32,768, and of infinity. */
 #define TOO_FAR 0x46ffff00u
 #define NOT_FINITE 0x7f800000u
+
+/* What stands for a run that was not reckoned: the greatest is 3,072 edges of 196,602 each. */
+#define NO_RUN 0xffffffffu
 
 /* What stands for the weight of no cover: so far below 0 that no weight added makes it positive, and twice that is still a number. */
 #define NO_COVER (INT64_MIN / 4)
@@ -178,6 +183,8 @@ struct loops {
     /* the vertices of the path, and for each vertex its place there, or NONE */
     uint16_t path[CORNERS];
     uint16_t at[POINTS];
+    /* for each loop a triangle of its piece: where its cycle begins, since a walk never leaves the piece */
+    uint16_t home[TRIANGLES];
 };
 
 static uint32_t following(uint32_t h) {
@@ -191,13 +198,14 @@ static uint32_t next_open(const uint16_t *twin, uint32_t h) {
 }
 
 /* Lists the end of the path from there on as a loop. */
-static void cut_off(struct loops *loops, size_t from, size_t length) {
+static void cut_off(struct loops *loops, size_t from, size_t length, uint32_t home) {
     uint16_t *ring = loops->rings + loops->vertices;
     for (size_t p = from; p < length; p++) {
         uint16_t vertex = loops->path[p];
         loops->at[vertex] = NONE;
         *ring++ = vertex;
     }
+    loops->home[loops->count] = (uint16_t)home;
     loops->lengths[loops->count++] = (uint16_t)(length - from);
     loops->vertices += length - from;
 }
@@ -213,7 +221,7 @@ static void walk_cycle(struct loops *loops, const uint16_t *corners, uint16_t *t
         vertex = corners[h];
         uint32_t met = loops->at[vertex];
         if (met != NONE) {
-            cut_off(loops, met, length);
+            cut_off(loops, met, length, first / 3);
             length = met;
         }
     } while (h != first);
@@ -229,6 +237,87 @@ static void find_loops(struct loops *loops, const struct surface *surface, uint1
         if (h == surface->corners_count) return;
         walk_cycle(loops, surface->corners, twin, (uint32_t)h);
     }
+}
+
+/* ---- Rims ---- */
+
+/* The pieces that have loops. Of each, the loop with the greatest run so far, where its ring begins, and its run, which is reckoned only
+   when the piece turns out to have a second loop. */
+struct pieces {
+    size_t count;
+    /* for each triangle its piece, or NONE */
+    uint16_t of[TRIANGLES];
+    uint16_t queue[TRIANGLES];
+    uint16_t best[TRIANGLES];
+    uint16_t start[TRIANGLES];
+    uint32_t run[TRIANGLES];
+};
+
+/* Gives the number of the piece that is entered to a triangle and to all that are joined to it through shared edges. */
+static void flood(struct pieces *pieces, const uint16_t *twin, uint32_t triangle) {
+    uint16_t *of = pieces->of, *due = pieces->queue, *end = due;
+    const uint16_t piece = (uint16_t)pieces->count;
+    of[triangle] = piece;
+    *end++ = (uint16_t)triangle;
+    while (due < end) {
+        const uint16_t *across = twin + 3 * (size_t)*due++;
+        for (size_t c = 0; c < 3; c++) {
+            if (across[c] >= PASSED) continue;
+            uint32_t next = across[c] / 3u;
+            if (of[next] != NONE) continue;
+            of[next] = piece;
+            *end++ = (uint16_t)next;
+        }
+    }
+}
+
+static uint32_t run_of(const int32_t *grid, const uint16_t *ring, size_t length) {
+    const int32_t *from = grid + 3 * (size_t)ring[length - 1];
+    uint32_t run = 0;
+    for (size_t i = 0; i < length; i++) {
+        const int32_t *to = grid + 3 * (size_t)ring[i];
+        for (size_t c = 0; c < 3; c++) run += (uint32_t)abs(to[c] - from[c]);
+        from = to;
+    }
+    return run;
+}
+
+static void enter_piece(struct pieces *pieces, const uint16_t *twin, uint32_t triangle, size_t loop, size_t start) {
+    flood(pieces, twin, triangle);
+    pieces->best[pieces->count] = (uint16_t)loop;
+    pieces->start[pieces->count] = (uint16_t)start;
+    pieces->run[pieces->count++] = NO_RUN;
+}
+
+/* A loop after the first of its piece takes the place of the best so far if its run is greater. */
+static void contest(struct pieces *pieces, size_t piece, const struct loops *loops, size_t loop, size_t start, const int32_t *grid) {
+    uint32_t run = run_of(grid, loops->rings + start, loops->lengths[loop]), greatest = pieces->run[piece];
+    if (greatest == NO_RUN) greatest = run_of(grid, loops->rings + pieces->start[piece], loops->lengths[pieces->best[piece]]);
+    if (run > greatest) {
+        greatest = run;
+        pieces->best[piece] = (uint16_t)loop;
+    }
+    pieces->run[piece] = greatest;
+}
+
+/* Marks the rims where there are two loops or more. */
+static void compare_runs(uint8_t *marks, const struct loops *loops, const struct surface *surface, const uint16_t *twin, const int32_t *grid) {
+    struct pieces pieces;
+    pieces.count = 0;
+    memset(pieces.of, 0xff, surface->corners_count / 3 * sizeof *pieces.of);
+    for (size_t l = 0, start = 0; l < loops->count; start += loops->lengths[l++]) {
+        size_t home = loops->home[l];
+        if (pieces.of[home] == NONE) enter_piece(&pieces, twin, (uint32_t)home, l, start);
+        else contest(&pieces, pieces.of[home], loops, l, start, grid);
+    }
+    memset(marks, 0, loops->count);
+    for (size_t p = 0; p < pieces.count; p++) marks[pieces.best[p]] = 1;
+}
+
+/* A loop that is the only one is its piece's rim, so that nothing has to be known of the pieces. */
+static void mark_rims(uint8_t *marks, const struct loops *loops, const struct surface *surface, const uint16_t *twin, const int32_t *grid) {
+    marks[0] = 1;
+    if (loops->count > 1) compare_runs(marks, loops, surface, twin, grid);
 }
 
 /* ---- Cover ---- */
@@ -399,6 +488,7 @@ uint32_t plain_patch(const uint32_t *words, size_t words_count, const uint16_t *
                      size_t *vertices, size_t *laid) {
     const struct surface surface = {words, words_count, corners, corners_count};
     const size_t lent[BUFFERS] = {grid_length, rings_length, lengths_length, states_length, weights_length, patches_length};
+    uint8_t rims[TRIANGLES];
     struct edges edges;
     struct loops found;
     struct hole hole;
@@ -409,10 +499,16 @@ uint32_t plain_patch(const uint32_t *words, size_t words_count, const uint16_t *
     found.rings = rings;
     found.lengths = lengths;
     find_loops(&found, &surface, edges.twin);
+    mark_rims(rims, &found, &surface, edges.twin, grid);
     start_holes(&hole, &edges, grid, words_count / 3);
     uint16_t *patch = patches;
     for (size_t l = 0; l < found.count; l++) {
-        patch = patch_loop(&hole, rings, lengths[l], &states[l], &weights[l], patch);
+        if (rims[l]) {
+            states[l] = RIM;
+            weights[l] = 0;
+        } else {
+            patch = patch_loop(&hole, rings, lengths[l], &states[l], &weights[l], patch);
+        }
         rings += lengths[l];
     }
     *loops = found.count;
@@ -423,8 +519,10 @@ uint32_t plain_patch(const uint32_t *words, size_t words_count, const uint16_t *
 
 /* ---- The checker ---- */
 
-/* What the set has for one loop: for each stretch the middle chosen, 0 where there is none; and what the cover turns out to be. */
+/* What the set has for one loop: for each stretch the middle chosen, 0 where there is none, once it has been cleared; and what the cover turns
+   out to be. */
 struct cover {
+    int cleared;
     uint8_t chosen[LONGEST][LONGEST];
     int64_t weight;
     int barred;
@@ -470,6 +568,8 @@ static int follow_choices(struct cover *cover, struct hole *hole, size_t i, size
 
 /* As many triangles as a cover has, each the choice of a stretch of its own, are a cover if none is missing. */
 static int take_cover(struct cover *cover, struct hole *hole, const uint16_t *triangles, size_t points) {
+    if (!cover->cleared) memset(cover->chosen, 0, sizeof cover->chosen);
+    cover->cleared = 1;
     cover->weight = 0;
     cover->barred = 0;
     for (size_t t = 0; t < hole->length - 2; t++)
@@ -517,15 +617,18 @@ static uint32_t judge_loop(struct hole *hole, struct cover *cover, const uint16_
     return verdict;
 }
 
-static uint32_t judge_loops(struct hole *hole, const struct loops *loops, struct set *set, size_t points, size_t *place) {
+static uint32_t judge_loops(struct hole *hole, const struct loops *loops, const uint8_t *rims, struct set *set, size_t points,
+                            size_t *place) {
     struct cover cover;
     const uint16_t *ring = loops->rings;
-    memset(cover.chosen, 0, sizeof cover.chosen);
+    cover.cleared = 0;
     for (size_t l = 0; l < loops->count; l++) {
         size_t length = loops->lengths[l];
-        uint32_t verdict = judge_loop(hole, &cover, ring, length, set->states[l], set, points);
+        uint16_t state = set->states[l];
+        uint32_t verdict = state == RIM ? 0 : 11;
+        if (!rims[l]) verdict = judge_loop(hole, &cover, ring, length, state, set, points);
         if (verdict != 0) return answer(verdict, l, place);
-        if (set->states[l] == 1) set->taken += 3 * (length - 2);
+        if (state == 1) set->taken += 3 * (length - 2);
         ring += length;
     }
     return set->taken < set->count ? answer(15, set->taken, place) : answer(0, 0, place);
@@ -540,6 +643,7 @@ uint32_t plain_check(const uint32_t *words, size_t words_count, const uint16_t *
     const size_t lent[3] = {grid_length, rings_length, lengths_length};
     struct set judged = {states, set, set_count, 0};
     uint16_t own_rings[CORNERS], own_lengths[TRIANGLES];
+    uint8_t rims[TRIANGLES];
     struct edges edges;
     struct loops found;
     struct hole hole;
@@ -555,8 +659,9 @@ uint32_t plain_check(const uint32_t *words, size_t words_count, const uint16_t *
     memcpy(lengths, own_lengths, found.count * sizeof *lengths);
     *loops = found.count;
     *vertices = found.vertices;
+    mark_rims(rims, &found, &surface, edges.twin, grid);
     start_holes(&hole, &edges, grid, words_count / 3);
-    return judge_loops(&hole, &found, &judged, words_count / 3, place);
+    return judge_loops(&hole, &found, rims, &judged, words_count / 3, place);
 }
 
 /* ---- Reading texts ---- */

@@ -1,6 +1,7 @@
 /* How much stack each exported function takes at most: it is called on a stack that was painted before, and what is no longer painted was
    used. The stack that an empty call takes is taken off.
-   stack COUNT SEED: on the full sheets, on rims that are closed by a fan, and on that many made surfaces, sets and texts. */
+   stack COUNT SEED  measures on the full sheets, on plates whose hole is closed by a fan, and on that many made surfaces, sets and texts.
+   stack sheet       prints one of these plates as a sheet text. */
 #include <inttypes.h>
 #include <stdint.h>
 #include <stdio.h>
@@ -96,22 +97,29 @@ static void measure_all(struct generator *generator) {
     for (size_t w = 0; w < WORKS; w++) measure(&works[w]);
 }
 
-/* A rim of so many edges that only a fan about one of its vertices closes best, which stands at that place of it. The patch of such a rim is
-   listed with the deepest recursion. */
-static void make_fan(size_t length, size_t apex) {
-    uint16_t rim[64];
+static void put(size_t point, int32_t x, int32_t y) {
+    surface.words[3 * point] = sheet_word(x);
+    surface.words[3 * point + 1] = sheet_word(y);
+    surface.words[3 * point + 2] = sheet_word(0);
+}
+
+/* A plate with one hole of 64 edges that only a fan about one of its vertices closes best, which stands at that place of it. The patch of
+   such a hole is listed with the deepest recursion. The rim is a large triangle round it. */
+static void make_fan(size_t apex) {
+    static const uint16_t frame[3] = {64, 65, 66};
+    uint16_t ring[64];
     memset(&surface, 0, sizeof surface);
-    for (size_t v = 0; v <= length; v++) {
-        int32_t x = (int32_t)((v + length - apex) % length), y = 1000 + (x - 32) * (x - 32);
-        if (v == apex) x = 32, y = 0;
-        if (v == length) x = 32, y = 500;
-        surface.words[3 * v] = sheet_word(x);
-        surface.words[3 * v + 1] = sheet_word(y);
-        surface.words[3 * v + 2] = sheet_word(0);
-        if (v < length) rim[v] = (uint16_t)v;
+    for (size_t v = 0; v < 64; v++) {
+        int32_t x = (int32_t)((v + 64 - apex) % 64);
+        put(v, x, 1000 + (x - 32) * (x - 32));
+        ring[v] = (uint16_t)v;
     }
-    surface.word_count = 3 * (length + 1);
-    sheet_add_cone(&surface, rim, length, (uint16_t)length);
+    put(apex, 32, 0);
+    put(64, -30000, -30000);
+    put(65, 30000, -30000);
+    put(66, 0, 30000);
+    surface.word_count = 3 * 67;
+    sheet_add_collar(&surface, ring, 64, frame, 3);
     generate_lend_exactly(&surface);
 }
 
@@ -119,11 +127,20 @@ int main(int argc, char **argv) {
     size_t count = argc > 1 ? strtoul(argv[1], 0, 10) : 200;
     uint64_t seed = argc > 2 ? strtoull(argv[2], 0, 10) : 1;
     struct generator generator;
+    if (argc == 2 && strcmp(argv[1], "sheet") == 0) {
+        make_fan(63);
+        text_length = generate_sheet_text(&surface, text);
+        return fwrite(text, 1, text_length, stdout) != text_length;
+    }
     generate_start(&generator, seed);
     for (size_t sheet = 0; sheet_make(&generator, sheet, &surface) != 0; sheet++) measure_all(&generator);
     for (size_t apex = 0; apex < 64; apex++) {
-        make_fan(64, apex);
+        make_fan(apex);
         measure_all(&generator);
+        if (third < 3 * 62) {
+            fputs("stack: the hole of a plate was not patched\n", stderr);
+            return 1;
+        }
     }
     for (size_t made = 0; made < count; made++) {
         if (made % 4 == 0) sheet_make_cones(&generator, &surface);

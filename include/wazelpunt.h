@@ -25,17 +25,17 @@ uint32_t wazelpunt_survey(const uint32_t *words, size_t words_count, const uint1
 
 /* Finds the loops of a surface and patches them. Returns 0 or a refusal 1 to 8, with its place. Lent are grid, rings and lengths
    as above, states and weights (4 and 5: corners_count / 3 each) and patches (6: 3 * corners_count). On 0 they hold the same as
-   above, for each loop its state (1 patched, 2 long, 3 no allowed cover) and the weight of its patch, and the corners of all
-   patch triangles in the order in which they are laid; each from its start, and what lies behind is as it was. *laid becomes
-   the count of patch corners. On a refusal all is as it was and the three counts are 0. */
+   above, for each loop its state (1 patched, 2 long, 3 no allowed cover, 4 the rim of its piece, which is never patched) and the
+   weight of its patch, and the corners of all patch triangles in the order in which they are laid; each from its start, and what
+   lies behind is as it was. *laid becomes the count of patch corners. On a refusal all is as it was and the three counts are 0. */
 uint32_t wazelpunt_patch(const uint32_t *words, size_t words_count, const uint16_t *corners, size_t corners_count,
                          int32_t *grid, size_t grid_length, uint16_t *rings, size_t rings_length, uint16_t *lengths,
                          size_t lengths_length, uint16_t *states, size_t states_length, uint64_t *weights,
                          size_t weights_length, uint16_t *patches, size_t patches_length, size_t *place, size_t *loops,
                          size_t *vertices, size_t *laid);
 
-/* Judges a patch set for a surface: a state for each loop, and the corners of the patch triangles of all loops that are declared
-   patched, in any order within a loop and each begun at any corner. Returns 0 (passed), a refusal 1 to 9 or a verdict 11 to 15,
+/* Judges a patch set for a surface: a state for each loop (4 for the rim of each piece, and for no other), and the corners of the
+   patch triangles of all loops that are declared patched, in any order within a loop and each begun at any corner. Returns 0 (passed), a refusal 1 to 9 or a verdict 11 to 15,
    with its place. Lent are grid, rings and lengths as for wazelpunt_survey. On 0 and on 11 to 15 they hold the same as there; on a
    refusal all is as it was and both counts are 0. */
 uint32_t wazelpunt_judge(const uint32_t *words, size_t words_count, const uint16_t *corners, size_t corners_count,

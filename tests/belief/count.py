@@ -12,7 +12,7 @@ GROUPS = {
     'entry-points': ['grid/Places.Places', 'survey/Outcome.surveyOf', 'patching/Outcome.Patches', 'trial/Outcome.Judges',
                      'intake/Outcome.Reads', 'scribe/Outcome.writes', 'sets/Outcome.ReadsSet'],
     'programs': ['lister/Lists.Prints', 'arbiter/Hears', 'copyist/Rewriting', 'roll/Pieces'],
-    'demands': ['demands/Answers', 'demands/Loops', 'demands/Sets', 'demands/Closing', 'demands/Texts'],
+    'demands': ['demands/Answers', 'demands/Loops', 'demands/Pieces', 'demands/Sets', 'demands/Closing', 'demands/Texts'],
 }
 
 IMPORT = re.compile(r'\s*(?:pub )?use Rattle·(\w+)(?:·specs)?\.specs\.(?:specs\.)?([\w.]+?)(?:\.\{(.*)\}| as (\S+))$')

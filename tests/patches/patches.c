@@ -1,5 +1,6 @@
 /* Compares wazelpunt_patch with the plain reference: the answer, the counts, and every byte of the six lent buffers with what lies
-   before and behind them. It takes the scope's examples with what is said of them, full sheets, and made surfaces, sound and damaged.
+   before and behind them. It takes the scope's examples with what is said of them, as islands and as holes, rims and holes of every
+   length, full sheets, and made surfaces, sound and damaged.
    patches COUNT SEED: that many made surfaces, from that seed on. */
 #include <inttypes.h>
 #include <stdint.h>
@@ -30,7 +31,7 @@ static struct reference_patch_answer said, due;
 
 /* ---- What was met ---- */
 
-static size_t by_answer[9], by_state[4], patched[REFERENCE_LONGEST_LOOP + 1], barred[REFERENCE_LONGEST_LOOP + 1];
+static size_t by_answer[9], by_state[5], long_rims, patched[REFERENCE_LONGEST_LOOP + 1], barred[REFERENCE_LONGEST_LOOP + 1], rims[REFERENCE_LONGEST_LOOP + 1];
 static unsigned char laid_between[REFERENCE_MOST_POINTS][REFERENCE_MOST_POINTS];
 
 static void mark(const uint16_t *patch, size_t count, unsigned char value) {
@@ -48,14 +49,16 @@ static int is_barred_by_a_patch(const uint16_t *ring, size_t length) {
     return 0;
 }
 
-/* Counts the answer and the loops by their states, and by their lengths those that are patched and those that a patch bars. */
+/* Counts the answer and the loops by their states, and by their lengths the rims, those that are patched and those that a patch bars. */
 static void meet(void) {
     const uint16_t *ring = theirs.rings + GUARD, *patches = theirs.patches + GUARD, *patch = patches;
     by_answer[due.number]++;
     for (size_t l = 0; l < due.loops; l++) {
         size_t length = theirs.lengths[GUARD + l], state = theirs.states[GUARD + l];
         by_state[state]++;
-        if (state != 2) barred[length] += is_barred_by_a_patch(ring, length);
+        if (state == 4 && length > REFERENCE_LONGEST_LOOP) long_rims++;
+        if (state == 4 && length <= REFERENCE_LONGEST_LOOP) rims[length]++;
+        if (state == 1 || state == 3) barred[length] += is_barred_by_a_patch(ring, length);
         if (state == 1) {
             patched[length]++;
             mark(patch, 3 * (length - 2), 1);
@@ -66,11 +69,12 @@ static void meet(void) {
     mark(patches, due.corners, 0);
 }
 
-/* Whether every answer and every state was met, and loops of every length that are patched, and that a patch bars. */
+/* Whether every answer and every state was met, rims of every length, and loops of every length that are patched, and that a patch bars. */
 static int met_all(void) {
-    size_t missing = patched[3] == 0;
+    size_t missing = (patched[3] == 0) + (long_rims == 0);
     for (size_t n = 0; n <= 8; n++) missing += by_answer[n] == 0;
-    for (size_t s = 1; s <= 3; s++) missing += by_state[s] == 0;
+    for (size_t s = 1; s <= 4; s++) missing += by_state[s] < 20;
+    for (size_t n = 3; n <= REFERENCE_LONGEST_LOOP; n++) missing += rims[n] == 0;
     for (size_t n = 4; n <= REFERENCE_LONGEST_LOOP; n++) missing += (patched[n] == 0) + (barred[n] == 0);
     if (missing > 0) printf("%zu answers, states or lengths were not met\n", missing);
     return missing == 0;
@@ -135,7 +139,7 @@ static size_t compare_sheets(uint64_t seed, size_t *sheets) {
 
 /* ---- Examples ---- */
 
-/* An example with what the scope says of it: the rings one after the other, and for each loop its length, state and weight. */
+/* An example with what is said of it: the rings one after the other, and for each loop its length, state and weight. */
 struct example {
     const char *name;
     size_t points;
@@ -149,22 +153,30 @@ struct example {
     uint16_t patches[24];
 };
 
+/* Most of the scope's surfaces have loops that are each alone in their piece. */
 static const struct example examples[] = {
     {"no points", 0, {0}, 0, {0}, 0, {0}, {0}, {0}, {0}, 0, {0}},
     {"no triangles", 3, {0}, 0, {0}, 0, {0}, {0}, {0}, {0}, 0, {0}},
-    {"the listing's triangle", 3, {0, 0, 0, 1, 0, 0, 0, 1, 0}, 3, {0, 1, 2}, 1, {0, 1, 2}, {3}, {1}, {1}, 3, {0, 2, 1}},
-    {"bow-tie", 5, {0}, 6, {0, 1, 2, 0, 3, 4}, 2, {0, 1, 2, 0, 3, 4}, {3, 3}, {1, 1}, {0, 0}, 6, {0, 2, 1, 0, 4, 3}},
-    {"pinched strip", 5, {0}, 12, {0, 1, 2, 2, 1, 3, 2, 3, 4, 4, 3, 0}, 2, {0, 1, 3, 0, 4, 2}, {3, 3}, {1, 1}, {0, 0}, 6, {0, 3, 1, 0, 2, 4}},
-    {"a diagonal that the input bars", 4, {0, 0, 0, 10, 0, 0, 10, 10, 0, 0, 10, 4}, 6, {0, 1, 2, 0, 2, 3}, 1, {0, 1, 2, 3}, {4}, {1}, {280}, 6, {0, 3, 1, 1, 3, 2}},
-    {"cone", 5, {0, 0, 0, 10, 0, 0, 3, 3, 0, 0, 10, 0, 4, 4, 9}, 12, {0, 1, 4, 1, 2, 4, 2, 3, 4, 3, 0, 4}, 1, {0, 1, 2, 3}, {4}, {1}, {60}, 6, {0, 3, 2, 0, 2, 1}},
-    {"cone with two equal covers", 5, {0, 0, 0, 10, 0, 0, 10, 10, 0, 0, 10, 4, 4, 4, 9}, 12, {0, 1, 4, 1, 2, 4, 2, 3, 4, 3, 0, 4}, 1, {0, 1, 2, 3}, {4}, {1}, {280}, 6, {0, 3, 1, 1, 3, 2}},
-    {"no allowed cover, and the run goes on", 5, {0, 0, 0, 10, 0, 0, 10, 10, 0, 0, 10, 4, 4, 4, 9}, 9, {0, 1, 2, 0, 2, 3, 1, 3, 4}, 2, {0, 1, 2, 3, 1, 3, 4}, {4, 3}, {3, 1}, {0, 160}, 3, {1, 4, 3}},
-    {"every diagonal barred by the input", 11, {0}, 30, {0, 1, 5, 1, 2, 5, 2, 3, 5, 3, 4, 5, 4, 0, 5, 0, 2, 6, 1, 3, 7, 2, 4, 8, 3, 0, 9, 4, 1, 10}, 6, {0, 1, 2, 3, 4, 0, 2, 6, 1, 3, 7, 2, 4, 8, 3, 0, 9, 4, 1, 10}, {5, 3, 3, 3, 3, 3}, {3, 1, 1, 1, 1, 1}, {0}, 15, {0, 6, 2, 1, 7, 3, 2, 8, 4, 3, 9, 0, 4, 10, 1}},
-    {"a diagonal that the first loop's patch bars", 10, {0}, 24, {0, 1, 8, 1, 2, 8, 2, 3, 8, 3, 0, 8, 4, 1, 9, 1, 5, 9, 5, 3, 9, 3, 4, 9}, 2, {0, 1, 2, 3, 4, 1, 5, 3}, {4, 4}, {1, 1}, {0}, 12, {0, 3, 1, 1, 3, 2, 4, 3, 5, 4, 5, 1}},
-    {"every diagonal barred by a patch", 11, {0}, 36, {0, 1, 8, 1, 2, 8, 2, 3, 8, 3, 0, 8, 4, 5, 9, 5, 6, 9, 6, 7, 9, 7, 4, 9, 1, 5, 10, 5, 3, 10, 3, 7, 10, 7, 1, 10}, 3, {0, 1, 2, 3, 4, 5, 6, 7, 1, 5, 3, 7}, {4, 4, 4}, {1, 1, 3}, {0}, 12, {0, 3, 1, 1, 3, 2, 4, 7, 5, 5, 7, 6}},
+    {"the listing's triangle", 3, {0, 0, 0, 1, 0, 0, 0, 1, 0}, 3, {0, 1, 2}, 1, {0, 1, 2}, {3}, {4}, {0}, 0, {0}},
+    {"bow-tie", 5, {0}, 6, {0, 1, 2, 0, 3, 4}, 2, {0, 1, 2, 0, 3, 4}, {3, 3}, {4, 4}, {0, 0}, 0, {0}},
+    {"pinched strip, all its points in one place", 5, {0}, 12, {0, 1, 2, 2, 1, 3, 2, 3, 4, 4, 3, 0}, 2, {0, 1, 3, 0, 4, 2}, {3, 3}, {4, 1}, {0, 0}, 3, {0, 2, 4}},
+    {"pinched strip", 5, {0, 0, 0, 10, 0, 0, 10, 10, 0, 0, 10, 4, 4, 4, 9}, 12, {0, 1, 2, 2, 1, 3, 2, 3, 4, 4, 3, 0}, 2, {0, 1, 3, 0, 4, 2}, {3, 3}, {1, 4}, {140, 0}, 3, {0, 3, 1}},
+    {"a fold", 4, {0, 0, 0, 10, 0, 0, 10, 10, 0, 0, 10, 4}, 6, {0, 1, 2, 0, 2, 3}, 1, {0, 1, 2, 3}, {4}, {4}, {0}, 0, {0}},
+    {"cone", 5, {0, 0, 0, 10, 0, 0, 3, 3, 0, 0, 10, 0, 4, 4, 9}, 12, {0, 1, 4, 1, 2, 4, 2, 3, 4, 3, 0, 4}, 1, {0, 1, 2, 3}, {4}, {4}, {0}, 0, {0}},
+    {"a fold and a triangle across it", 5, {0, 0, 0, 10, 0, 0, 10, 10, 0, 0, 10, 4, 4, 4, 9}, 9, {0, 1, 2, 0, 2, 3, 1, 3, 4}, 2, {0, 1, 2, 3, 1, 3, 4}, {4, 3}, {4, 4}, {0}, 0, {0}},
     {"tetrahedron", 4, {0}, 12, {0, 1, 2, 0, 2, 3, 0, 3, 1, 1, 3, 2}, 0, {0}, {0}, {0}, {0}, 0, {0}},
+    {"a plate with a hole", 6, {0, 0, 0, 30, 0, 0, 0, 30, 0, 5, 5, 0, 15, 5, 0, 5, 15, 0}, 18, {0, 1, 3, 1, 4, 3, 1, 2, 4, 2, 5, 4, 2, 0, 5, 0, 3, 5}, 2, {0, 1, 2, 4, 3, 5}, {3, 3}, {4, 1}, {0, 100}, 3, {4, 5, 3}},
+    {"an island in its hole", 9, {0, 0, 0, 30, 0, 0, 0, 30, 0, 5, 5, 0, 15, 5, 0, 5, 15, 0, 6, 6, 0, 8, 6, 0, 6, 8, 0}, 21, {0, 1, 3, 6, 7, 8, 1, 4, 3, 1, 2, 4, 2, 5, 4, 2, 0, 5, 0, 3, 5}, 3, {0, 1, 2, 6, 7, 8, 4, 3, 5}, {3, 3, 3}, {4, 4, 1}, {0, 0, 100}, 3, {4, 5, 3}},
+    {"the greatest run of all in another piece", 9, {0, 0, 0, 30, 0, 0, 0, 30, 0, 5, 5, 0, 15, 5, 0, 5, 15, 0, 0, 0, 9, 900, 0, 9, 0, 900, 9}, 21, {6, 7, 8, 0, 1, 3, 1, 4, 3, 1, 2, 4, 2, 5, 4, 2, 0, 5, 0, 3, 5}, 3, {6, 7, 8, 0, 1, 2, 4, 3, 5}, {3, 3, 3}, {4, 4, 1}, {0, 0, 100}, 3, {4, 5, 3}},
+    {"equal runs", 6, {0, 0, 0, 10, 0, 0, 0, 10, 0, 0, 0, 5, 10, 0, 5, 0, 10, 5}, 18, {0, 1, 3, 1, 4, 3, 1, 2, 4, 2, 5, 4, 2, 0, 5, 0, 3, 5}, 2, {0, 1, 2, 4, 3, 5}, {3, 3}, {4, 1}, {0, 100}, 3, {4, 5, 3}},
+    {"equal runs, the other loop listed first", 6, {0, 0, 0, 10, 0, 0, 0, 10, 0, 0, 0, 5, 10, 0, 5, 0, 10, 5}, 18, {4, 3, 1, 0, 1, 3, 1, 2, 4, 2, 5, 4, 2, 0, 5, 0, 3, 5}, 2, {4, 3, 5, 0, 1, 2}, {3, 3}, {4, 1}, {0, 100}, 3, {0, 2, 1}},
+    {"the closing edge decides", 6, {0, 0, 0, 10, 0, 0, 20, 0, 0, 12, 0, 1, 0, 0, 1, 0, 1, 1}, 18, {4, 3, 1, 0, 1, 3, 1, 2, 4, 2, 5, 4, 2, 0, 5, 0, 3, 5}, 2, {4, 3, 5, 0, 1, 2}, {3, 3}, {1, 4}, {12, 0}, 3, {4, 5, 3}},
+    {"differences that cancel if added with their signs", 6, {0, 0, 0, 10, -10, 0, 20, -20, 0, 12, 0, 0, 0, 0, 0, 0, 1, 0}, 18, {4, 3, 1, 0, 1, 3, 1, 2, 4, 2, 5, 4, 2, 0, 5, 0, 3, 5}, 2, {4, 3, 5, 0, 1, 2}, {3, 3}, {1, 4}, {12, 0}, 3, {4, 5, 3}},
+    {"the inner loop runs further", 6, {1, 1, 0, 2, 1, 0, 1, 2, 0, 0, 0, 9, 50, 0, 9, 0, 50, 9}, 18, {0, 1, 3, 1, 4, 3, 1, 2, 4, 2, 5, 4, 2, 0, 5, 0, 3, 5}, 2, {0, 1, 2, 4, 3, 5}, {3, 3}, {1, 4}, {1, 0}, 3, {0, 2, 1}},
+    {"the greatest runs there are", 6, {-32767, -32767, -32767, 32767, 32767, 32767, -32767, -32767, -32767, 32767, 32767, 32767, -32767, -32767, -32767, 32767, 32767, 32766}, 18, {0, 1, 3, 1, 4, 3, 1, 2, 4, 2, 5, 4, 2, 0, 5, 0, 3, 5}, 2, {0, 1, 2, 4, 3, 5}, {3, 3}, {4, 1}, {0, 131068}, 3, {4, 5, 3}},
 };
 
+/* Whether the patcher leaves what is known of an example. */
 static int shows(const struct example *e) {
     static struct generated_surface surface;
     size_t vertices = 0;
@@ -181,23 +193,123 @@ static int shows(const struct example *e) {
     return right;
 }
 
-/* A cone with a rim of n edges, all its points at 0,0,0: the first choice of each stretch is taken; or the rim is long. */
-static int shows_rim(size_t n) {
+/* ---- Holes ---- */
+
+/* Rings each closed in by a frame of three points far out, which is a rim, and triangles over their diagonals, some of them islands with a
+   rim of their own: what is known of the rings. */
+struct holes {
+    const char *name;
+    size_t points;
+    int16_t at[33];
+    size_t rings;
+    uint16_t lengths[3], ring[12];
+    size_t bars, islands;
+    uint16_t bar[15];
+    uint16_t states[3];
+    uint64_t weights[3];
+    size_t laid;
+    uint16_t patches[15];
+};
+
+#define SQUARE {0, 0, 0, 10, 0, 0, 10, 10, 0, 0, 10, 4}
+
+static const struct holes holes[] = {
+    {"a hole of three", 3, {0, 0, 0, 1, 0, 0, 0, 1, 0}, 1, {3}, {0, 1, 2}, 0, 0, {0}, {1}, {1}, 3, {0, 2, 1}},
+    {"two holes that share a vertex", 5, {0}, 2, {3, 3}, {0, 1, 2, 0, 3, 4}, 0, 0, {0}, {1, 1}, {0, 0}, 6, {0, 2, 1, 0, 4, 3}},
+    {"a diagonal that the input bars", 5, SQUARE, 1, {4}, {0, 1, 2, 3}, 2, 0, {0, 2, 4, 0, 4, 2}, {1}, {280}, 6, {0, 3, 1, 1, 3, 2}},
+    {"a diagonal that an island bars", 5, SQUARE, 1, {4}, {0, 1, 2, 3}, 1, 1, {1, 3, 4}, {1}, {280}, 6, {0, 3, 2, 0, 2, 1}},
+    {"the lighter cover", 4, {0, 0, 0, 10, 0, 0, 3, 3, 0, 0, 10, 0}, 1, {4}, {0, 1, 2, 3}, 0, 0, {0}, {1}, {60}, 6, {0, 3, 2, 0, 2, 1}},
+    {"two equal covers", 4, SQUARE, 1, {4}, {0, 1, 2, 3}, 0, 0, {0}, {1}, {280}, 6, {0, 3, 1, 1, 3, 2}},
+    {"no allowed cover, and the run goes on", 9, {0, 0, 0, 10, 0, 0, 10, 10, 0, 0, 10, 4, 0, 0, 0, 0, 0, 0, 0, 0, 0, 8, 0, 0, 0, 8, 0}, 2, {4, 3}, {0, 1, 2, 3, 6, 7, 8}, 3, 1, {0, 2, 4, 0, 4, 2, 1, 3, 5}, {3, 1}, {0, 64}, 3, {6, 8, 7}},
+    {"every diagonal barred by the input", 10, {0}, 1, {5}, {0, 1, 2, 3, 4}, 5, 5, {0, 2, 5, 1, 3, 6, 2, 4, 7, 3, 0, 8, 4, 1, 9}, {3}, {0}, 0, {0}},
+    {"a diagonal that the first hole's patch bars", 6, {0}, 2, {4, 4}, {0, 1, 2, 3, 4, 1, 5, 3}, 0, 0, {0}, {1, 1}, {0}, 12, {0, 3, 1, 1, 3, 2, 4, 3, 5, 4, 5, 1}},
+    {"every diagonal barred by a patch", 8, {0}, 3, {4, 4, 4}, {0, 1, 2, 3, 4, 5, 6, 7, 1, 5, 3, 7}, 0, 0, {0}, {1, 1, 3}, {0}, 12, {0, 3, 1, 1, 3, 2, 4, 7, 5, 5, 7, 6}},
+};
+
+/* Closes a ring in by a frame of so many points, the first of that number, which lie far out. */
+static void close_in(struct generated_surface *s, const uint16_t *ring, size_t length, size_t first, size_t edges) {
+    uint16_t frame[REFERENCE_LONGEST_LOOP + 2];
+    for (size_t f = 0; f < edges; f++) {
+        frame[f] = (uint16_t)(first + f);
+        s->words[3 * frame[f]] = sheet_word(f % 2 == 0 ? 30000 : -30000);
+        s->words[3 * frame[f] + 1] = s->words[3 * frame[f] + 2] = 0;
+    }
+    sheet_add_collar(s, ring, length, frame, edges);
+}
+
+/* Whether a loop is a rim of so many edges; gives where the next ring begins. */
+static const uint16_t *is_rim(const uint16_t *ring, size_t loop, size_t edges, int *right) {
+    *right = *right && ours.lengths[GUARD + loop] == edges && ours.states[GUARD + loop] == 4 && ours.weights[GUARD + loop] == 0;
+    return ring + edges;
+}
+
+/* Rings and frames take turns, since each collar begins with its ring; then come the islands. */
+static int shows_holes(const struct holes *e) {
     static struct generated_surface surface;
-    uint16_t rim[REFERENCE_LONGEST_LOOP + 1];
+    const uint16_t *known = e->ring, *ring = ours.rings + GUARD;
+    surface.word_count = 3 * (e->points + 3 * e->rings);
+    surface.corner_count = 0;
+    for (size_t w = 0; w < 3 * e->points; w++) surface.words[w] = sheet_word(e->at[w]);
+    for (size_t r = 0; r < e->rings; known += e->lengths[r++]) close_in(&surface, known, e->lengths[r], e->points + 3 * r, 3);
+    for (size_t b = 0; b < e->bars; b++) sheet_add_triangle(&surface, e->bar[3 * b], e->bar[3 * b + 1], e->bar[3 * b + 2]);
+    generate_lend_exactly(&surface);
+    int right = agree(&surface) && said.number == 0 && said.loops == 2 * e->rings + e->islands && said.corners == e->laid;
+    known = e->ring;
+    for (size_t r = 0; r < e->rings; r++) {
+        size_t length = e->lengths[r];
+        right = right && ours.lengths[GUARD + 2 * r] == length && ours.states[GUARD + 2 * r] == e->states[r] && ours.weights[GUARD + 2 * r] == e->weights[r] && memcmp(ring, known, length * sizeof *ring) == 0;
+        ring = is_rim(ring + length, 2 * r + 1, 3, &right);
+        known += length;
+    }
+    for (size_t island = 0; island < e->islands; island++) ring = is_rim(ring, 2 * e->rings + island, 3, &right);
+    right = right && memcmp(ours.patches + GUARD, e->patches, e->laid * sizeof *e->patches) == 0;
+    if (!right) printf("holes \"%s\": answered %zu, %zu; %zu, %zu, %zu\n", e->name, said.number, said.place, said.loops, said.vertices, said.corners);
+    return right;
+}
+
+/* ---- Every length ---- */
+
+/* A cone with a foot of n edges is an island. */
+static int shows_island(size_t n) {
+    static struct generated_surface surface;
+    uint16_t rim[REFERENCE_LONGEST_LOOP + 2];
     for (size_t r = 0; r < n; r++) rim[r] = (uint16_t)r;
     surface.corner_count = 0;
     sheet_add_cone(&surface, rim, n, (uint16_t)n);
     surface.word_count = 3 * (n + 1);
     generate_lend_exactly(&surface);
+    int right = agree(&surface) && said.number == 0 && said.loops == 1 && said.vertices == n && said.corners == 0;
+    is_rim(ours.rings + GUARD, 0, n, &right);
+    if (!right) printf("island of %zu: answered %zu, %zu, state %d\n", n, said.number, said.place, ours.states[GUARD]);
+    return right;
+}
+
+/* A hole of n edges in a rim of so many, the hole's points all at 0,0,0: the first choice of each stretch is taken; or the hole is long. */
+static int shows_hole(size_t n, size_t edges) {
+    static struct generated_surface surface;
+    uint16_t ring[REFERENCE_LONGEST_LOOP + 2];
+    for (size_t r = 0; r < n; r++) ring[r] = (uint16_t)r;
+    surface.corner_count = 0;
+    memset(surface.words, 0, sizeof surface.words);
+    close_in(&surface, ring, n, n, edges);
+    surface.word_count = 3 * (n + edges);
+    generate_lend_exactly(&surface);
     size_t laid = n > REFERENCE_LONGEST_LOOP ? 0 : n - 2;
-    int right = agree(&surface) && said.number == 0 && said.loops == 1 && said.vertices == n && said.corners == 3 * laid && ours.lengths[GUARD] == n && ours.states[GUARD] == (laid == 0 ? 2 : 1) && ours.weights[GUARD] == 0;
+    int right = agree(&surface) && said.number == 0 && said.loops == 2 && said.vertices == n + edges && said.corners == 3 * laid && ours.lengths[GUARD] == n && ours.states[GUARD] == (laid == 0 ? 2 : 1) && ours.weights[GUARD] == 0;
+    is_rim(ours.rings + GUARD + n, 1, edges, &right);
     for (size_t t = 0; t < laid; t++) {
         const uint16_t *patch = ours.patches + GUARD + 3 * t;
         right = right && patch[0] == t && patch[1] == n - 1 && patch[2] == t + 1;
     }
-    if (!right) printf("rim of %zu: answered %zu, %zu, state %d\n", n, said.number, said.place, ours.states[GUARD]);
+    if (!right) printf("hole of %zu in a rim of %zu: answered %zu, %zu, states %d, %d\n", n, edges, said.number, said.place, ours.states[GUARD], ours.states[GUARD + 1]);
     return right;
+}
+
+/* Islands of every length, holes of every length, and rims of every length about a hole. */
+static size_t compare_lengths(void) {
+    size_t wrong = 0;
+    for (size_t n = 3; n <= REFERENCE_LONGEST_LOOP + 2; n++) wrong += !shows_island(n) + !shows_hole(n, 3) + !shows_hole(3, n) + !shows_hole(n, n);
+    return wrong;
 }
 
 static size_t refusals;
@@ -261,15 +373,16 @@ static size_t compare_refusals(void) {
 int main(int count, char **arguments) {
     size_t many = count > 1 ? strtoull(arguments[1], 0, 10) : 8000;
     uint64_t seed = count > 2 ? strtoull(arguments[2], 0, 10) : 20261115;
-    size_t named = sizeof examples / sizeof examples[0], sheets, barred_loops = 0;
+    size_t named = sizeof examples / sizeof examples[0], closed_in = sizeof holes / sizeof holes[0], sheets, barred_loops = 0;
     size_t wrong = compare_sheets(seed, &sheets) + compare_refusals();
     for (size_t i = 0; i < named; i++) wrong += !shows(&examples[i]);
-    for (size_t n = 3; n <= REFERENCE_LONGEST_LOOP + 1; n++) wrong += !shows_rim(n);
+    for (size_t i = 0; i < closed_in; i++) wrong += !shows_holes(&holes[i]);
+    wrong += compare_lengths();
     wrong += compare_made(many, seed);
     wrong += count < 2 && !met_all();
     for (size_t n = 4; n <= REFERENCE_LONGEST_LOOP; n++) barred_loops += barred[n];
-    printf("patches: %zu examples, %d rims, %zu refusals, %zu sheets, %zu made from seed %" PRIu64 ", %zu wrong; ", named, REFERENCE_LONGEST_LOOP - 1, refusals, sheets, many, seed, wrong);
-    printf("loops made by state: 1: %zu 2: %zu 3: %zu; barred by a patch: %zu; by answer:", by_state[1], by_state[2], by_state[3], barred_loops);
+    printf("patches: %zu examples, islands, holes and rims of %d lengths, %zu refusals, %zu sheets, %zu made from seed %" PRIu64 ", %zu wrong; ", named + closed_in, REFERENCE_LONGEST_LOOP, refusals, sheets, many, seed, wrong);
+    printf("loops made by state: 1: %zu 2: %zu 3: %zu 4: %zu; barred by a patch: %zu; by answer:", by_state[1], by_state[2], by_state[3], by_state[4], barred_loops);
     for (int n = 0; n <= 8; n++) printf(" %d: %zu", n, by_answer[n]);
     printf("\n");
     return wrong != 0;

@@ -42,17 +42,24 @@ static size_t between(struct generator *generator, size_t low, size_t high)
 
 /* ---- Building a surface ---- */
 
-/* A surface as it grows: triangles over points numbered from 0. */
+/* A surface as it grows: triangles over points numbered from 0. A point may be meant to lie outside of all others, or where
+   another lies; what number each has in the end is decided after the shapes. */
 struct build {
     uint16_t corners[REFERENCE_MOST_CORNERS];
     size_t count;
     size_t points;
+    unsigned char outside[REFERENCE_MOST_POINTS];
+    uint16_t lies_at[REFERENCE_MOST_POINTS];
+    uint16_t numbers[REFERENCE_MOST_POINTS];
 };
 
 /* A fresh point, or an old one where there are no more. */
 static uint16_t new_point(struct build *build)
 {
     if (build->points < REFERENCE_MOST_POINTS) {
+        build->outside[build->points] = 0;
+        build->lies_at[build->points] = (uint16_t)build->points;
+        build->numbers[build->points] = (uint16_t)build->points;
         build->points += 1;
     }
     return (uint16_t)(build->points - 1);
@@ -163,6 +170,48 @@ static void build_fan(struct generator *generator, struct build *build, size_t c
     }
 }
 
+/* A collar between a ring and the frame that closes it in, from spoke to spoke in any order; the ring's edges are open in its
+   order, the frame's against theirs. */
+static void build_collar_over(struct generator *generator, struct build *build, const uint16_t *ring, size_t length,
+                              const uint16_t *frame, size_t edges)
+{
+    size_t r = 0;
+    size_t f = 0;
+    while (r + f < length + edges) {
+        int inwards = r + f < 2 ? r == 0 : generate_below(generator, length + edges - r - f) < length - r;
+        if (inwards) {
+            add_triangle(build, ring[r % length], ring[(r + 1) % length], frame[f % edges]);
+            r += 1;
+        } else {
+            add_triangle(build, frame[(f + 1) % edges], frame[f % edges], ring[r % length]);
+            f += 1;
+        }
+    }
+}
+
+/* A run of fresh points that are meant to lie outside. */
+static void new_points_outside(struct build *build, uint16_t *points, size_t count)
+{
+    new_points(build, points, count);
+    for (size_t p = 0; p < count; p++) {
+        build->outside[points[p]] = 1;
+    }
+}
+
+/* Closes a ring in: by a cone, so that it is the coast of an island, or by a collar, so that it is a hole unless it runs further
+   than the frame. */
+static void close_in(struct generator *generator, struct build *build, const uint16_t *ring, size_t length)
+{
+    uint16_t frame[8];
+    size_t edges = chance(generator, 2) ? 3 : between(generator, 3, 8);
+    if (chance(generator, 4)) {
+        build_fan_over(build, new_point(build), ring, length, 1);
+        return;
+    }
+    new_points_outside(build, frame, edges);
+    build_collar_over(generator, build, ring, length, frame, edges);
+}
+
 /* Several fans, open or closed, at one hub. */
 static void build_fans_at_one_vertex(struct generator *generator, struct build *build, size_t most)
 {
@@ -209,9 +258,10 @@ static void build_disc(struct generator *generator, struct build *build, size_t 
     }
 }
 
-/* A band between two rims of `count` edges each. */
-static void build_band(struct build *build, size_t count)
+/* A band between two rings of `count` edges each, which may be meant to lie in the same places: their runs are then equal. */
+static void build_band(struct generator *generator, struct build *build, size_t count)
 {
+    int equal = chance(generator, 2);
     uint16_t inner[REFERENCE_MOST_POINTS];
     uint16_t outer[REFERENCE_MOST_POINTS];
     if (2 * count > REFERENCE_MOST_POINTS) {
@@ -221,6 +271,7 @@ static void build_band(struct build *build, size_t count)
     new_points(build, outer, count);
     for (size_t r = 0; r < count; r++) {
         size_t s = (r + 1) % count;
+        build->lies_at[outer[r]] = equal ? inner[r] : outer[r];
         add_triangle(build, inner[r], inner[s], outer[s]);
         add_triangle(build, inner[r], outer[s], outer[r]);
     }
@@ -249,8 +300,8 @@ static void build_closed(struct generator *generator, struct build *build)
     }
 }
 
-/* Cones whose rims share vertices, so that a diagonal laid for one bars the others. */
-static void build_sharing_cones(struct generator *generator, struct build *build, size_t most)
+/* Rings that share vertices, each closed in, so that a diagonal laid for one bars the others. */
+static void build_sharing_rings(struct generator *generator, struct build *build, size_t most)
 {
     uint16_t shared[4];
     uint16_t rim[16];
@@ -265,46 +316,151 @@ static void build_sharing_cones(struct generator *generator, struct build *build
                 rim[2 * s] = shared[s];
             }
         }
-        build_fan_over(build, new_point(build), rim, count, 1);
+        close_in(generator, build, rim, count);
     }
 }
 
-/* A cone with triangles over pairs of its rim, which bar diagonals. */
-static void build_barred_cone(struct generator *generator, struct build *build, size_t most)
+/* A ring closed in, with triangles over pairs of its vertices, which bar diagonals: flaps on its edges, islands, and pillows
+   without an open edge. */
+static void build_barred_ring(struct generator *generator, struct build *build, size_t most)
 {
-    uint16_t rim[REFERENCE_LONGEST_LOOP + 1];
+    uint16_t ring[REFERENCE_LONGEST_LOOP + 1];
     size_t longest = most < REFERENCE_LONGEST_LOOP ? most : REFERENCE_LONGEST_LOOP + 1;
     size_t count = between(generator, 4, longest < 5 ? 5 : longest);
     size_t bars = between(generator, 1, count * (chance(generator, 3) ? 3 : 1));
-    uint16_t hub;
-    new_points(build, rim, count);
-    hub = new_point(build);
-    build_fan_over(build, hub, rim, count, 1);
+    new_points(build, ring, count);
+    close_in(generator, build, ring, count);
     for (size_t bar = 0; bar < bars; bar++) {
-        uint16_t a = rim[generate_below(generator, count)];
-        uint16_t b = rim[generate_below(generator, count)];
-        uint16_t c = chance(generator, 3) ? rim[generate_below(generator, count)] : new_point(build);
+        uint16_t a = ring[generate_below(generator, count)];
+        uint16_t b = ring[generate_below(generator, count)];
+        uint16_t c = chance(generator, 3) ? ring[generate_below(generator, count)] : new_point(build);
         add_triangle(build, a, b, c);
+        if (chance(generator, 3)) {
+            add_triangle(build, a, c, b);
+        }
     }
 }
 
-/* A loop of exactly 63, 64 or 65 edges, on a cone, a band or a strip. */
+/* A loop of exactly 63, 64 or 65 edges, closed in, on a band or on a strip. */
 static void build_edge_of_long(struct generator *generator, struct build *build)
 {
     size_t count = between(generator, REFERENCE_LONGEST_LOOP - 1, REFERENCE_LONGEST_LOOP + 1);
     uint16_t points[REFERENCE_LONGEST_LOOP + 1];
-    switch (generate_below(generator, 3)) {
+    switch (generate_below(generator, 5)) {
     case 0:
-        build_fan(generator, build, count, 1);
+        build_band(generator, build, count);
         break;
     case 1:
-        build_band(build, count);
-        break;
-    default:
         new_points(build, points, count);
         build_strip_over(build, points, count);
         break;
+    default:
+        new_points(build, points, count);
+        close_in(generator, build, points, count);
+        break;
     }
+}
+
+/* How many edges a hole has: three, four, some, or up to more than are patched. */
+static size_t hole_length(struct generator *generator, size_t most)
+{
+    switch (generate_below(generator, most > 50 ? 6 : 40)) {
+    case 0: return between(generator, REFERENCE_LONGEST_LOOP - 2, REFERENCE_LONGEST_LOOP + 6);
+    case 1: return between(generator, 3, REFERENCE_LONGEST_LOOP);
+    default: return chance(generator, 2) ? between(generator, 3, 4) : between(generator, 4, 9);
+    }
+}
+
+/* The rim of a plate as it grows: its open edges run against its order. */
+struct coast {
+    uint16_t points[REFERENCE_MOST_POINTS];
+    size_t count;
+};
+
+/* A frame for one hole more: of fresh points but for two, which are the ends of an edge of the coast, so that the frame is joined
+   to it there and lengthens it. */
+static size_t lengthen(struct generator *generator, struct build *build, struct coast *coast, uint16_t *frame)
+{
+    size_t edges = chance(generator, 2) ? 3 : between(generator, 3, 9);
+    size_t at = coast->count == 0 ? 0 : generate_below(generator, coast->count);
+    new_points_outside(build, frame, edges);
+    if (coast->count == 0) {
+        for (size_t f = 0; f < edges; f++) {
+            coast->points[f] = frame[f];
+        }
+        coast->count = edges;
+        return edges;
+    }
+    frame[0] = coast->points[(at + 1) % coast->count];
+    frame[1] = coast->points[at];
+    coast->count += edges - 2;
+    for (size_t c = coast->count; c > at + edges - 1; c--) {
+        coast->points[c - 1] = coast->points[c - edges + 1];
+    }
+    for (size_t f = 2; f < edges; f++) {
+        coast->points[at + f - 1] = frame[f];
+    }
+    return edges;
+}
+
+/* The ring of a hole: fresh points, and where it is to touch others a point of the plate in place of some. */
+static void new_hole(struct generator *generator, struct build *build, size_t first, uint16_t *ring, size_t length)
+{
+    int touching = build->points > first && chance(generator, 4);
+    for (size_t r = 0; r < length; r++) {
+        ring[r] = touching && chance(generator, 4)
+            ? (uint16_t)between(generator, first, build->points - 1) : new_point(build);
+    }
+}
+
+/* What lies within a hole: flaps on its edges, an island, an island that touches it, or triangles over its diagonals. */
+static void fill_hole(struct generator *generator, struct build *build, const uint16_t *ring, size_t length)
+{
+    size_t times = between(generator, 1, 3);
+    for (size_t t = 0; t < times; t++) {
+        size_t r = generate_below(generator, length);
+        uint16_t other = ring[generate_below(generator, length)];
+        uint16_t fresh = new_point(build);
+        switch (generate_below(generator, 5)) {
+        case 0: add_triangle(build, ring[(r + 1) % length], ring[r], fresh); break;
+        case 1: build_fan(generator, build, between(generator, 3, 6), 1); break;
+        case 2: add_triangle(build, ring[r], fresh, new_point(build)); break;
+        case 3: add_triangle(build, ring[r], other, fresh); break;
+        default: add_triangle(build, ring[(r + 1) % length], ring[r], other); break;
+        }
+    }
+}
+
+/* A plate: one hole or several, each in a collar, and the collars joined at edges of their frames. */
+static void build_plate(struct generator *generator, struct build *build, size_t most)
+{
+    uint16_t ring[REFERENCE_LONGEST_LOOP + 6];
+    uint16_t frame[9];
+    struct coast coast;
+    size_t first = build->points;
+    size_t holes = chance(generator, 2) ? 1 : between(generator, 1, 3 + most / 40);
+    coast.count = 0;
+    for (size_t hole = 0; hole < holes && build->points < REFERENCE_MOST_POINTS - 100; hole++) {
+        size_t length = hole_length(generator, most);
+        size_t edges = lengthen(generator, build, &coast, frame);
+        new_hole(generator, build, first, ring, length);
+        build_collar_over(generator, build, ring, length, frame, edges);
+        if (chance(generator, 4)) {
+            fill_hole(generator, build, ring, length);
+        }
+    }
+}
+
+/* A hole in a frame of many edges, which is then longer than any loop that is patched. */
+static void build_long_frame(struct generator *generator, struct build *build)
+{
+    uint16_t ring[REFERENCE_LONGEST_LOOP + 6];
+    uint16_t frame[REFERENCE_LONGEST_LOOP + 36];
+    size_t length = hole_length(generator, 100);
+    size_t edges = between(generator, REFERENCE_LONGEST_LOOP - 1, REFERENCE_LONGEST_LOOP + 36);
+    new_points(build, ring, length);
+    new_points_outside(build, frame, edges);
+    build_collar_over(generator, build, ring, length, frame, edges);
 }
 
 /* The surfaces of the scope's bench examples. */
@@ -326,7 +482,7 @@ static void build_example(struct generator *generator, struct build *build)
 
 static void build_shape(struct generator *generator, struct build *build, size_t most, int loose)
 {
-    switch (generate_below(generator, 15)) {
+    switch (generate_below(generator, 26)) {
     case 0: build_random(generator, build, most, loose); break;
     case 1: build_random(generator, build, most, 0); break;
     case 2: build_strip(generator, build, most, 0); break;
@@ -335,13 +491,17 @@ static void build_shape(struct generator *generator, struct build *build, size_t
     case 5: build_fan(generator, build, between(generator, 3, most + 3), 1); break;
     case 6: build_fans_at_one_vertex(generator, build, most); break;
     case 7: build_disc(generator, build, most); break;
-    case 8: build_band(build, between(generator, 3, most / 2 + 3)); break;
-    case 9: build_closed(generator, build); break;
-    case 10: build_sharing_cones(generator, build, most); break;
-    case 11: build_barred_cone(generator, build, most); break;
-    case 12: build_barred_cone(generator, build, 8); break;
-    case 13: build_edge_of_long(generator, build); break;
-    default: build_example(generator, build); break;
+    case 8: build_disc(generator, build, most + 30); break;
+    case 9: build_band(generator, build, between(generator, 3, most / 2 + 3)); break;
+    case 10: build_closed(generator, build); break;
+    case 11: build_sharing_rings(generator, build, most); break;
+    case 12: build_barred_ring(generator, build, most); break;
+    case 13: build_barred_ring(generator, build, 8); break;
+    case 14: build_barred_ring(generator, build, 5); break;
+    case 15: build_edge_of_long(generator, build); break;
+    case 16: build_long_frame(generator, build); break;
+    case 17: build_example(generator, build); break;
+    default: build_plate(generator, build, most); break;
     }
 }
 
@@ -355,8 +515,8 @@ static void join_points(struct generator *generator, struct build *build)
     for (size_t j = 0; j < times && build->points > 0; j++) {
         uint16_t keep = (uint16_t)generate_below(generator, build->points);
         uint16_t drop = (uint16_t)generate_below(generator, build->points);
+        joined = *build;
         joined.count = 0;
-        joined.points = build->points;
         for (size_t c = 0; c < build->count; c += 3) {
             uint16_t t[3];
             for (size_t s = 0; s < 3; s++) {
@@ -392,15 +552,11 @@ void generate_shuffle_triangles(struct generator *generator, uint16_t *corners, 
 /* Gives every point another number. */
 static void renumber_points(struct generator *generator, struct build *build)
 {
-    uint16_t numbers[REFERENCE_MOST_POINTS];
     for (size_t p = 0; p < build->points; p++) {
-        numbers[p] = (uint16_t)p;
-    }
-    for (size_t p = 0; p < build->points; p++) {
-        swap_corners(numbers, p, between(generator, p, build->points - 1));
+        swap_corners(build->numbers, p, between(generator, p, build->points - 1));
     }
     for (size_t c = 0; c < build->count; c++) {
-        build->corners[c] = numbers[build->corners[c]];
+        build->corners[c] = build->numbers[build->corners[c]];
     }
 }
 
@@ -465,7 +621,8 @@ static uint32_t extreme_word(struct generator *generator)
 {
     static const uint32_t words[8] = {0x46fffe00, 0x46fffeff, 0x46fffd00, 0x46fffcff,
                                       0x46fffe01, 0x46fffc00, 0x00000000, 0x46fffdff};
-    return words[generate_below(generator, 8)] | (uint32_t)(generate_below(generator, 2) << 31);
+    uint32_t sign = (uint32_t)(generate_below(generator, 2) << 31);
+    return sign | words[generate_below(generator, 8)];
 }
 
 /* Zeros, subnormals, the smallest normals, and values about a half. */
@@ -486,7 +643,15 @@ static uint32_t refused_word(struct generator *generator)
 {
     static const uint32_t words[10] = {0x7f800000, 0x7fc00000, 0x7f800001, 0x7fffffff, 0x46ffff00,
                                        0x47000000, 0x7f7fffff, 0x46ffff01, 0x4b000000, 0x4f000000};
-    return words[generate_below(generator, 10)] | (uint32_t)(generate_below(generator, 2) << 31);
+    uint32_t sign = (uint32_t)(generate_below(generator, 2) << 31);
+    return sign | words[generate_below(generator, 10)];
+}
+
+/* Any fraction below 2^14 in size, most of them tiny. */
+static uint32_t small_word(struct generator *generator)
+{
+    int64_t value = signed_between(generator, -0xffffff, 0xffffff);
+    return word_of(value, (uint32_t)between(generator, 10, 60));
 }
 
 /* A word on the plate, in one of the moods of a surface. */
@@ -500,8 +665,7 @@ static uint32_t word_in_mood(struct generator *generator, size_t mood)
     case 4: return extreme_word(generator);
     case 5: return tiny_word(generator);
     case 6: return word_of(signed_between(generator, -0x7ffeff, 0x7ffeff), 8);
-    case 7: return word_of(signed_between(generator, -0xffffff, 0xffffff),
-                           (uint32_t)between(generator, 10, 60));
+    case 7: return small_word(generator);
     default: return word_of(signed_between(generator, -20, 20), 0);
     }
 }
@@ -518,6 +682,20 @@ uint32_t generate_word(struct generator *generator)
         return word_of(signed_between(generator, -65540, 65540), 1);
     }
     return word_in_mood(generator, generate_below(generator, 9));
+}
+
+/* Puts the points that are meant to lie outside to the ends of the plate, and those that are meant to lie where another lies there. */
+static void place_as_meant(struct generator *generator, const struct build *build, uint32_t *words)
+{
+    for (size_t p = 0; p < build->points; p++) {
+        for (size_t axis = 0; axis < 3; axis++) {
+            if (build->outside[p]) {
+                int64_t end = p % 2 == 0 ? REFERENCE_GREATEST_COORDINATE : -REFERENCE_GREATEST_COORDINATE;
+                words[3 * p + axis] = word_of(chance(generator, 4) ? signed_between(generator, -32767, 32767) : end, 0);
+            }
+            words[3 * p + axis] = words[3 * (size_t)build->lies_at[p] + axis];
+        }
+    }
 }
 
 /* Points all over, all in one place, on a line, or in a plane. */
@@ -653,6 +831,7 @@ static void lend(struct generator *generator, struct generated_surface *surface)
 static void take_build(struct generator *generator, const struct build *build,
                        struct generated_surface *surface)
 {
+    uint32_t words[REFERENCE_MOST_WORDS];
     surface->word_count = 3 * build->points;
     surface->corner_count = build->count;
     for (size_t w = 0; w < GENERATE_WORD_ROOM; w++) {
@@ -661,7 +840,15 @@ static void take_build(struct generator *generator, const struct build *build,
     for (size_t c = 0; c < GENERATE_CORNER_ROOM; c++) {
         surface->corners[c] = c < build->count ? build->corners[c] : 0;
     }
-    place_points(generator, surface->words, build->points);
+    place_points(generator, words, build->points);
+    if (!chance(generator, 4)) {
+        place_as_meant(generator, build, words);
+    }
+    for (size_t p = 0; p < build->points; p++) {
+        for (size_t axis = 0; axis < 3; axis++) {
+            surface->words[3 * (size_t)build->numbers[p] + axis] = words[3 * p + axis];
+        }
+    }
     generate_lend_exactly(surface);
 }
 
@@ -744,6 +931,10 @@ static void choose_stretch(struct generator *generator, const struct reference_m
     choose_stretch(generator, memo, m, k, kind, set);
 }
 
+/* What a set does with rims: declares them, declares them and lays triangles for them all the same, or takes them for loops like
+   any other. */
+enum { RIMS_DECLARED, RIMS_LAID, RIMS_PAVED };
+
 /* The state of one loop and, if it is patched, its triangles. */
 static void choose_loop(struct generator *generator, const struct generated_surface *surface,
                         const int32_t *grid, const uint16_t *ring, size_t length, int kind, int shuffled,
@@ -772,8 +963,9 @@ static void choose_loop(struct generator *generator, const struct generated_surf
 
 /* A set over all loops: each of the given kind or the patcher's own. */
 static void choose_covers(struct generator *generator, const struct generated_surface *surface,
-                          int kind, int shuffled, struct generated_set *set)
+                          int kind, int with_rims, int shuffled, struct generated_set *set)
 {
+    unsigned char rims[REFERENCE_MOST_TRIANGLES];
     int32_t grid[REFERENCE_MOST_WORDS];
     uint16_t rings[REFERENCE_MOST_CORNERS];
     uint16_t lengths[REFERENCE_MOST_TRIANGLES];
@@ -784,9 +976,19 @@ static void choose_covers(struct generator *generator, const struct generated_su
     reference_survey(surface->words, surface->word_count, surface->corners, surface->corner_count,
                      grid, REFERENCE_MOST_WORDS, rings, REFERENCE_MOST_CORNERS,
                      lengths, REFERENCE_MOST_TRIANGLES, &answer);
+    if (answer.number == 0) {
+        reference_rims(grid, surface->corners, surface->corner_count, rings, lengths, answer.loops, rims);
+    }
     for (size_t loop = 0; loop < answer.loops; loop++) {
-        choose_loop(generator, surface, grid, ring, lengths[loop],
-                    chance(generator, 2) ? kind : COVER_OWN, shuffled, set);
+        if (!rims[loop] || with_rims != RIMS_DECLARED) {
+            choose_loop(generator, surface, grid, ring, lengths[loop],
+                        chance(generator, 2) ? kind : COVER_OWN, shuffled, set);
+        } else {
+            set->state_count += 1;
+        }
+        if (rims[loop] && with_rims != RIMS_PAVED) {
+            set->states[loop] = 4;
+        }
         ring += lengths[loop];
     }
 }
@@ -803,8 +1005,8 @@ static void change_triangle(struct generator *generator, struct generated_set *s
     } else if (chance(generator, 4)) {
         set->corners[t] = (uint16_t)generate_below(generator, 65536);
     } else {
-        set->corners[t + generate_below(generator, 3)] =
-            set->corners[generate_below(generator, set->corner_count)];
+        uint16_t other = set->corners[generate_below(generator, set->corner_count)];
+        set->corners[t + generate_below(generator, 3)] = other;
     }
 }
 
@@ -837,18 +1039,29 @@ static void put_in(struct generator *generator, struct generated_set *set)
     }
 }
 
-/* Changes one state, or their number. */
+/* A state that is given, is near those, or is none. */
+static uint16_t any_state(struct generator *generator)
+{
+    static const uint16_t states[8] = {0, 1, 2, 3, 4, 4, 4, 5};
+    return chance(generator, 8) ? (uint16_t)generate_below(generator, chance(generator, 2) ? 65536 : 10)
+                                : states[generate_below(generator, 8)];
+}
+
+/* Changes one state, has two loops change theirs, or changes the number of states. */
 static void change_states(struct generator *generator, struct generated_set *set)
 {
-    if (chance(generator, 4)) {
+    if (chance(generator, 6)) {
         set->state_count += set->state_count < GENERATE_STATE_ROOM ? 1 : 0;
         set->states[set->state_count - 1] = 1;
-    } else if (chance(generator, 4)) {
+    } else if (chance(generator, 6)) {
         set->state_count -= set->state_count > 0 ? 1 : 0;
     } else if (set->state_count > 0) {
         size_t loop = generate_below(generator, set->state_count);
-        set->states[loop] = (uint16_t)(chance(generator, 8) ? generate_below(generator, 65536)
-                                                            : generate_below(generator, 5));
+        if (chance(generator, 4)) {
+            swap_corners(set->states, loop, generate_below(generator, set->state_count));
+        } else {
+            set->states[loop] = any_state(generator);
+        }
     }
 }
 
@@ -860,12 +1073,13 @@ static void mix_loops(struct generator *generator, struct generated_set *set)
 
 static void change_set(struct generator *generator, struct generated_set *set)
 {
-    switch (generate_below(generator, 6)) {
+    switch (generate_below(generator, 7)) {
     case 0:
     case 1: change_triangle(generator, set); break;
     case 2: leave_out(generator, set); break;
     case 3: put_in(generator, set); break;
-    case 4: change_states(generator, set); break;
+    case 4:
+    case 5: change_states(generator, set); break;
     default: mix_loops(generator, set); break;
     }
 }
@@ -874,8 +1088,9 @@ void generate_set(struct generator *generator, const struct generated_surface *s
                   struct generated_set *set)
 {
     int kind = COVER_OWN + (int)generate_below(generator, 4);
+    int with_rims = chance(generator, 8) ? RIMS_LAID + (int)generate_below(generator, 2) : RIMS_DECLARED;
     size_t changes = chance(generator, 2) ? between(generator, 1, 2) : 0;
-    choose_covers(generator, surface, kind, chance(generator, 2), set);
+    choose_covers(generator, surface, kind, with_rims, chance(generator, 2), set);
     if (set->state_count == 0 && chance(generator, 4)) {
         change_states(generator, set);
     }

@@ -289,30 +289,52 @@ static void make_surface(struct generator *generator, struct generated_surface *
     }
 }
 
-/* A sheet and a set for it, the full sheets first; their texts are damaged in
-   some cases, and one set in eight is missing. */
-static void make_case(struct generator *generator, const char *directory, unsigned number)
+/* The patcher's own set for the surface. */
+static void own_set(const struct generated_surface *surface, struct generated_set *set)
 {
-    static struct generated_surface surface;
-    static struct generated_set set;
-    if (sheet_make(generator, number, &surface) == NULL) {
-        make_surface(generator, &surface);
-    }
-    generate_set(generator, &surface, &set);
-    case_sheet.length = generate_sheet_text(&surface, case_sheet.bytes);
-    case_patches.length = generate_set_text(&set, case_patches.bytes);
+    struct reference_patch_answer answer;
+    reference_patch(surface->words, surface->word_count, surface->corners, surface->corner_count,
+                    desk.grid, REFERENCE_MOST_WORDS, desk.rings, REFERENCE_MOST_CORNERS,
+                    desk.lengths, REFERENCE_MOST_TRIANGLES, set->states, REFERENCE_MOST_TRIANGLES,
+                    desk.weights, REFERENCE_MOST_TRIANGLES, set->corners, REFERENCE_MOST_PATCH_CORNERS, &answer);
+    set->state_count = answer.loops;
+    set->corner_count = answer.corners;
+}
+
+/* Damages the texts in some cases; one set in eight is missing, and empty then. Gives 0 where it is. */
+static int damage_case(struct generator *generator)
+{
     if (generate_below(generator, 5) == 0) {
         case_sheet.length = generate_text_damage(generator, case_sheet.bytes, case_sheet.length);
     }
     if (generate_below(generator, 5) == 0) {
         case_patches.length = generate_text_damage(generator, case_patches.bytes, case_patches.length);
     }
-    write_case(directory, number, "sheet", &case_sheet);
     if (generate_below(generator, 8) == 0) {
         case_patches.length = 0;
+        return 0;
+    }
+    return 1;
+}
+
+/* A sheet and a set for it: the full sheets first, whole and with the set that passes, and then made ones. */
+static void make_case(struct generator *generator, const char *directory, unsigned number)
+{
+    static struct generated_surface surface;
+    static struct generated_set set;
+    int full = sheet_make(generator, number, &surface) != NULL;
+    if (full) {
+        own_set(&surface, &set);
     } else {
+        make_surface(generator, &surface);
+        generate_set(generator, &surface, &set);
+    }
+    case_sheet.length = generate_sheet_text(&surface, case_sheet.bytes);
+    case_patches.length = generate_set_text(&set, case_patches.bytes);
+    if (full || damage_case(generator)) {
         write_case(directory, number, "patches", &case_patches);
     }
+    write_case(directory, number, "sheet", &case_sheet);
     for (int program = 0; program < 3; program++) {
         write_printed(directory, number, program);
     }
@@ -338,6 +360,14 @@ static int make_cases(const char *directory, unsigned count, uint64_t seed)
 #define TIP "p=40800000,40800000,41100000\n"
 #define CONE "triangles=4\nt=0,1,4\nt=1,2,4\nt=2,3,4\nt=3,0,4\n"
 #define ONE_PATCHED "states=1\ns=1\ntriangles=2\n"
+#define ONE_RIM "answer=0,0\nloops=1\nloop=4,4,0\nring=0,1,2,3\n"
+
+/* The same rings closed in by a triangle of the points 4, 5 and 6: (-50,-50,0), (100,-50,0) and (-50,100,0). */
+#define FRAME "p=c2480000,c2480000,00000000\np=42c80000,c2480000,00000000\np=c2480000,42c80000,00000000\n"
+#define COLLAR "t=0,1,4\nt=5,4,1\nt=1,2,5\nt=2,3,5\nt=6,5,3\nt=3,0,6\nt=4,6,0\n"
+#define HOLE_PATCHED "states=2\ns=1\ns=4\ntriangles=2\n"
+#define HOLE_LIST(weight) "answer=0,0\nloops=2\nloop=4,1," #weight "\nring=0,1,2,3\n"
+#define FRAME_LIST "loop=3,4,0\nring=5,4,6\n"
 
 /* A sheet text, the set text judged against it (NULL where none is), what is
    listed (NULL where it stands above) and what is judged. */
@@ -348,30 +378,38 @@ struct example {
     const char *verdict;
 };
 
+/* The scope's sheets, whose loops are rims: what is wrong with a set stays unsaid there. Then the same as holes. */
 static const struct example examples[] = {
     {"points=3\n" ORIGIN "p=3f800000,00000000,00000000\np=00000000,3f800000,00000000\ntriangles=1\nt=0,1,2\n",
-     NULL, "answer=0,0\nloops=1\nloop=3,1,1\nring=0,1,2\npatch=0,2,1\n", "answer=10,7\n"},
+     NULL, "answer=0,0\nloops=1\nloop=3,4,0\nring=0,1,2\n", "answer=10,7\n"},
     {"points=0\ntriangles=0\n", "states=0\ntriangles=0\n", "answer=0,0\nloops=0\n", "answer=0,0\n"},
     {FIVE_ORIGINS "triangles=2\nt=0,1,2\nt=0,1,3\n", "", "answer=6,3\n", "answer=10,10\n"},
     {FIVE_ORIGINS "triangles=1\nt=0,0,1\n", "states=0\ntriangles=0\n", "answer=5,0\n", "answer=5,0\n"},
     {FIVE_ORIGINS "triangles=2\nt=0,1,2\nt=0,3,4\n", "states=0\ntriangles=0\n",
-     "answer=0,0\nloops=2\nloop=3,1,0\nring=0,1,2\npatch=0,2,1\nloop=3,1,0\nring=0,3,4\npatch=0,4,3\n",
-     "answer=9,2\n"},
+     "answer=0,0\nloops=2\nloop=3,4,0\nring=0,1,2\nloop=3,4,0\nring=0,3,4\n", "answer=9,2\n"},
     {FIVE_ORIGINS "triangles=4\nt=0,1,2\nt=2,1,3\nt=2,3,4\nt=4,3,0\n",
-     "states=2\ns=1\ns=1\ntriangles=2\nt=0,3,1\nt=0,2,4\n",
-     "answer=0,0\nloops=2\nloop=3,1,0\nring=0,1,3\npatch=0,3,1\nloop=3,1,0\nring=0,4,2\npatch=0,2,4\n",
+     "states=2\ns=4\ns=1\ntriangles=1\nt=0,2,4\n",
+     "answer=0,0\nloops=2\nloop=3,4,0\nring=0,1,3\nloop=3,1,0\nring=0,4,2\npatch=0,2,4\n",
      "answer=0,0\n"},
-    {"points=4\n" SQUARE "triangles=2\nt=0,1,2\nt=0,2,3\n", ONE_PATCHED "t=0,3,2\nt=0,2,1\n",
-     "answer=0,0\nloops=1\nloop=4,1,280\nring=0,1,2,3\npatch=0,3,1\npatch=1,3,2\n", "answer=13,0\n"},
-    {"points=5\n" RIM TIP CONE, ONE_PATCHED "t=3,2,0\nt=2,1,0\n",
-     "answer=0,0\nloops=1\nloop=4,1,60\nring=0,1,2,3\npatch=0,3,2\npatch=0,2,1\n", "answer=0,0\n"},
-    {"points=5\n" RIM TIP CONE, ONE_PATCHED "t=0,3,1\nt=1,3,2\n", NULL, "answer=14,0\n"},
-    {"points=5\n" RIM TIP CONE, ONE_PATCHED "t=0,2,3\nt=0,2,1\n", NULL, "answer=12,0\n"},
-    {"points=5\n" SQUARE TIP CONE, ONE_PATCHED "t=0,3,2\nt=0,2,1\n",
-     "answer=0,0\nloops=1\nloop=4,1,280\nring=0,1,2,3\npatch=0,3,1\npatch=1,3,2\n", "answer=0,0\n"},
+    {"points=4\n" SQUARE "triangles=2\nt=0,1,2\nt=0,2,3\n", ONE_PATCHED "t=0,3,2\nt=0,2,1\n", ONE_RIM, "answer=11,0\n"},
+    {"points=5\n" RIM TIP CONE, ONE_PATCHED "t=3,2,0\nt=2,1,0\n", ONE_RIM, "answer=11,0\n"},
+    {"points=5\n" RIM TIP CONE, "states=1\ns=4\ntriangles=0\n", NULL, "answer=0,0\n"},
+    {"points=5\n" SQUARE TIP CONE, ONE_PATCHED "t=0,3,2\nt=0,2,1\n", ONE_RIM, "answer=11,0\n"},
     {FIVE_ORIGINS "triangles=3\nt=0,1,2\nt=0,2,3\nt=1,3,4\n",
-     "states=2\ns=3\ns=1\ntriangles=2\nt=1,4,3\nt=0,0,0\n",
-     "answer=0,0\nloops=2\nloop=4,3,0\nring=0,1,2,3\nloop=3,1,0\nring=1,3,4\npatch=1,4,3\n", "answer=15,3\n"},
+     "states=2\ns=4\ns=4\ntriangles=1\nt=0,0,0\n",
+     "answer=0,0\nloops=2\nloop=4,4,0\nring=0,1,2,3\nloop=3,4,0\nring=1,3,4\n", "answer=15,0\n"},
+
+    {"points=8\n" SQUARE FRAME TIP "triangles=9\n" COLLAR "t=0,2,7\nt=0,7,2\n", HOLE_PATCHED "t=0,3,2\nt=0,2,1\n",
+     HOLE_LIST(280) "patch=0,3,1\npatch=1,3,2\n" FRAME_LIST, "answer=13,0\n"},
+    {"points=7\n" RIM FRAME "triangles=7\n" COLLAR, HOLE_PATCHED "t=3,2,0\nt=2,1,0\n",
+     HOLE_LIST(60) "patch=0,3,2\npatch=0,2,1\n" FRAME_LIST, "answer=0,0\n"},
+    {"points=7\n" RIM FRAME "triangles=7\n" COLLAR, HOLE_PATCHED "t=0,3,1\nt=1,3,2\n", NULL, "answer=14,0\n"},
+    {"points=7\n" RIM FRAME "triangles=7\n" COLLAR, HOLE_PATCHED "t=0,2,3\nt=0,2,1\n", NULL, "answer=12,0\n"},
+    {"points=7\n" SQUARE FRAME "triangles=7\n" COLLAR, HOLE_PATCHED "t=0,3,2\nt=0,2,1\n",
+     HOLE_LIST(280) "patch=0,3,1\npatch=1,3,2\n" FRAME_LIST, "answer=0,0\n"},
+    {"points=8\n" SQUARE FRAME TIP "triangles=9\n" COLLAR "t=0,2,7\nt=1,3,7\n", "states=4\ns=3\ns=4\ns=4\ns=4\ntriangles=0\n",
+     "answer=0,0\nloops=4\nloop=4,3,0\nring=0,1,2,3\n" FRAME_LIST "loop=3,4,0\nring=0,2,7\nloop=3,4,0\nring=1,3,7\n",
+     "answer=0,0\n"},
 };
 
 static void take_text(struct file *file, const char *text)
@@ -380,7 +418,7 @@ static void take_text(struct file *file, const char *text)
     memcpy(file->bytes, text == NULL ? "" : text, file->length);
 }
 
-/* Gives 0 where all examples come out as the scope has them, else 1. */
+/* Gives 0 where all examples come out as they stand here, else 1. */
 static int run_examples(void)
 {
     size_t count = sizeof examples / sizeof examples[0];

@@ -13,6 +13,7 @@ struct survey {
     int32_t grid[REFERENCE_MOST_WORDS];
     uint16_t rings[REFERENCE_MOST_CORNERS];
     uint16_t lengths[REFERENCE_MOST_TRIANGLES];
+    unsigned char rims[REFERENCE_MOST_TRIANGLES];
     size_t loops;
     size_t vertices;
 };
@@ -197,6 +198,90 @@ static void find_loops(struct survey *survey, const uint16_t *corners, size_t co
     }
 }
 
+/* ---- Pieces and rims ---- */
+
+static int64_t absolute(int64_t value)
+{
+    return value < 0 ? -value : value;
+}
+
+/* "Pieces are groups of triangles joined through shared edges." Every triangle
+   has itself for a label at first; of two that share an edge the greater label
+   gives way, over and over, until none does. A label is then the smallest
+   triangle of its piece. */
+static void label_triangles(const uint16_t *corners, size_t corner_count, size_t *labels)
+{
+    size_t across[REFERENCE_MOST_CORNERS];
+    int changed = 1;
+    for (size_t h = 0; h < corner_count; h++) {
+        across[h] = reference_find_edge(corners, corner_count, reference_end(corners, h),
+                                        reference_start(corners, h));
+        labels[h / 3] = h / 3;
+    }
+    while (changed) {
+        changed = 0;
+        for (size_t h = 0; h < corner_count; h++) {
+            if (across[h] != REFERENCE_NO_EDGE && labels[across[h] / 3] < labels[h / 3]) {
+                labels[h / 3] = labels[across[h] / 3];
+                changed = 1;
+            }
+        }
+    }
+}
+
+/* A piece is known by its smallest triangle; its number is how many pieces are known by a smaller one. */
+void reference_pieces(const uint16_t *corners, size_t corner_count, uint16_t *pieces)
+{
+    size_t labels[REFERENCE_MOST_TRIANGLES];
+    label_triangles(corners, corner_count, labels);
+    for (size_t t = 0; t < corner_count / 3; t++) {
+        pieces[t] = 0;
+        for (size_t s = 0; s < labels[t]; s++) {
+            pieces[t] += labels[s] == s;
+        }
+    }
+}
+
+/* "run being the sum over its edges of the three absolute grid differences". */
+int64_t reference_run(const int32_t *grid, const uint16_t *ring, size_t length)
+{
+    int64_t run = 0;
+    for (size_t v = 0; v < length; v++) {
+        const int32_t *from = grid + 3 * (size_t)ring[v];
+        const int32_t *to = grid + 3 * (size_t)ring[(v + 1) % length];
+        for (size_t axis = 0; axis < 3; axis++) {
+            run += absolute((int64_t)to[axis] - from[axis]);
+        }
+    }
+    return run;
+}
+
+/* "In each piece the loop with the greatest run is its rim [...]; among equals
+   the first listed." A loop is no rim if another of its piece goes before it. */
+void reference_rims(const int32_t *grid, const uint16_t *corners, size_t corner_count,
+                    const uint16_t *rings, const uint16_t *lengths, size_t loops, unsigned char *rims)
+{
+    uint16_t pieces[REFERENCE_MOST_TRIANGLES];
+    uint16_t piece_of[REFERENCE_MOST_TRIANGLES];
+    int64_t runs[REFERENCE_MOST_TRIANGLES];
+    const uint16_t *ring = rings;
+    reference_pieces(corners, corner_count, pieces);
+    for (size_t loop = 0; loop < loops; loop++) {
+        piece_of[loop] = pieces[reference_find_edge(corners, corner_count, ring[0], ring[1]) / 3];
+        runs[loop] = reference_run(grid, ring, lengths[loop]);
+        ring += lengths[loop];
+    }
+    for (size_t loop = 0; loop < loops; loop++) {
+        rims[loop] = 1;
+        for (size_t other = 0; other < loops; other++) {
+            if (piece_of[other] == piece_of[loop]
+                && (runs[other] > runs[loop] || (runs[other] == runs[loop] && other < loop))) {
+                rims[loop] = 0;
+            }
+        }
+    }
+}
+
 /* ---- Refusals 1 to 8 ---- */
 
 /* "a corner of the surface names no point", at the smallest corner index. */
@@ -308,7 +393,7 @@ static struct finding find_refusal(const uint32_t *words, size_t word_count,
     return finding;
 }
 
-/* The grid and the loops of a surface that has no refusal. */
+/* The grid, the loops and the rims of a surface that has no refusal. */
 static void take_survey(struct survey *survey, const uint32_t *words, size_t word_count,
                         const uint16_t *corners, size_t corner_count)
 {
@@ -317,6 +402,8 @@ static void take_survey(struct survey *survey, const uint32_t *words, size_t wor
         reference_coordinate(words[w], &survey->grid[w], &rest);
     }
     find_loops(survey, corners, corner_count);
+    reference_rims(survey->grid, corners, corner_count, survey->rings, survey->lengths, survey->loops,
+                   survey->rims);
 }
 
 /* "Each is written from its start, grid wholly, the rest as far as used;
@@ -356,11 +443,6 @@ void reference_survey(const uint32_t *words, size_t word_count,
 }
 
 /* ---- Weight ---- */
-
-static int64_t absolute(int64_t value)
-{
-    return value < 0 ? -value : value;
-}
 
 /* "For corners a, b, c with grid differences b-a and c-a, the cross product
    has three signed components. The triangle's weight is the sum of their
@@ -488,14 +570,18 @@ static void lay_stretch(const struct reference_memo *memo, size_t i, size_t k, s
 
 /* ---- The patcher ---- */
 
-/* "State 1: patched. State 2: long, more than 64 edges [...]. State 3: no
-   allowed cover. States 2 and 3 have weight 0, lay nothing, and the run goes
-   on." */
+/* "A rim gets state 4, weight 0, and is not patched at any length. State 2 is
+   left for other loops over 64." "State 1: patched. [...] State 3: no allowed
+   cover. States 2 and 3 have weight 0, lay nothing, and the run goes on." */
 static void patch_loop(const struct survey *survey, const uint16_t *corners, size_t corner_count,
                        size_t loop, const uint16_t *ring, struct run *run)
 {
     size_t length = survey->lengths[loop];
     run->weights[loop] = 0;
+    if (survey->rims[loop]) {
+        run->states[loop] = 4;
+        return;
+    }
     if (length > REFERENCE_LONGEST_LOOP) {
         run->states[loop] = 2;
         return;
@@ -665,8 +751,9 @@ static size_t judge_loop(const struct survey *survey, const uint16_t *corners, s
     return 0;
 }
 
-/* "the first loop that has one decides; 15 comes last." "Bars come from the
-   set's own earlier loops." */
+/* "on a rim verdict 11 is given exactly for a state other than 4; on other
+   loops as before." "the first loop that has one decides; 15 comes last."
+   "Bars come from the set's own earlier loops." */
 static struct finding judge_set(const struct survey *survey,
                                 const uint16_t *corners, size_t corner_count,
                                 const uint16_t *states, const uint16_t *set, size_t set_count)
@@ -675,8 +762,9 @@ static struct finding judge_set(const struct survey *survey,
     size_t taken = 0;
     for (size_t loop = 0; loop < survey->loops; loop++) {
         size_t length = survey->lengths[loop];
-        size_t verdict = judge_loop(survey, corners, corner_count, ring, length, states[loop],
-                                    set, set_count, taken);
+        size_t verdict = survey->rims[loop]
+            ? (states[loop] == 4 ? 0 : 11)
+            : judge_loop(survey, corners, corner_count, ring, length, states[loop], set, set_count, taken);
         if (verdict != 0) {
             return found(verdict, loop);
         }

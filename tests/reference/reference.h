@@ -138,6 +138,16 @@ size_t reference_find_edge(const uint16_t *corners, size_t corner_count, uint16_
 /* Whether half-edge h is open. */
 int reference_is_open(const uint16_t *corners, size_t corner_count, size_t h);
 
+/* Gives every triangle the number of its piece: from 0, in the order of the pieces' smallest triangles. */
+void reference_pieces(const uint16_t *corners, size_t corner_count, uint16_t *pieces);
+
+/* The run of a loop: the sum over its edges, the closing one too, of the three absolute grid differences. */
+int64_t reference_run(const int32_t *grid, const uint16_t *ring, size_t length);
+
+/* Gives every loop 1 if it is the rim of its piece, else 0. The rings lie one after the other. */
+void reference_rims(const int32_t *grid, const uint16_t *corners, size_t corner_count,
+                    const uint16_t *rings, const uint16_t *lengths, size_t loops, unsigned char *rims);
+
 /* The weight of the triangle on points a, b, c. */
 int64_t reference_weight(const int32_t *grid, uint16_t a, uint16_t b, uint16_t c);
 

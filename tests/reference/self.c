@@ -7,18 +7,23 @@
 
 #include "generate.h"
 #include "reference.h"
+#include "sheets.h"
 
 /* ---- Faults and tallies ---- */
 
 enum tally {
-    TALLY_PATCHED, TALLY_LOOPS, TALLY_LONG, TALLY_NO_COVER, TALLY_SPLIT, TALLY_ENUMERATED,
-    TALLY_IS_NO_COVER, TALLY_IS_COVER, TALLY_VERDICT, TALLY_READ, TALLY_WRONG_LINE, TALLIES
+    TALLY_PATCHED, TALLY_LOOPS, TALLY_HOLES, TALLY_LONG, TALLY_NO_COVER, TALLY_RIMS, TALLY_LONG_RIMS, TALLY_EQUAL_RUNS,
+    TALLY_SHORTER_RIMS, TALLY_PIECES, TALLY_CLOSED_PIECES, TALLY_SPLIT, TALLY_ENUMERATED,
+    TALLY_IS_NO_COVER, TALLY_IS_COVER, TALLY_VERDICT, TALLY_RIM_REFUSED, TALLY_HOLE_NO_RIM, TALLY_READ, TALLY_WRONG_LINE, TALLIES
 };
 
 static const char *const tally_names[TALLIES] = {
-    "surfaces patched", "loops", "loops of state 2", "loops of state 3", "cycles of several loops",
+    "surfaces patched", "loops", "loops of state 1", "loops of state 2", "loops of state 3", "loops of state 4",
+    "loops of state 4 that are long", "loops whose run is their rim's", "loops of more edges than their rim",
+    "pieces", "pieces without a loop", "cycles of several loops",
     "loops compared with all their covers", "lists tested that are no cover", "lists tested that are a cover",
-    "verdicts compared with all covers", "texts read and written again", "texts with a wrong line"};
+    "verdicts compared with all covers", "verdicts on a rim that is not declared 4",
+    "verdicts on a loop that is no rim and declared 4", "texts read and written again", "texts with a wrong line"};
 
 static size_t faults;
 static size_t tallies[TALLIES];
@@ -41,6 +46,7 @@ static void expect(int holds, const char *what)
 #define RING_ROOM (GENERATE_CORNER_ROOM + 8)
 #define PATCH_ROOM (3 * GENERATE_CORNER_ROOM + 8)
 #define MARK 0xa5
+#define NO_PIECE 0xffff
 
 static struct lent {
     int32_t grid[GRID_ROOM];
@@ -243,9 +249,110 @@ static void expect_second_look(const struct generated_surface *s, size_t loops, 
            "a second look finds other loops");
 }
 
+/* ---- A second look at pieces and rims ---- */
+
+/* Gives a triangle, and from it all that it is joined to, their piece's number: flooding, where the reference relabels. */
+static void flood(const uint16_t *corners, size_t corner_count, size_t triangle, uint16_t number, uint16_t *pieces)
+{
+    static size_t waiting[REFERENCE_MOST_TRIANGLES];
+    size_t count = 1;
+    waiting[0] = triangle;
+    pieces[triangle] = number;
+    while (count > 0) {
+        size_t t = waiting[count - 1];
+        count -= 1;
+        for (size_t h = 0; h < corner_count; h++) {
+            size_t back = pieces[h / 3] == NO_PIECE
+                ? reference_find_edge(corners + 3 * t, 3, reference_end(corners, h), reference_start(corners, h))
+                : REFERENCE_NO_EDGE;
+            if (back != REFERENCE_NO_EDGE) {
+                pieces[h / 3] = number;
+                waiting[count] = h / 3;
+                count += 1;
+            }
+        }
+    }
+}
+
+/* The pieces found by flooding are those of the reference; gives how many there are. */
+static size_t expect_pieces(const struct generated_surface *s, uint16_t *pieces)
+{
+    static uint16_t seen[REFERENCE_MOST_TRIANGLES];
+    size_t triangles = s->corner_count / 3;
+    uint16_t count = 0;
+    for (size_t t = 0; t < triangles; t++) {
+        pieces[t] = NO_PIECE;
+    }
+    for (size_t t = 0; t < triangles; t++) {
+        if (pieces[t] == NO_PIECE) {
+            flood(s->corners, s->corner_count, t, count, pieces);
+            count += 1;
+        }
+    }
+    reference_pieces(s->corners, s->corner_count, seen);
+    expect(memcmp(seen, pieces, triangles * sizeof seen[0]) == 0, "a second look finds other pieces");
+    return count;
+}
+
+/* How far it is along the three axes from the start of an open edge to its end. */
+static int64_t stride(const uint16_t *corners, size_t h)
+{
+    const int32_t *from = lent.grid + 3 * (size_t)reference_start(corners, h);
+    const int32_t *to = lent.grid + 3 * (size_t)reference_end(corners, h);
+    int64_t sum = 0;
+    for (size_t axis = 0; axis < 3; axis++) {
+        sum += from[axis] < to[axis] ? (int64_t)to[axis] - from[axis] : (int64_t)from[axis] - to[axis];
+    }
+    return sum;
+}
+
+/* For each piece the best loop is kept as the loops go by, their edges taken from the surface; it alone has state 4. */
+static void expect_rims(const struct generated_surface *s, size_t loops)
+{
+    static uint16_t pieces[REFERENCE_MOST_TRIANGLES];
+    static size_t best[REFERENCE_MOST_TRIANGLES];
+    static int64_t best_run[REFERENCE_MOST_TRIANGLES];
+    static int64_t runs[REFERENCE_MOST_TRIANGLES];
+    static size_t piece_of[REFERENCE_MOST_TRIANGLES];
+    const uint16_t *ring = lent.rings;
+    size_t count = expect_pieces(s, pieces);
+    for (size_t piece = 0; piece < count; piece++) {
+        best[piece] = loops;
+        best_run[piece] = -1;
+    }
+    for (size_t loop = 0; loop < loops; loop++) {
+        size_t length = lent.lengths[loop];
+        runs[loop] = 0;
+        for (size_t v = 0; v < length; v++) {
+            size_t h = reference_find_edge(s->corners, s->corner_count, ring[v], ring[v + 1 < length ? v + 1 : 0]);
+            runs[loop] += stride(s->corners, h);
+            expect(v == 0 || pieces[h / 3] == piece_of[loop], "a loop lies in two pieces");
+            piece_of[loop] = pieces[h / 3];
+        }
+        if (runs[loop] > best_run[piece_of[loop]]) {
+            best_run[piece_of[loop]] = runs[loop];
+            best[piece_of[loop]] = loop;
+        }
+        ring += length;
+    }
+    for (size_t loop = 0; loop < loops; loop++) {
+        size_t rim = best[piece_of[loop]];
+        expect((lent.states[loop] == 4) == (rim == loop), "a second look finds another rim");
+        expect(rim != loop || lent.weights[loop] == 0, "a rim has a weight");
+        tallies[TALLY_RIMS] += rim == loop;
+        tallies[TALLY_LONG_RIMS] += rim == loop && lent.lengths[loop] > REFERENCE_LONGEST_LOOP;
+        tallies[TALLY_EQUAL_RUNS] += rim != loop && runs[rim] == runs[loop] && runs[loop] > 0;
+        tallies[TALLY_SHORTER_RIMS] += lent.lengths[rim] < lent.lengths[loop];
+    }
+    tallies[TALLY_PIECES] += count;
+    for (size_t piece = 0; piece < count; piece++) {
+        tallies[TALLY_CLOSED_PIECES] += best[piece] == loops;
+    }
+}
+
 /* ---- Patches ---- */
 
-/* After patching no directed edge occurs twice, and the open edges left are those of unpatched loops. */
+/* After patching no directed edge occurs twice, and the open edges left are those of unpatched loops, rims among them. */
 static void expect_patched_surface(const struct generated_surface *s,
                                    const struct reference_patch_answer *answer)
 {
@@ -256,6 +363,7 @@ static void expect_patched_surface(const struct generated_surface *s,
     memcpy(all, s->corners, s->corner_count * sizeof all[0]);
     memcpy(all + s->corner_count, lent.patches, answer->corners * sizeof all[0]);
     for (size_t loop = 0; loop < answer->loops; loop++) {
+        tallies[TALLY_HOLES] += lent.states[loop] == 1;
         tallies[TALLY_LONG] += lent.states[loop] == 2;
         tallies[TALLY_NO_COVER] += lent.states[loop] == 3;
         unpatched += lent.states[loop] == 1 ? 0 : lent.lengths[loop];
@@ -387,7 +495,7 @@ static void expect_least_cover(const struct generated_surface *s, size_t loop,
     static struct reference_memo memo;
     static struct enumeration e;
     size_t length = lent.lengths[loop];
-    if (length > MOST_ENUMERATED) {
+    if (length > MOST_ENUMERATED || lent.states[loop] == 4) {
         return;
     }
     reference_fill_memo(&memo, lent.grid, ring, length, s->corners, s->corner_count, lent.patches, laid);
@@ -461,7 +569,7 @@ static size_t verdict_from_covers(const struct reference_memo *memo, size_t stat
     return e.met_weight > e.least ? 14 : 0;
 }
 
-/* The verdict on a set, told from all covers where every loop up to it is small. */
+/* The verdict on a set, told from all covers where every loop up to it is small or a rim. */
 static void expect_verdict(const struct generated_surface *s, const struct generated_set *set,
                            size_t loops)
 {
@@ -473,13 +581,18 @@ static void expect_verdict(const struct generated_surface *s, const struct gener
     size_t place = 0;
     for (size_t loop = 0; loop < loops && set->state_count == loops && verdict == 0; loop++) {
         size_t length = lent.lengths[loop];
-        if (length > MOST_ENUMERATED) {
+        if (lent.states[loop] == 4) {
+            verdict = set->states[loop] != 4 ? 11 : 0;
+            tallies[TALLY_RIM_REFUSED] += verdict == 11;
+        } else if (length > MOST_ENUMERATED) {
             return;
+        } else {
+            reference_fill_memo(&memo, lent.grid, ring, length, s->corners, s->corner_count,
+                                set->corners, taken);
+            verdict = verdict_from_covers(&memo, set->states[loop], set->corners + taken,
+                                          set->corner_count - taken);
+            tallies[TALLY_HOLE_NO_RIM] += set->states[loop] == 4 && verdict == 11;
         }
-        reference_fill_memo(&memo, lent.grid, ring, length, s->corners, s->corner_count,
-                            set->corners, taken);
-        verdict = verdict_from_covers(&memo, set->states[loop], set->corners + taken,
-                                      set->corner_count - taken);
         place = verdict != 0 ? loop : 0;
         taken += set->states[loop] == 1 ? 3 * (length - 2) : 0;
         ring += length;
@@ -810,6 +923,219 @@ static void expect_coordinate_examples(void)
     }
 }
 
+/* ---- Pieces, runs and rims by hand ---- */
+
+#define PLATE {0, 1, 3, 1, 4, 3, 1, 2, 4, 2, 5, 4, 2, 0, 5, 0, 3, 5}
+#define PLATE_HOLE_FIRST {4, 3, 1, 0, 1, 3, 1, 2, 4, 2, 5, 4, 2, 0, 5, 0, 3, 5}
+#define FIVE_PLACES {0, 0, 0, 10, 0, 0, 10, 10, 0, 0, 10, 4, 4, 4, 9}
+
+/* A surface with what was reckoned of it by hand: the piece of each triangle, and of each loop its ring, run, state and weight;
+   then what is laid. */
+struct reckoned {
+    const char *name;
+    size_t points;
+    int16_t at[27];
+    size_t triangles;
+    uint16_t corners[21];
+    uint16_t pieces[7];
+    size_t loops;
+    uint16_t rings[12], lengths[3];
+    int64_t runs[3];
+    uint16_t states[3];
+    uint64_t weights[3];
+    size_t laid;
+    uint16_t patches[9];
+};
+
+static const struct reckoned by_hand[] = {
+    {"a loop alone is a rim", 3, {0, 0, 0, 1, 0, 0, 0, 1, 0}, 1, {0, 1, 2}, {0},
+     1, {0, 1, 2}, {3}, {4}, {4}, {0}, 0, {0}},
+    {"a plate with a hole", 6, {0, 0, 0, 30, 0, 0, 0, 30, 0, 5, 5, 0, 15, 5, 0, 5, 15, 0}, 6, PLATE, {0},
+     2, {0, 1, 2, 4, 3, 5}, {3, 3}, {120, 40}, {4, 1}, {0, 100}, 3, {4, 5, 3}},
+    {"an island in the hole", 9, {0, 0, 0, 30, 0, 0, 0, 30, 0, 5, 5, 0, 15, 5, 0, 5, 15, 0, 6, 6, 0, 8, 6, 0, 6, 8, 0},
+     7, {0, 1, 3, 1, 4, 3, 1, 2, 4, 6, 7, 8, 2, 5, 4, 2, 0, 5, 0, 3, 5}, {0, 0, 0, 1, 0, 0, 0},
+     3, {0, 1, 2, 4, 3, 5, 6, 7, 8}, {3, 3, 3}, {120, 40, 8}, {4, 1, 4}, {0, 100, 0}, 3, {4, 5, 3}},
+    {"the greatest run of all in another piece", 9,
+     {0, 0, 0, 30, 0, 0, 0, 30, 0, 5, 5, 0, 15, 5, 0, 5, 15, 0, 0, 0, 9, 900, 0, 9, 0, 900, 9},
+     7, {6, 7, 8, 0, 1, 3, 1, 4, 3, 1, 2, 4, 2, 5, 4, 2, 0, 5, 0, 3, 5}, {0, 1, 1, 1, 1, 1, 1},
+     3, {6, 7, 8, 0, 1, 2, 4, 3, 5}, {3, 3, 3}, {3600, 120, 40}, {4, 4, 1}, {0, 0, 100}, 3, {4, 5, 3}},
+    {"two pieces that share a vertex", 5, {0, 0, 0, 10, 0, 0, 0, 10, 0, -1, 0, 0, 0, -1, 0}, 2, {0, 1, 2, 0, 3, 4}, {0, 1},
+     2, {0, 1, 2, 0, 3, 4}, {3, 3}, {40, 4}, {4, 4}, {0, 0}, 0, {0}},
+    {"a pinched coast: one piece of two loops that share a vertex", 5, FIVE_PLACES, 4, {0, 1, 2, 2, 1, 3, 2, 3, 4, 4, 3, 0}, {0},
+     2, {0, 1, 3, 0, 4, 2}, {3, 3}, {48, 58}, {1, 4}, {140, 0}, 3, {0, 3, 1}},
+    {"equal runs, the first listed is the rim", 6, {0, 0, 0, 10, 0, 0, 0, 10, 0, 0, 0, 5, 10, 0, 5, 0, 10, 5}, 6, PLATE, {0},
+     2, {0, 1, 2, 4, 3, 5}, {3, 3}, {40, 40}, {4, 1}, {0, 100}, 3, {4, 5, 3}},
+    {"equal runs, the other one listed first", 6, {0, 0, 0, 10, 0, 0, 0, 10, 0, 0, 0, 5, 10, 0, 5, 0, 10, 5}, 6, PLATE_HOLE_FIRST, {0},
+     2, {4, 3, 5, 0, 1, 2}, {3, 3}, {40, 40}, {4, 1}, {0, 100}, 3, {0, 2, 1}},
+    {"no run at all, the first listed is the rim", 6, {0}, 6, PLATE, {0},
+     2, {0, 1, 2, 4, 3, 5}, {3, 3}, {0, 0}, {4, 1}, {0, 0}, 3, {4, 5, 3}},
+    {"the closing edge decides: 20 and 20 against 25 and 1", 6, {0, 0, 0, 10, 0, 0, 20, 0, 0, 12, 0, 1, 0, 0, 1, 0, 1, 1}, 6,
+     PLATE_HOLE_FIRST, {0}, 2, {4, 3, 5, 0, 1, 2}, {3, 3}, {26, 40}, {1, 4}, {12, 0}, 3, {4, 5, 3}},
+    {"differences that cancel if added with their signs", 6, {0, 0, 0, 10, -10, 0, 20, -20, 0, 12, 0, 0, 0, 0, 0, 0, 1, 0}, 6,
+     PLATE_HOLE_FIRST, {0}, 2, {4, 3, 5, 0, 1, 2}, {3, 3}, {26, 80}, {1, 4}, {12, 0}, 3, {4, 5, 3}},
+    {"the third difference decides", 6, {0, 0, 0, 10, 0, 0, 0, 10, 0, 0, 0, 0, 9, 0, 3, 0, 9, 0}, 6, PLATE, {0},
+     2, {0, 1, 2, 4, 3, 5}, {3, 3}, {40, 42}, {1, 4}, {100, 0}, 3, {0, 2, 1}},
+    {"the inner loop runs further", 6, {1, 1, 0, 2, 1, 0, 1, 2, 0, 0, 0, 9, 50, 0, 9, 0, 50, 9}, 6, PLATE, {0},
+     2, {0, 1, 2, 4, 3, 5}, {3, 3}, {4, 200}, {1, 4}, {1, 0}, 3, {0, 2, 1}},
+    {"a rim of fewer edges than the hole", 7, {0, 0, 0, 99, 0, 0, 0, 99, 0, 1, 1, 0, 2, 1, 0, 2, 2, 0, 1, 2, 0}, 7,
+     {3, 4, 0, 1, 0, 4, 4, 5, 1, 5, 6, 1, 2, 1, 6, 6, 3, 2, 0, 2, 3}, {0},
+     2, {3, 4, 5, 6, 1, 0, 2}, {4, 3}, {4, 396}, {1, 4}, {2, 0}, 6, {3, 6, 4, 4, 6, 5}},
+    {"a hole of fewer edges than the rim", 7, {0, 0, 0, 99, 0, 0, 0, 99, 0, 1, 1, 0, 2, 1, 0, 150, 150, 0, 1, 2, 0}, 7,
+     {3, 4, 0, 1, 0, 4, 4, 5, 1, 5, 6, 1, 2, 1, 6, 6, 3, 2, 0, 2, 3}, {0},
+     2, {3, 4, 5, 6, 1, 0, 2}, {4, 3}, {596, 396}, {4, 1}, {0, 9801}, 3, {1, 2, 0}},
+    {"a piece without a loop has a number too", 7, {0}, 5, {0, 1, 2, 0, 2, 3, 0, 3, 1, 1, 3, 2, 4, 5, 6}, {0, 0, 0, 0, 1},
+     1, {4, 5, 6}, {3}, {0}, {4}, {0}, 0, {0}},
+    {"a piece whose triangles lie among another's", 7, {0}, 3, {0, 1, 2, 3, 4, 5, 2, 1, 6}, {0, 1, 0},
+     2, {0, 1, 6, 2, 3, 4, 5}, {4, 3}, {0, 0}, {4, 4}, {0, 0}, 0, {0}},
+    {"a strip whose triangles are listed far from their neighbours", 7, {0}, 5, {2, 3, 4, 4, 5, 6, 0, 1, 2, 4, 3, 5, 2, 1, 3}, {0},
+     1, {4, 2, 0, 1, 3, 5, 6}, {7}, {0}, {4}, {0}, 0, {0}},
+};
+
+static void take_reckoned(const struct reckoned *r, struct generated_surface *s)
+{
+    s->word_count = 3 * r->points;
+    for (size_t w = 0; w < s->word_count; w++) {
+        s->words[w] = sheet_word(r->at[w]);
+    }
+    s->corner_count = 3 * r->triangles;
+    memcpy(s->corners, r->corners, sizeof r->corners);
+    generate_lend_exactly(s);
+}
+
+static void expect_reckoned(const struct reckoned *r)
+{
+    static struct generated_surface surface;
+    uint16_t pieces[REFERENCE_MOST_TRIANGLES];
+    struct reference_patch_answer answer;
+    size_t before = faults;
+    size_t at = 0;
+    take_reckoned(r, &surface);
+    patch_lent(&surface, &answer);
+    reference_pieces(surface.corners, surface.corner_count, pieces);
+    expect(memcmp(pieces, r->pieces, r->triangles * sizeof pieces[0]) == 0, "other pieces than by hand");
+    expect(answer.number == 0 && answer.loops == r->loops && answer.corners == r->laid, "another answer than by hand");
+    for (size_t loop = 0; loop < r->loops; loop++) {
+        expect(reference_run(lent.grid, r->rings + at, r->lengths[loop]) == r->runs[loop], "another run than by hand");
+        at += r->lengths[loop];
+    }
+    expect(answer.vertices == at && memcmp(lent.rings, r->rings, at * sizeof lent.rings[0]) == 0
+               && memcmp(lent.lengths, r->lengths, r->loops * sizeof lent.lengths[0]) == 0,
+           "other rings than by hand");
+    expect(memcmp(lent.states, r->states, r->loops * sizeof lent.states[0]) == 0, "other states than by hand");
+    expect(memcmp(lent.weights, r->weights, r->loops * sizeof lent.weights[0]) == 0, "other weights than by hand");
+    expect(memcmp(lent.patches, r->patches, r->laid * sizeof lent.patches[0]) == 0, "another patch than by hand");
+    if (faults > before) {
+        printf("this was: %s\n", r->name);
+    }
+}
+
+/* Rings of any length closed in by frames of any length: the frame lies far out, or the ring's points do. The frame's first edge is
+   listed second, so it is loop 1. */
+static void expect_closed_in(size_t length, size_t edges, int frame_far, size_t ring_state, size_t frame_state)
+{
+    static struct generated_surface surface;
+    uint16_t points[300];
+    struct reference_patch_answer answer;
+    surface.corner_count = 0;
+    surface.word_count = 3 * (length + edges);
+    for (size_t p = 0; p < length + edges; p++) {
+        int far = (p >= length) == frame_far;
+        points[p] = (uint16_t)p;
+        surface.words[3 * p] = sheet_word(far ? (p % 2 == 0 ? 30000 : -30000) : (int32_t)(p % 3));
+        surface.words[3 * p + 1] = sheet_word((int32_t)(p % 5));
+        surface.words[3 * p + 2] = sheet_word(0);
+    }
+    sheet_add_collar(&surface, points, length, points + length, edges);
+    generate_lend_exactly(&surface);
+    patch_lent(&surface, &answer);
+    expect(answer.number == 0 && answer.loops == 2 && lent.lengths[0] == length && lent.lengths[1] == edges,
+           "a ring closed in has other loops");
+    expect(lent.states[0] == ring_state && lent.states[1] == frame_state, "a ring closed in has other states");
+    expect(answer.corners == 3 * (ring_state == 1 ? length - 2 : frame_state == 1 ? edges - 2 : 0), "what is laid is no hole's");
+}
+
+/* A set for the plate with a hole, rings 0,1,2 and 4,3,5, and what it gets. */
+static void expect_plate_verdict(uint16_t rim, uint16_t hole, const uint16_t *corners, size_t count, size_t number, size_t place)
+{
+    static struct generated_surface surface;
+    static struct generated_set set;
+    struct reference_answer answer;
+    take_reckoned(&by_hand[1], &surface);
+    set.state_count = 2;
+    set.states[0] = rim;
+    set.states[1] = hole;
+    set.corner_count = count;
+    memcpy(set.corners, corners, count * sizeof set.corners[0]);
+    check_lent(&surface, &set, &answer);
+    expect(answer.number == number && answer.place == place && answer.loops == 2 && answer.vertices == 6,
+           "a set for the plate gets another verdict than by hand");
+}
+
+static void expect_plate_verdicts(void)
+{
+    static const uint16_t right[3] = {5, 3, 4}, turned[3] = {4, 3, 5}, both[6] = {0, 2, 1, 4, 5, 3}, after[6] = {4, 5, 3, 0, 2, 1};
+    static const uint16_t others[7] = {0, 1, 2, 3, 5, 9, 65535};
+    expect_plate_verdict(4, 1, right, 3, 0, 0);
+    for (size_t o = 0; o < 7; o++) {
+        expect_plate_verdict(others[o], 1, right, 3, 11, 0);
+        expect_plate_verdict(others[o], 1, both, 6, 11, 0);
+        if (others[o] != 1) {
+            expect_plate_verdict(4, others[o], right, 3, 11, 1);
+        }
+    }
+    expect_plate_verdict(4, 4, right, 3, 11, 1);
+    expect_plate_verdict(4, 4, right, 0, 11, 1);
+    expect_plate_verdict(4, 1, right, 0, 12, 1);
+    expect_plate_verdict(4, 1, turned, 3, 12, 1);
+    expect_plate_verdict(4, 1, both, 6, 12, 1);
+    expect_plate_verdict(4, 1, after, 6, 15, 3);
+}
+
+static void expect_by_hand(void)
+{
+    for (size_t r = 0; r < sizeof by_hand / sizeof by_hand[0]; r++) {
+        expect_reckoned(&by_hand[r]);
+    }
+    for (size_t n = 3; n <= REFERENCE_LONGEST_LOOP + 2; n++) {
+        size_t patched = n > REFERENCE_LONGEST_LOOP ? 2 : 1;
+        expect_closed_in(n, 3, 1, patched, 4);
+        expect_closed_in(n, n, 1, patched, 4);
+        expect_closed_in(n, 100, 1, patched, 4);
+        expect_closed_in(3, n, 0, 4, patched);
+        expect_closed_in(100, n, 0, 4, patched);
+    }
+    expect_plate_verdicts();
+}
+
+/* ---- Full sheets ---- */
+
+/* Each full sheet has so many loops of states 1 to 4. */
+static void expect_sheets(uint64_t seed)
+{
+    static const size_t counts[][4] = {
+        {0, 0, 0, 0}, {203, 0, 0, 1}, {0, 1, 0, 1}, {0, 0, 0, 1022}, {0, 0, 0, 1}, {0, 0, 0, 1},
+        {0, 0, 0, 16}, {0, 0, 0, 16}, {0, 0, 0, 16},
+        {170, 0, 0, 1}, {146, 0, 0, 1}, {78, 0, 0, 1}, {26, 0, 0, 1}, {15, 0, 0, 1}, {8, 0, 0, 481}, {15, 0, 0, 1}};
+    static struct generated_surface surface;
+    struct generator generator;
+    struct reference_patch_answer answer;
+    const char *name;
+    size_t sheet = 0;
+    generate_start(&generator, seed);
+    for (; (name = sheet_make(&generator, sheet, &surface)) != NULL; sheet++) {
+        size_t met[4] = {0};
+        patch_lent(&surface, &answer);
+        for (size_t loop = 0; loop < answer.loops; loop++) {
+            met[lent.states[loop] - 1] += 1;
+        }
+        if (sheet >= sizeof counts / sizeof counts[0] || memcmp(met, counts[sheet], sizeof met) != 0) {
+            printf("the sheet %s has %zu, %zu, %zu, %zu loops of states 1 to 4\n", name, met[0], met[1], met[2], met[3]);
+            faults += 1;
+        }
+    }
+    expect(sheet == sizeof counts / sizeof counts[0], "there are fewer full sheets");
+}
+
 /* ---- The run ---- */
 
 static void self_check(struct generator *generator)
@@ -827,6 +1153,7 @@ static void self_check(struct generator *generator)
     if (patch.number == 0) {
         expect_rings(&surface, patch.loops, patch.vertices);
         expect_second_look(&surface, patch.loops, patch.vertices);
+        expect_rims(&surface, patch.loops);
         expect_patched_surface(&surface, &patch);
         expect_least_covers(&surface, patch.loops);
         expect_cover_test(&surface, &set, patch.loops);
@@ -846,10 +1173,35 @@ static void self_check(struct generator *generator)
     }
 }
 
+/* so many surfaces must have met everything that can be met */
+#define ENOUGH 2000
+
+/* How many tallies and numbers were never met: what is never met is not tried. */
+static size_t count_missing(void)
+{
+    size_t missing = 0;
+    for (size_t t = 0; t < TALLIES; t++) {
+        missing += tallies[t] == 0;
+    }
+    for (size_t number = 0; number < 9; number++) {
+        missing += patch_numbers[number] == 0;
+    }
+    for (size_t number = 0; number < 16; number++) {
+        missing += number != 10 && check_numbers[number] == 0;
+    }
+    if (missing > 0) {
+        printf("%zu of these were never met\n", missing);
+    }
+    return missing;
+}
+
 int self_run(size_t count, uint64_t seed)
 {
     struct generator generator;
+    self_seed = seed;
     expect_coordinate_examples();
+    expect_by_hand();
+    expect_sheets(seed);
     for (size_t n = 0; n < count; n++) {
         self_seed = seed + n;
         generate_start(&generator, self_seed);
@@ -866,6 +1218,8 @@ int self_run(size_t count, uint64_t seed)
     for (size_t number = 0; number < 16; number++) {
         printf(" %zu", check_numbers[number]);
     }
-    printf("\nsurfaces=%zu faults=%zu\n", count, faults);
+    printf("\n");
+    faults += count >= ENOUGH ? count_missing() : 0;
+    printf("surfaces=%zu faults=%zu\n", count, faults);
     return faults == 0 ? 0 : 1;
 }

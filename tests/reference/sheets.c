@@ -1,4 +1,4 @@
-/* Surfaces laid triangle by triangle: cones over common points, and full sheets. */
+/* Surfaces laid triangle by triangle: cones over common points, and full sheets of islands and of plates with holes. */
 
 #include <string.h>
 
@@ -34,18 +34,50 @@ void sheet_add_cone(struct generated_surface *surface, const uint16_t *rim, size
     }
 }
 
+void sheet_add_collar(struct generated_surface *surface, const uint16_t *ring, size_t length,
+                      const uint16_t *frame, size_t edges)
+{
+    size_t r = 0;
+    size_t f = 0;
+    while (r + f < length + edges) {
+        if (r * edges <= f * length) {
+            sheet_add_triangle(surface, ring[r % length], ring[(r + 1) % length], frame[f % edges]);
+            r += 1;
+        } else {
+            sheet_add_triangle(surface, frame[(f + 1) % edges], frame[f % edges], ring[r % length]);
+            f += 1;
+        }
+    }
+}
+
+static void place_point(struct generated_surface *surface, size_t point, int32_t x, int32_t y, int32_t z)
+{
+    surface->words[3 * point] = sheet_word(x);
+    surface->words[3 * point + 1] = sheet_word(y);
+    surface->words[3 * point + 2] = sheet_word(z);
+}
+
+/* A number from 0 - size to size. */
+static int32_t within(struct generator *generator, size_t size)
+{
+    return (int32_t)generate_below(generator, 2 * size + 1) - (int32_t)size;
+}
+
 /* Points in a cube of some size about 0. */
 static void place_points(struct generator *generator, struct generated_surface *surface,
                          size_t points, size_t size)
 {
     surface->word_count = 3 * points;
     for (size_t w = 0; w < surface->word_count; w++) {
-        surface->words[w] = sheet_word((int32_t)generate_below(generator, 2 * size + 1) - (int32_t)size);
+        surface->words[w] = sheet_word(within(generator, size));
     }
     generate_lend_exactly(surface);
 }
 
 /* ---- Cones ---- */
+
+/* the most edges of a cut, which is as long as it needs to be to run further than the longest foot */
+#define CUT_EDGES (4 + REFERENCE_LONGEST_LOOP / 3)
 
 /* Puts any of the stock to its front, as many as are to be drawn. */
 static void draw(struct generator *generator, uint16_t *stock, size_t points, size_t drawn)
@@ -58,22 +90,59 @@ static void draw(struct generator *generator, uint16_t *stock, size_t points, si
     }
 }
 
+/* Whether the surface has an edge of the ring already. */
+static int has_edge(const struct generated_surface *surface, const uint16_t *ring, size_t length)
+{
+    for (size_t r = 0; r < length; r++) {
+        if (reference_find_edge(surface->corners, surface->corner_count, ring[r], ring[(r + 1) % length])
+            != REFERENCE_NO_EDGE) {
+            return 1;
+        }
+    }
+    return 0;
+}
+
+/* Points from one end of the plate to the other and back: no edge runs further. */
+static void place_far(struct generated_surface *surface, const uint16_t *frame, size_t edges)
+{
+    for (size_t f = 0; f < edges; f++) {
+        int32_t end = f % 2 == 0 ? REFERENCE_GREATEST_COORDINATE : -REFERENCE_GREATEST_COORDINATE;
+        place_point(surface, frame[f], end, end, end);
+    }
+}
+
 void sheet_make_cones(struct generator *generator, struct generated_surface *surface)
 {
-    static const size_t sizes[4] = {0, 2, 100, REFERENCE_GREATEST_COORDINATE};
+    static const size_t sizes[4] = {0, 2, 500, REFERENCE_GREATEST_COORDINATE};
     uint16_t stock[128];
+    uint16_t frame[CUT_EDGES];
     size_t cones = 2 + generate_below(generator, 4);
     size_t points = 64 + generate_below(generator, 65);
+    size_t size = sizes[generate_below(generator, 4)];
     for (size_t p = 0; p < points; p++) {
         stock[p] = (uint16_t)p;
     }
     surface->corner_count = 0;
+    place_points(generator, surface, points + CUT_EDGES * cones, size);
     for (size_t cone = 0; cone < cones; cone++) {
         size_t length = 4 + generate_below(generator, REFERENCE_LONGEST_LOOP - 3);
-        draw(generator, stock, points, length);
-        sheet_add_cone(surface, stock, length, (uint16_t)(points + cone));
+        size_t edges = size < REFERENCE_GREATEST_COORDINATE ? 3 : 4 + length / 3;
+        for (size_t tries = 0; tries == 0 || (tries < 5 && has_edge(surface, stock, length)); tries++) {
+            draw(generator, stock, points, length);
+        }
+        for (size_t f = 0; f < CUT_EDGES; f++) {
+            frame[f] = (uint16_t)(points + CUT_EDGES * cone + f);
+        }
+        if (generate_below(generator, 6) == 0 || has_edge(surface, stock, length)) {
+            sheet_add_cone(surface, stock, length, frame[0]);
+            continue;
+        }
+        sheet_add_collar(surface, stock, length, frame, edges);
+        if (generate_below(generator, 6) != 0) {
+            place_far(surface, frame, edges);
+        }
     }
-    place_points(generator, surface, points + cones, sizes[generate_below(generator, 4)]);
+    generate_lend_exactly(surface);
 }
 
 /* ---- Full sheets ---- */
@@ -118,12 +187,90 @@ static void make_row(struct generated_surface *surface, size_t sheet)
     }
 }
 
+/* The points of a hole: anywhere in a small cube somewhere on the plate. */
+static void place_hole(struct generator *generator, struct generated_surface *surface,
+                       const uint16_t *ring, size_t length)
+{
+    int32_t middle[3];
+    for (size_t axis = 0; axis < 3; axis++) {
+        middle[axis] = within(generator, REFERENCE_GREATEST_COORDINATE - 500);
+    }
+    for (size_t r = 0; r < length; r++) {
+        int32_t at[3];
+        for (size_t axis = 0; axis < 3; axis++) {
+            at[axis] = middle[axis] + within(generator, 500);
+        }
+        place_point(surface, ring[r], at[0], at[1], at[2]);
+    }
+}
+
+/* The points of a hole that only a fan about the vertex at that place closes best: all others lie on a
+   curve that bends towards it. The nearer the place is to the end, the deeper its patch is listed. */
+static void place_fan(struct generated_surface *surface, const uint16_t *ring, size_t length, size_t apex)
+{
+    for (size_t r = 0; r < length; r++) {
+        int32_t x = (int32_t)((r + length - apex) % length);
+        place_point(surface, ring[r], x, 1000 + (x - 32) * (x - 32), 0);
+    }
+    place_point(surface, ring[apex], 32, 0, 0);
+}
+
+/* Single triangles over chance diagonals of a hole, which bar them; each is an island of its own. */
+static void add_flaps(struct generator *generator, struct generated_surface *surface,
+                      const uint16_t *ring, size_t length, size_t flaps, size_t *points)
+{
+    while (flaps > 0) {
+        uint16_t a = ring[generate_below(generator, length)];
+        uint16_t b = ring[generate_below(generator, length)];
+        if (a != b && reference_find_edge(surface->corners, surface->corner_count, a, b) == REFERENCE_NO_EDGE
+            && reference_find_edge(surface->corners, surface->corner_count, b, a) == REFERENCE_NO_EDGE) {
+            sheet_add_triangle(surface, a, b, *points);
+            *points += 1;
+            flaps -= 1;
+        }
+    }
+}
+
+/* One plate with as many holes of that length as fit: each lies in a collar with a frame of three edges, of which one is an
+   edge of the frame before. The rim is what is left of the frames. */
+static void make_plate(struct generator *generator, struct generated_surface *surface, size_t length, size_t holes,
+                       int fans, size_t flaps)
+{
+    uint16_t ring[REFERENCE_LONGEST_LOOP];
+    uint16_t frame[3] = {0, 1, 2};
+    size_t points = 3;
+    for (size_t hole = 0; hole < holes; hole++) {
+        for (size_t r = 0; r < length; r++) {
+            ring[r] = (uint16_t)points;
+            points += 1;
+        }
+        sheet_add_collar(surface, ring, length, frame, 3);
+        if (fans) {
+            place_fan(surface, ring, length, length - 1 - 4 * hole % length);
+        } else {
+            place_hole(generator, surface, ring, length);
+        }
+        add_flaps(generator, surface, ring, length, flaps, &points);
+        /* the next frame has the newest point's edge, in turn the one to it and the one from it, the other way round */
+        frame[hole % 2 == 0 ? 1 : 0] = frame[2];
+        frame[2] = (uint16_t)points;
+        points += 1;
+    }
+}
+
 const char *sheet_make(struct generator *generator, size_t sheet, struct generated_surface *surface)
 {
-    static const char *const names[9] = {"closed", "small holes", "large holes", "triangles at two hubs",
-                                         "fan", "strip", "rims that share a point",
-                                         "rims that share half", "rims that share all"};
+    static const char *const names[] = {"closed", "small holes", "large holes", "triangles at two hubs",
+                                        "fan", "strip", "rims that share a point",
+                                        "rims that share half", "rims that share all",
+                                        "plate with holes of 3", "plate with holes of 4", "plate with holes of 10",
+                                        "plate with holes of 36", "plate with holes of 64",
+                                        "plate with barred holes of 64", "plate with holes closed by fans"};
+    if (sheet >= sizeof names / sizeof names[0]) {
+        return 0;
+    }
     surface->corner_count = 0;
+    place_points(generator, surface, REFERENCE_MOST_POINTS, REFERENCE_GREATEST_COORDINATE);
     switch (sheet) {
     case 0: make_torus(surface, 1025); break;
     case 1: make_torus(surface, 5); break;
@@ -134,8 +281,14 @@ const char *sheet_make(struct generator *generator, size_t sheet, struct generat
     case 6: make_rims(surface, 63); break;
     case 7: make_rims(surface, 32); break;
     case 8: make_rims(surface, 0); break;
-    default: return 0;
+    case 9: make_plate(generator, surface, 3, 170, 0, 0); break;
+    case 10: make_plate(generator, surface, 4, 146, 0, 0); break;
+    case 11: make_plate(generator, surface, 10, 78, 0, 0); break;
+    case 12: make_plate(generator, surface, 36, 26, 0, 0); break;
+    case 13: make_plate(generator, surface, 64, 15, 0, 0); break;
+    case 14: make_plate(generator, surface, 64, 8, 0, 60); break;
+    default: make_plate(generator, surface, 64, 15, 1, 0); break;
     }
-    place_points(generator, surface, REFERENCE_MOST_POINTS, REFERENCE_GREATEST_COORDINATE);
+    generate_lend_exactly(surface);
     return names[sheet];
 }

@@ -13,8 +13,14 @@ void sheet_add_triangle(struct generated_surface *surface, size_t a, size_t b, s
 /* A cone about a hub, without the triangles that repeat a half-edge of its rim. */
 void sheet_add_cone(struct generated_surface *surface, const uint16_t *rim, size_t length, uint16_t hub);
 
-/* Cones with rims of 4 to 64 edges over a common stock of points, so that a
-   patch of one bars diagonals of the next; buffers exact. */
+/* A collar between a ring and the frame that closes it in: the ring's edges are open in its order, the frame's against theirs. */
+void sheet_add_collar(struct generated_surface *surface, const uint16_t *ring, size_t length,
+                      const uint16_t *frame, size_t edges);
+
+/* Cones with feet of 4 to 64 edges over a common stock of points, so that a
+   patch of one bars diagonals of the next; buffers exact. Most have their tip
+   cut off, and most of the cuts run so far that they are rims and the feet
+   are holes; the others are islands. */
 void sheet_make_cones(struct generator *generator, struct generated_surface *surface);
 
 /* The full sheet of that number, its points anywhere on the plate, buffers

@@ -1,6 +1,6 @@
 /* Compares wazelpunt_judge with the plain reference: the answer, and every byte of the three lent buffers with what lies before and
-   behind them. It takes the scope's examples with what is said of them, faults by one and by several, every short set for small loops,
-   rims of every length, full sheets, and made surfaces with made sets.
+   behind them. It takes the scope's examples with what is said of them, as islands and as holes, faults by one and by several, every
+   short set for small loops, holes and rims of every length, full sheets, and made surfaces with made sets.
    sets COUNT SEED: that many made sets, from that seed on. */
 #include <inttypes.h>
 #include <stdint.h>
@@ -68,37 +68,42 @@ static void expect(const char *name, const struct generated_surface *s, struct s
 
 /* ---- Examples ---- */
 
+/* Rings, each closed in by a frame of three points far out, and triangles beside them that have no open edge. The loops are the rings
+   and the frames in turn, and the frames are rims. */
 struct shape {
     size_t points;
-    int16_t at[36];
-    size_t corner_count;
-    uint16_t corners[36];
+    int16_t at[24];
+    size_t rings;
+    uint16_t lengths[3], ring[12];
+    size_t bar_count;
+    uint16_t bars[12];
 };
 
 enum { NOTHING, CLOSED, TRIANGLE, BOW_TIE, STRIP, CONE, EVEN_CONE, HUGE_CONE, BARRED_CONE, OPEN, TWO_CONES, WEIGHED_CONES, THREE_CONES };
 
 static const struct shape shapes[] = {
-    [NOTHING] = {0, {0}, 0, {0}},
-    [CLOSED] = {4, {0}, 12, {0, 1, 2, 0, 2, 3, 0, 3, 1, 1, 3, 2}},
-    [TRIANGLE] = {3, {0, 0, 0, 1, 0, 0, 0, 1, 0}, 3, {0, 1, 2}},
-    [BOW_TIE] = {5, {0}, 6, {0, 1, 2, 0, 3, 4}},
-    [STRIP] = {4, {0, 0, 0, 10, 0, 0, 10, 10, 0, 0, 10, 4}, 6, {0, 1, 2, 0, 2, 3}},
-    [CONE] = {5, {0, 0, 0, 10, 0, 0, 3, 3, 0, 0, 10, 0, 4, 4, 9}, 12, {0, 1, 4, 1, 2, 4, 2, 3, 4, 3, 0, 4}},
-    [EVEN_CONE] = {5, {0, 0, 0, 10, 0, 0, 10, 10, 0, 0, 10, 4, 4, 4, 9}, 12, {0, 1, 4, 1, 2, 4, 2, 3, 4, 3, 0, 4}},
+    [NOTHING] = {0, {0}, 0, {0}, {0}, 0, {0}},
+    [CLOSED] = {4, {0}, 0, {0}, {0}, 12, {0, 1, 2, 0, 2, 3, 0, 3, 1, 1, 3, 2}},
+    [TRIANGLE] = {3, {0, 0, 0, 1, 0, 0, 0, 1, 0}, 1, {3}, {0, 1, 2}, 0, {0}},
+    [BOW_TIE] = {5, {0}, 2, {3, 3}, {0, 1, 2, 0, 3, 4}, 0, {0}},
+    /* the diagonal 0-2 is barred */
+    [STRIP] = {5, {0, 0, 0, 10, 0, 0, 10, 10, 0, 0, 10, 4}, 1, {4}, {0, 1, 2, 3}, 6, {0, 2, 4, 0, 4, 2}},
+    /* the point 4 is on no ring */
+    [CONE] = {5, {0, 0, 0, 10, 0, 0, 3, 3, 0, 0, 10, 0, 4, 4, 9}, 1, {4}, {0, 1, 2, 3}, 0, {0}},
+    [EVEN_CONE] = {5, {0, 0, 0, 10, 0, 0, 10, 10, 0, 0, 10, 4, 4, 4, 9}, 1, {4}, {0, 1, 2, 3}, 0, {0}},
     /* the covers weigh 8,589,475,845 by 0-2 and two more by 1-3 */
-    [HUGE_CONE] = {5, {-32767, -32767, 0, 32767, -32767, 0, 32766, 32767, 0, -32767, 32767, 1, 0, 0, 0}, 12, {0, 1, 4, 1, 2, 4, 2, 3, 4, 3, 0, 4}},
-    /* the heavier diagonal 1-3 is barred, by two triangles that have no open edge */
-    [BARRED_CONE] = {6, {0, 0, 0, 10, 0, 0, 3, 3, 0, 0, 10, 0, 4, 4, 9}, 18, {0, 1, 4, 1, 2, 4, 2, 3, 4, 3, 0, 4, 1, 3, 5, 1, 5, 3}},
-    [OPEN] = {5, {0, 0, 0, 10, 0, 0, 10, 10, 0, 0, 10, 4, 4, 4, 9}, 9, {0, 1, 2, 0, 2, 3, 1, 3, 4}},
-    /* rings 0,1,2,3 and 4,1,5,3 */
-    [TWO_CONES] = {10, {0}, 24, {0, 1, 8, 1, 2, 8, 2, 3, 8, 3, 0, 8, 4, 1, 9, 1, 5, 9, 5, 3, 9, 3, 4, 9}},
+    [HUGE_CONE] = {4, {-32767, -32767, 0, 32767, -32767, 0, 32766, 32767, 0, -32767, 32767, 1}, 1, {4}, {0, 1, 2, 3}, 0, {0}},
+    /* the heavier diagonal 1-3 is barred */
+    [BARRED_CONE] = {5, {0, 0, 0, 10, 0, 0, 3, 3, 0, 0, 10, 0, 4, 4, 9}, 1, {4}, {0, 1, 2, 3}, 6, {1, 3, 4, 1, 4, 3}},
+    /* the second ring bars 1-3 */
+    [OPEN] = {6, {0, 0, 0, 10, 0, 0, 10, 10, 0, 0, 10, 4, 4, 4, 9}, 2, {4, 3}, {0, 1, 2, 3, 1, 3, 4}, 6, {0, 2, 5, 0, 5, 2}},
+    [TWO_CONES] = {6, {0}, 2, {4, 4}, {0, 1, 2, 3, 4, 1, 5, 3}, 0, {0}},
     /* the first ring's covers weigh the same, of the second's that by 1-3 is lighter */
-    [WEIGHED_CONES] = {10, {0, 0, 0, 10, 0, 0, 10, 10, 0, 0, 10, 0, 0, -20, 0, 30, 10, 0}, 24, {0, 1, 8, 1, 2, 8, 2, 3, 8, 3, 0, 8, 4, 1, 9, 1, 5, 9, 5, 3, 9, 3, 4, 9}},
-    /* rings 0,1,2,3 and 4,5,6,7 and 1,5,3,7 */
-    [THREE_CONES] = {11, {0}, 36, {0, 1, 8, 1, 2, 8, 2, 3, 8, 3, 0, 8, 4, 5, 9, 5, 6, 9, 6, 7, 9, 7, 4, 9, 1, 5, 10, 5, 3, 10, 3, 7, 10, 7, 1, 10}},
+    [WEIGHED_CONES] = {6, {0, 0, 0, 10, 0, 0, 10, 10, 0, 0, 10, 0, 0, -20, 0, 30, 10, 0}, 2, {4, 4}, {0, 1, 2, 3, 4, 1, 5, 3}, 0, {0}},
+    [THREE_CONES] = {8, {0}, 3, {4, 4, 4}, {0, 1, 2, 3, 4, 5, 6, 7, 1, 5, 3, 7}, 0, {0}},
 };
 
-/* A set for a shape, and what it gets. */
+/* A set for a shape, its states those of the rings alone, and what it gets, at which ring: the frames are declared 4 beside them. */
 struct example {
     const char *name;
     size_t shape;
@@ -220,61 +225,203 @@ static const struct example examples[] = {
     {"a corner after two loops and an open one", THREE_CONES, 3, {1, 1, 3}, 13, {0, 3, 1, 1, 3, 2, 4, 7, 5, 5, 7, 6, 1}, 15, 12},
 };
 
-static void take_shape(const struct shape *shape, struct generated_surface *s) {
-    s->word_count = 3 * shape->points;
-    for (size_t w = 0; w < s->word_count; w++) s->words[w] = sheet_word(shape->at[w]);
-    s->corner_count = shape->corner_count;
-    memcpy(s->corners, shape->corners, sizeof shape->corners);
+/* Closes a ring in by a frame of so many points, the first of that number, which lie at the ends of the plate in turn. */
+static void close_in(struct generated_surface *s, const uint16_t *ring, size_t length, size_t first, size_t edges) {
+    uint16_t frame[REFERENCE_LONGEST_LOOP + 2];
+    for (size_t f = 0; f < edges; f++) {
+        frame[f] = (uint16_t)(first + f);
+        for (size_t axis = 0; axis < 3; axis++) s->words[3 * frame[f] + axis] = sheet_word(f % 2 == 0 ? 32767 : -32767);
+    }
+    sheet_add_collar(s, ring, length, frame, edges);
+    s->word_count = 3 * (first + edges);
     generate_lend_exactly(s);
 }
 
+static void take_shape(const struct shape *shape, struct generated_surface *s) {
+    const uint16_t *ring = shape->ring;
+    s->word_count = 3 * shape->points;
+    s->corner_count = 0;
+    for (size_t w = 0; w < s->word_count; w++) s->words[w] = sheet_word(shape->at[w]);
+    for (size_t r = 0; r < shape->rings; ring += shape->lengths[r++]) close_in(s, ring, shape->lengths[r], shape->points + 3 * r, 3);
+    for (size_t c = 0; c < shape->bar_count; c += 3) sheet_add_triangle(s, shape->bars[c], shape->bars[c + 1], shape->bars[c + 2]);
+    generate_lend_exactly(s);
+}
+
+/* Every ring's state and a 4 for its frame; of states too many or too few there are as many too many or too few. */
 static void compare_examples(void) {
     static struct generated_surface surface;
     for (size_t i = 0; i < sizeof examples / sizeof examples[0]; i++) {
         const struct example *e = &examples[i];
+        size_t loops = 2 * shapes[e->shape].rings, place = e->number >= 11 && e->number <= 14 ? 2 * e->place : e->number == 9 ? loops : e->place;
+        uint16_t states[9];
+        for (size_t l = 0; l < 9; l++) states[l] = l % 2 == 0 && l / 2 < e->state_count ? e->states[l / 2] : 4;
         take_shape(&shapes[e->shape], &surface);
-        expect(e->name, &surface, (struct set){e->states, e->state_count, e->corners, e->corner_count}, e->number, e->place);
+        expect(e->name, &surface, (struct set){states, loops + e->state_count - shapes[e->shape].rings, e->corners, e->corner_count}, e->number, place);
+    }
+}
+
+/* ---- Islands and plates ---- */
+
+/* A surface as it stands, a set for it, and what it gets. */
+struct land {
+    const char *name;
+    size_t points;
+    const int16_t *at;
+    size_t corner_count;
+    const uint16_t *corners;
+    size_t state_count;
+    uint16_t states[4];
+    size_t set_count;
+    uint16_t set[9];
+    size_t number, place;
+};
+
+static const int16_t listed_at[9] = {0, 0, 0, 1, 0, 0, 0, 1, 0};
+static const int16_t fold_at[15] = {0, 0, 0, 10, 0, 0, 10, 10, 0, 0, 10, 4, 4, 4, 9};
+static const int16_t cone_at[15] = {0, 0, 0, 10, 0, 0, 3, 3, 0, 0, 10, 0, 4, 4, 9};
+static const int16_t plate_at[27] = {0, 0, 0, 30, 0, 0, 0, 30, 0, 5, 5, 0, 15, 5, 0, 5, 15, 0, 6, 6, 0, 8, 6, 0, 6, 8, 0};
+static const int16_t equal_at[18] = {0, 0, 0, 10, 0, 0, 0, 10, 0, 0, 0, 5, 10, 0, 5, 0, 10, 5};
+static const int16_t inner_at[18] = {1, 1, 0, 2, 1, 0, 1, 2, 0, 0, 0, 9, 50, 0, 9, 0, 50, 9};
+static const int16_t closing_at[18] = {0, 0, 0, 10, 0, 0, 20, 0, 0, 12, 0, 1, 0, 0, 1, 0, 1, 1};
+static const int16_t signs_at[18] = {0, 0, 0, 10, -10, 0, 20, -20, 0, 12, 0, 0, 0, 0, 0, 0, 1, 0};
+static const uint16_t listed[3] = {0, 1, 2};
+static const uint16_t bow_tie[6] = {0, 1, 2, 0, 3, 4};
+static const uint16_t pinched[12] = {0, 1, 2, 2, 1, 3, 2, 3, 4, 4, 3, 0};
+static const uint16_t fold[6] = {0, 1, 2, 0, 2, 3};
+static const uint16_t cone[12] = {0, 1, 4, 1, 2, 4, 2, 3, 4, 3, 0, 4};
+static const uint16_t crossed[9] = {0, 1, 2, 0, 2, 3, 1, 3, 4};
+/* rings 0,1,2 and 4,3,5, and an island; then the same with the second ring listed first */
+static const uint16_t plate[21] = {0, 1, 3, 1, 4, 3, 1, 2, 4, 2, 5, 4, 2, 0, 5, 0, 3, 5, 6, 7, 8};
+static const uint16_t hole_first[18] = {4, 3, 1, 0, 1, 3, 1, 2, 4, 2, 5, 4, 2, 0, 5, 0, 3, 5};
+
+#define LISTED 3, listed_at, 3, listed
+#define BOW_TIE_ALONE 5, fold_at, 6, bow_tie
+#define PINCHED 5, fold_at, 12, pinched
+#define FOLD 4, fold_at, 6, fold
+#define CONE_ALONE 5, cone_at, 12, cone
+#define CROSSED 5, fold_at, 9, crossed
+#define PLATE 6, plate_at, 18, plate
+#define PLATE_AND_ISLAND 9, plate_at, 21, plate
+#define EQUAL 6, equal_at, 18, plate
+#define EQUAL_OTHERWISE 6, equal_at, 18, hole_first
+#define INNER 6, inner_at, 18, plate
+#define CLOSING 6, closing_at, 18, hole_first
+#define SIGNS 6, signs_at, 18, hole_first
+
+static const struct land lands[] = {
+    {"an island", LISTED, 1, {4}, 0, {0}, 0, 0},
+    {"an island paved", LISTED, 1, {1}, 3, {0, 2, 1}, 11, 0},
+    {"an island declared patched, and no cover", LISTED, 1, {1}, 3, {0, 1, 2}, 11, 0},
+    {"an island declared patched, and nothing laid", LISTED, 1, {1}, 0, {0}, 11, 0},
+    {"an island declared long", LISTED, 1, {2}, 0, {0}, 11, 0},
+    {"an island declared open", LISTED, 1, {3}, 0, {0}, 11, 0},
+    {"an island declared 0", LISTED, 1, {0}, 0, {0}, 11, 0},
+    {"an island declared 5", LISTED, 1, {5}, 0, {0}, 11, 0},
+    {"an island declared 65535", LISTED, 1, {65535}, 0, {0}, 11, 0},
+    {"corners for an island", LISTED, 1, {4}, 3, {0, 2, 1}, 15, 0},
+    {"a corner for an island", LISTED, 1, {4}, 1, {65535}, 15, 0},
+    {"no state for an island", LISTED, 0, {4}, 0, {0}, 9, 1},
+    {"two states for an island", LISTED, 2, {4, 4}, 0, {0}, 9, 1},
+    {"islands that share a vertex", BOW_TIE_ALONE, 2, {4, 4}, 0, {0}, 0, 0},
+    {"the second of them paved", BOW_TIE_ALONE, 2, {4, 1}, 3, {0, 4, 3}, 11, 1},
+    {"both of them paved", BOW_TIE_ALONE, 2, {1, 1}, 6, {0, 2, 1, 0, 4, 3}, 11, 0},
+    {"a pinched coast, its second loop the rim", PINCHED, 2, {1, 4}, 3, {0, 3, 1}, 0, 0},
+    {"a pinched coast, its first loop declared the rim", PINCHED, 2, {4, 1}, 3, {0, 2, 4}, 11, 0},
+    {"a pinched coast paved", PINCHED, 2, {1, 1}, 6, {0, 3, 1, 0, 2, 4}, 11, 1},
+    {"a fold with the barred diagonal", FOLD, 1, {1}, 6, {0, 3, 2, 0, 2, 1}, 11, 0},
+    {"a fold with the other", FOLD, 1, {1}, 6, {0, 3, 1, 1, 3, 2}, 11, 0},
+    {"a fold", FOLD, 1, {4}, 0, {0}, 0, 0},
+    {"a cone with the lighter cover", CONE_ALONE, 1, {1}, 6, {3, 2, 0, 2, 1, 0}, 11, 0},
+    {"a cone with the heavier cover", CONE_ALONE, 1, {1}, 6, {0, 3, 1, 1, 3, 2}, 11, 0},
+    {"a cone with a triangle turned round", CONE_ALONE, 1, {1}, 6, {0, 2, 3, 0, 2, 1}, 11, 0},
+    {"a cone", CONE_ALONE, 1, {4}, 0, {0}, 0, 0},
+    {"an island whose diagonals are both barred, declared open", CROSSED, 2, {3, 4}, 0, {0}, 11, 0},
+    {"it and the island that bars one", CROSSED, 2, {4, 4}, 0, {0}, 0, 0},
+    {"it declared open, the other paved", CROSSED, 2, {3, 1}, 3, {1, 4, 3}, 11, 0},
+    {"the other paved", CROSSED, 2, {4, 1}, 3, {1, 4, 3}, 11, 1},
+    {"a plate", PLATE, 2, {4, 1}, 3, {4, 5, 3}, 0, 0},
+    {"a plate, its patch begun elsewhere", PLATE, 2, {4, 1}, 3, {3, 4, 5}, 0, 0},
+    {"a plate, its patch turned round", PLATE, 2, {4, 1}, 3, {4, 3, 5}, 12, 1},
+    {"a plate, its patch missing", PLATE, 2, {4, 1}, 0, {0}, 12, 1},
+    {"a plate paved", PLATE, 2, {1, 1}, 6, {0, 2, 1, 4, 5, 3}, 11, 0},
+    {"a plate, corners for its rim before the hole's", PLATE, 2, {4, 1}, 6, {0, 2, 1, 4, 5, 3}, 12, 1},
+    {"a plate, corners for its rim after the hole's", PLATE, 2, {4, 1}, 6, {4, 5, 3, 0, 2, 1}, 15, 3},
+    {"a plate, its hole declared a rim", PLATE, 2, {4, 4}, 0, {0}, 11, 1},
+    {"a plate, its hole declared a rim and patched", PLATE, 2, {4, 4}, 3, {4, 5, 3}, 11, 1},
+    {"a plate, its hole declared long", PLATE, 2, {4, 2}, 0, {0}, 11, 1},
+    {"a plate, its hole declared open", PLATE, 2, {4, 3}, 0, {0}, 11, 1},
+    {"a plate, its rim declared long", PLATE, 2, {2, 1}, 3, {4, 5, 3}, 11, 0},
+    {"a plate, its rim declared open", PLATE, 2, {3, 1}, 3, {4, 5, 3}, 11, 0},
+    {"a plate, rim and hole declared each for the other", PLATE, 2, {1, 4}, 3, {0, 2, 1}, 11, 0},
+    {"a plate with an island", PLATE_AND_ISLAND, 3, {4, 1, 4}, 3, {4, 5, 3}, 0, 0},
+    {"a plate with an island that is paved", PLATE_AND_ISLAND, 3, {4, 1, 1}, 6, {4, 5, 3, 6, 8, 7}, 11, 2},
+    {"12 at the hole before 11 at the island", PLATE_AND_ISLAND, 3, {4, 1, 1}, 3, {4, 3, 5}, 12, 1},
+    {"11 at the island before 15", PLATE_AND_ISLAND, 3, {4, 1, 0}, 4, {4, 5, 3, 9}, 11, 2},
+    {"one rim for two pieces", PLATE_AND_ISLAND, 3, {4, 1, 1}, 3, {4, 5, 3}, 11, 2},
+    {"equal runs, the first the rim", EQUAL, 2, {4, 1}, 3, {4, 5, 3}, 0, 0},
+    {"equal runs, the second declared the rim", EQUAL, 2, {1, 4}, 3, {0, 2, 1}, 11, 0},
+    {"equal runs, listed otherwise", EQUAL_OTHERWISE, 2, {4, 1}, 3, {0, 2, 1}, 0, 0},
+    {"equal runs, listed otherwise, the second declared the rim", EQUAL_OTHERWISE, 2, {1, 4}, 3, {4, 5, 3}, 11, 0},
+    {"the inner loop the rim", INNER, 2, {1, 4}, 3, {0, 2, 1}, 0, 0},
+    {"the inner loop patched", INNER, 2, {4, 1}, 3, {4, 5, 3}, 11, 0},
+    {"the rim by its closing edge", CLOSING, 2, {1, 4}, 3, {4, 5, 3}, 0, 0},
+    {"the rim by its closing edge, the other declared the rim", CLOSING, 2, {4, 1}, 3, {0, 2, 1}, 11, 0},
+    {"the rim by differences of both signs", SIGNS, 2, {1, 4}, 3, {4, 5, 3}, 0, 0},
+    {"the rim by differences of both signs, the other declared the rim", SIGNS, 2, {4, 1}, 3, {0, 2, 1}, 11, 0},
+};
+
+static void compare_lands(void) {
+    static struct generated_surface surface;
+    for (size_t i = 0; i < sizeof lands / sizeof lands[0]; i++) {
+        const struct land *l = &lands[i];
+        surface.word_count = 3 * l->points;
+        for (size_t w = 0; w < surface.word_count; w++) surface.words[w] = sheet_word(l->at[w]);
+        surface.corner_count = l->corner_count;
+        memcpy(surface.corners, l->corners, l->corner_count * sizeof *l->corners);
+        generate_lend_exactly(&surface);
+        expect(l->name, &surface, (struct set){l->states, l->state_count, l->set, l->set_count}, l->number, l->place);
     }
 }
 
 /* Lists of more than 65,536, whose counts have the low digits of others. */
 static void compare_long_lists(void) {
-    static struct generated_surface nothing, cone;
-    static uint16_t states[65536 + 2], corners[65536 + 6] = {0, 3, 2, 0, 2, 1};
+    static struct generated_surface nothing, hole;
+    static uint16_t states[65536 + 3], corners[65536 + 6] = {0, 3, 2, 0, 2, 1};
     take_shape(&shapes[NOTHING], &nothing);
-    take_shape(&shapes[EVEN_CONE], &cone);
+    take_shape(&shapes[EVEN_CONE], &hole);
     states[0] = 1;
+    states[1] = 4;
     expect("65,536 states for nothing", &nothing, (struct set){states, 65536, corners, 0}, 9, 0);
     expect("65,536 corners for nothing", &nothing, (struct set){states, 0, corners, 65536}, 15, 0);
-    expect("65,537 states", &cone, (struct set){states, 65536 + 1, corners, 6}, 9, 1);
-    expect("65,537 states and as many corners", &cone, (struct set){states, 65536 + 1, corners, 65536 + 6}, 9, 1);
-    expect("65,541 corners", &cone, (struct set){states, 1, corners, 65536 + 5}, 15, 6);
-    expect("65,542 corners", &cone, (struct set){states, 1, corners, 65536 + 6}, 15, 6);
+    expect("65,538 states", &hole, (struct set){states, 65536 + 2, corners, 6}, 9, 2);
+    expect("65,538 states and as many corners", &hole, (struct set){states, 65536 + 2, corners, 65536 + 6}, 9, 2);
+    expect("65,541 corners", &hole, (struct set){states, 2, corners, 65536 + 5}, 15, 6);
+    expect("65,542 corners", &hole, (struct set){states, 2, corners, 65536 + 6}, 15, 6);
     states[0] = 3;
-    expect("65,542 corners for a loop declared open", &cone, (struct set){states, 1, corners, 65536 + 6}, 11, 0);
+    expect("65,542 corners for a hole declared open", &hole, (struct set){states, 2, corners, 65536 + 6}, 11, 0);
 }
 
 /* ---- Refusals ---- */
 
 /* A refusal comes whether the set is right or has a state too many and a triangle turned round. */
 static void refuses(const struct generated_surface *s, size_t number, size_t place) {
-    static const uint16_t states[2] = {1, 7}, good[3] = {0, 3, 1}, bad[6] = {0, 1, 3, 65535, 0, 0};
-    expect("a refusal with a right set", s, (struct set){states, 1, good, 3}, number, place);
-    expect("a refusal with a wrong set", s, (struct set){states, 2, bad, 6}, number, place);
+    static const uint16_t states[4] = {4, 1, 4, 7}, good[3] = {8, 9, 7}, bad[6] = {8, 7, 9, 65535, 0, 0};
+    expect("a refusal with a right set", s, (struct set){states, 3, good, 3}, number, place);
+    expect("a refusal with a wrong set", s, (struct set){states, 4, bad, 6}, number, place);
     expect("a refusal with an empty set", s, (struct set){states, 0, good, 0}, number, place);
 }
 
 static void refuse_counts(struct generated_surface *s) {
-    s->word_count = 13;
-    s->corner_count = 11;
+    s->word_count = 31;
+    s->corner_count = 29;
     refuses(s, 1, 0);
     s->word_count = REFERENCE_MOST_WORDS + 3;
     refuses(s, 1, 0);
-    s->word_count = 12;
+    s->word_count = 30;
     refuses(s, 2, 0);
     s->corner_count = REFERENCE_MOST_CORNERS + 3;
     refuses(s, 2, 0);
-    s->corner_count = 12;
+    s->corner_count = 30;
 }
 
 static void refuse_buffers(struct generated_surface *s) {
@@ -289,12 +436,12 @@ static void refuse_buffers(struct generated_surface *s) {
 }
 
 static void refuse_triangles(struct generated_surface *s) {
-    refuses(s, 4, 5);
-    s->corners[5] = 3;
-    refuses(s, 5, 2);
-    s->corners[8] = 1;
-    refuses(s, 6, 9);
-    s->corner_count = 9;
+    refuses(s, 4, 23);
+    s->corners[23] = 3;
+    refuses(s, 5, 8);
+    s->corners[26] = 1;
+    refuses(s, 6, 27);
+    s->corner_count = 27;
 }
 
 static void refuse_coordinates(struct generated_surface *s) {
@@ -306,11 +453,13 @@ static void refuse_coordinates(struct generated_surface *s) {
 }
 
 /* A surface with every fault there is, and a set likewise, which are mended one after the other: each answer comes before the next.
-   At last the surface has one loop, 0,1,3. */
+   At last the surface has the rim 4,5,6, its hole 8,7,9, and the island 0,1,3. */
 static void compare_refusals(void) {
     static struct generated_surface s;
-    static const uint16_t corners[12] = {0, 1, 2, 0, 2, 4, 3, 2, 3, 0, 1, 3}, states[2] = {0, 1}, set[10] = {0, 1, 3, 0, 3, 1};
+    static const uint16_t corners[30] = {4, 5, 7, 5, 8, 7, 5, 6, 8, 6, 9, 8, 6, 4, 9, 4, 7, 9, 0, 1, 2, 0, 2, 10, 3, 2, 3, 0, 1, 3};
+    static const uint16_t states[4][4] = {{0, 4, 1, 4}, {4, 4, 1, 4}, {4, 1, 1, 4}, {4, 1, 4, 4}}, set[10] = {8, 7, 9, 8, 9, 7};
     for (size_t w = 0; w < 12; w++) s.words[w] = sheet_word((int32_t)w);
+    for (size_t w = 0; w < 18; w++) s.words[12 + w] = sheet_word(plate_at[w]);
     memcpy(s.corners, corners, sizeof corners);
     s.words[9] = 0x7f800000;
     s.words[10] = 0xffc00000;
@@ -320,59 +469,67 @@ static void compare_refusals(void) {
     refuse_buffers(&s);
     refuse_triangles(&s);
     refuse_coordinates(&s);
-    expect("mended to 9", &s, (struct set){states, 0, set, 6}, 9, 1);
-    expect("still 9", &s, (struct set){states, 2, set, 6}, 9, 1);
-    expect("mended to 11", &s, (struct set){states, 1, set, 6}, 11, 0);
-    expect("mended to 12", &s, (struct set){states + 1, 1, set, 6}, 12, 0);
-    expect("mended to 15", &s, (struct set){states + 1, 1, set + 3, 4}, 15, 3);
-    expect("mended", &s, (struct set){states + 1, 1, set + 3, 3}, 0, 0);
+    expect("mended to 9", &s, (struct set){states[0], 0, set, 6}, 9, 3);
+    expect("still 9", &s, (struct set){states[0], 4, set, 6}, 9, 3);
+    expect("mended to 11", &s, (struct set){states[0], 3, set, 6}, 11, 0);
+    expect("mended to 11 at the hole", &s, (struct set){states[1], 3, set, 6}, 11, 1);
+    expect("mended to 12", &s, (struct set){states[2], 3, set, 6}, 12, 1);
+    expect("mended to 11 at the island", &s, (struct set){states[2], 3, set + 3, 4}, 11, 2);
+    expect("mended to 15", &s, (struct set){states[3], 3, set + 3, 4}, 15, 3);
+    expect("mended", &s, (struct set){states[3], 3, set + 3, 3}, 0, 0);
 }
 
 /* ---- Several faults ---- */
 
 #define PIECES 3
-#define PIECE_POINTS 7
+#define PIECE_POINTS 9
 #define WRONG_STATES 5
 
-/* what a loop of at most 64 edges that has an allowed cover may not be declared */
+/* what a loop of at most 64 edges that is no rim and has an allowed cover may not be declared */
 static const uint16_t wrong_states[WRONG_STATES] = {0, 2, 3, 4, 65535};
 
 /* A piece has the ring 0 to 4, and its diagonal 1-3 is barred. Its covers by 0 weigh 129, by 2 and by 4 255; the barred ones 121 and
-   151. */
+   151. Its rim is 5 to 7. */
 static void add_piece(struct generated_surface *s, size_t piece) {
-    static const int16_t at[3 * PIECE_POINTS] = {0, 0, 0, 10, 0, 0, 12, 8, 0, 5, 3, 0, 0, 9, 0};
+    static const int16_t at[15] = {0, 0, 0, 10, 0, 0, 12, 8, 0, 5, 3, 0, 0, 9, 0};
     size_t first = PIECE_POINTS * piece;
-    for (size_t r = 0; r < 5; r++) sheet_add_triangle(s, first + r, first + (r + 1) % 5, first + 5);
-    sheet_add_triangle(s, first + 1, first + 3, first + 6);
-    sheet_add_triangle(s, first + 1, first + 6, first + 3);
-    for (size_t w = 0; w < 3 * PIECE_POINTS; w++) s->words[3 * first + w] = sheet_word(at[w]);
+    uint16_t ring[5];
+    for (size_t r = 0; r < 5; r++) ring[r] = (uint16_t)(first + r);
+    for (size_t w = 0; w < 15; w++) s->words[3 * first + w] = sheet_word(at[w]);
+    close_in(s, ring, 5, first + 5, 3);
+    sheet_add_triangle(s, first + 1, first + 3, first + 8);
+    sheet_add_triangle(s, first + 1, first + 8, first + 3);
+    memset(s->words + 3 * (first + 8), 0, 3 * sizeof *s->words);
     s->word_count = 3 * (first + PIECE_POINTS);
     generate_lend_exactly(s);
 }
 
-/* What a loop of a piece is given to get 0, 11, 12, 13 or 14: a state, for 11 the wrong one, and a part of the set. */
+/* What the loops of a piece are given to get 0, or 11, 12, 13 or 14 at the ring, or 11 at the rim: states, for 11 the wrong one, and a part
+   of the set. */
 static void add_part(struct generated_set *t, size_t fault, size_t piece, uint16_t wrong_state) {
-    static const uint16_t parts[5][9] = {{0, 4, 3, 0, 3, 2, 0, 2, 1}, {0, 4, 3, 0, 3, 2, 0, 2, 1}, {0, 4, 1, 1, 4, 3, 1, 2, 3}, {0, 4, 1, 1, 4, 3, 1, 3, 2}, {0, 4, 1, 1, 4, 2, 2, 4, 3}};
+    static const uint16_t parts[6][9] = {{0, 4, 3, 0, 3, 2, 0, 2, 1}, {0, 4, 3, 0, 3, 2, 0, 2, 1}, {0, 4, 1, 1, 4, 3, 1, 2, 3}, {0, 4, 1, 1, 4, 3, 1, 3, 2}, {0, 4, 1, 1, 4, 2, 2, 4, 3}, {0, 4, 3, 0, 3, 2, 0, 2, 1}};
     t->states[t->state_count++] = fault == 1 ? wrong_state : 1;
+    t->states[t->state_count++] = fault == 5 ? (wrong_state == 4 ? 1 : wrong_state) : 4;
     for (size_t c = 0; c < 9; c++) t->corners[t->corner_count++] = (uint16_t)(parts[fault][c] + PIECE_POINTS * piece);
 }
 
-/* Every choice of faults for three loops, without and with a corner left, for each wrong state: the first loop that has a fault
+/* Every choice of faults for three pieces, without and with a corner left, for each wrong state: the first loop that has a fault
    decides, and 15 comes last. */
 static void compare_faults(void) {
     static struct generated_surface surface;
     static struct generated_set set;
     surface.corner_count = 0;
     for (size_t piece = 0; piece < PIECES; piece++) add_piece(&surface, piece);
-    for (size_t choice = 0; choice < 2 * 125 * WRONG_STATES; choice++) {
-        const size_t faults[PIECES] = {choice % 5, choice / 5 % 5, choice / 25 % 5};
-        size_t first = 0, left = choice / 125 % 2;
+    for (size_t choice = 0; choice < 2 * 216 * WRONG_STATES; choice++) {
+        const size_t faults[PIECES] = {choice % 6, choice / 6 % 6, choice / 36 % 6};
+        size_t first = 0, left = choice / 216 % 2;
         set.state_count = set.corner_count = 0;
-        for (size_t piece = 0; piece < PIECES; piece++) add_part(&set, faults[piece], piece, wrong_states[choice / 250]);
+        for (size_t piece = 0; piece < PIECES; piece++) add_part(&set, faults[piece], piece, wrong_states[choice / 432]);
         set.corner_count += left;
         while (first < PIECES && faults[first] == 0) first++;
-        if (first < PIECES) expect("several faults", &surface, whole(&set), 10 + faults[first], first);
-        else expect("no fault but 15", &surface, whole(&set), left == 0 ? 0 : 15, left * 9 * PIECES);
+        if (first == PIECES) expect("no fault but 15", &surface, whole(&set), left == 0 ? 0 : 15, left * 9 * PIECES);
+        else if (faults[first] == 5) expect("a fault at a rim", &surface, whole(&set), 11, 2 * first + 1);
+        else expect("several faults", &surface, whole(&set), 10 + faults[first], 2 * first);
     }
 }
 
@@ -381,8 +538,8 @@ static void compare_faults(void) {
 static size_t got[HIGHEST + 1];
 
 static void take_set(const struct generated_surface *s, const uint16_t *corners, size_t count) {
-    static const uint16_t state = 1;
-    if (!agree(s, (struct set){&state, 1, corners, count})) count_wrong("one of all short sets");
+    static const uint16_t states[2] = {1, 4};
+    if (!agree(s, (struct set){states, 2, corners, count})) count_wrong("one of all short sets");
     got[said.number]++;
 }
 
@@ -424,7 +581,7 @@ static void compare_threes(void) {
     got_all(8000, 6 * 1, 6 * 2, 6 * 2);
 }
 
-/* ---- Rims ---- */
+/* ---- Holes and rims of every length ---- */
 
 /* Any cover of the stretch i..k of the ring 0,1,2,... */
 static void lay_any(struct generator *generator, struct generated_set *t, size_t i, size_t k) {
@@ -437,23 +594,24 @@ static void lay_any(struct generator *generator, struct generated_set *t, size_t
     lay_any(generator, t, m, k);
 }
 
-/* A cone with a rim of n edges and a triangle apart, all points at 0,0,0. */
-static void make_rim(struct generated_surface *s, size_t n) {
-    uint16_t rim[REFERENCE_LONGEST_LOOP + 1];
-    for (size_t r = 0; r < n; r++) rim[r] = (uint16_t)r;
+/* A ring of n edges, all its points at 0,0,0, that is closed in, or is the foot of a cone and so the coast of an island; then a hole of
+   three in a rim of n. */
+static void make_hole(struct generated_surface *s, size_t n, int island) {
+    uint16_t ring[REFERENCE_LONGEST_LOOP + 1];
+    const uint16_t apart[3] = {(uint16_t)(n + 3), (uint16_t)(n + 4), (uint16_t)(n + 5)};
+    for (size_t r = 0; r < n; r++) ring[r] = (uint16_t)r;
     s->corner_count = 0;
-    sheet_add_cone(s, rim, n, (uint16_t)n);
-    sheet_add_triangle(s, n + 1, n + 2, n + 3);
-    s->word_count = 3 * (n + 4);
     memset(s->words, 0, sizeof s->words);
-    generate_lend_exactly(s);
+    if (island) sheet_add_cone(s, ring, n, (uint16_t)n);
+    else close_in(s, ring, n, n, 3);
+    close_in(s, apart, 3, n + 6, n);
 }
 
-/* Both declared patched: a cover of the rim of n in any order, and the triangle. */
-static void make_rim_set(struct generator *generator, struct generated_set *t, size_t n) {
-    const uint16_t apart[3] = {(uint16_t)(n + 1), (uint16_t)(n + 3), (uint16_t)(n + 2)};
-    t->state_count = 2;
-    t->states[0] = t->states[1] = 1;
+/* The ring of n declared patched: a cover of it in any order, and the triangle of the hole apart. */
+static void make_hole_set(struct generator *generator, struct generated_set *t, size_t n) {
+    const uint16_t apart[3] = {(uint16_t)(n + 3), (uint16_t)(n + 5), (uint16_t)(n + 4)}, states[4] = {1, 4, 1, 4};
+    t->state_count = 4;
+    memcpy(t->states, states, sizeof states);
     t->corner_count = 0;
     lay_any(generator, t, 0, n - 1);
     generate_shuffle_triangles(generator, t->corners, t->corner_count);
@@ -461,70 +619,104 @@ static void make_rim_set(struct generator *generator, struct generated_set *t, s
     t->corner_count += 3;
 }
 
-/* One triangle of the rim's turned round, one another's copy, and a corner that the ring has not. */
-static void spoil_rim(struct generator *generator, const struct generated_surface *s, const struct generated_set *t, size_t n) {
+/* One triangle of the hole's turned round, one another's copy, and a corner that the ring has not. */
+static void spoil_hole(struct generator *generator, const struct generated_surface *s, const struct generated_set *t, size_t n) {
     static struct generated_set spoiled;
-    const uint16_t strange[6] = {(uint16_t)n, (uint16_t)(n + 1), (uint16_t)(n + 4), 1023, 1024, 65535};
+    const uint16_t strange[6] = {(uint16_t)n, (uint16_t)(n + 3), (uint16_t)(n + 6), 1023, 1024, 65535};
     size_t own = 3 * generate_below(generator, n - 2), next = (own + 3) % (3 * (n - 2));
     spoiled = *t;
     spoiled.corners[own] = t->corners[own + 1];
     spoiled.corners[own + 1] = t->corners[own];
-    expect("a rim's triangle turned round", s, whole(&spoiled), 12, 0);
+    expect("a hole's triangle turned round", s, whole(&spoiled), 12, 0);
     memcpy(spoiled.corners + own, t->corners + next, 3 * sizeof *t->corners);
-    expect("a rim's triangle twice", s, whole(&spoiled), n == 3 ? 0 : 12, 0);
+    expect("a hole's triangle twice", s, whole(&spoiled), n == 3 ? 0 : 12, 0);
     memcpy(spoiled.corners, t->corners, sizeof t->corners);
     for (size_t k = 0; k < 6; k++) {
         size_t corner = own + generate_below(generator, 3);
         spoiled.corners[corner] = strange[k];
-        expect("a corner that is not on the rim", s, whole(&spoiled), 12, 0);
+        expect("a corner that is not on the hole's ring", s, whole(&spoiled), 12, 0);
         spoiled.corners[corner] = t->corners[corner];
     }
 }
 
-static void compare_rim(struct generator *generator, size_t n) {
+/* what a rim may not be declared */
+static const uint16_t no_rim[7] = {0, 1, 2, 3, 5, 9, 65535};
+
+static void compare_hole(struct generator *generator, size_t n) {
     static struct generated_surface surface;
     static struct generated_set set;
     size_t own = 3 * (n - 2);
-    make_rim(&surface, n);
+    make_hole(&surface, n, 0);
     for (size_t cover = 0; cover < 6; cover++) {
-        make_rim_set(generator, &set, n);
-        expect("a rim's cover", &surface, whole(&set), 0, 0);
-        spoil_rim(generator, &surface, &set, n);
+        make_hole_set(generator, &set, n);
+        expect("a hole's cover", &surface, whole(&set), 0, 0);
+        spoil_hole(generator, &surface, &set, n);
     }
-    expect("a rim without corners", &surface, (struct set){set.states, 2, set.corners, 0}, 12, 0);
-    expect("a rim a corner too short", &surface, (struct set){set.states, 2, set.corners, own - 1}, 12, 0);
-    expect("a rim alone", &surface, (struct set){set.states, 2, set.corners, own}, 12, 1);
-    expect("a rim and a corner too few", &surface, (struct set){set.states, 2, set.corners, own + 2}, 12, 1);
-    expect("a rim and a corner too many", &surface, (struct set){set.states, 2, set.corners, own + 4}, 15, own + 3);
+    expect("a hole without corners", &surface, (struct set){set.states, 4, set.corners, 0}, 12, 0);
+    expect("a hole a corner too short", &surface, (struct set){set.states, 4, set.corners, own - 1}, 12, 0);
+    expect("a hole alone", &surface, (struct set){set.states, 4, set.corners, own}, 12, 2);
+    expect("a hole and a corner too few", &surface, (struct set){set.states, 4, set.corners, own + 2}, 12, 2);
+    expect("a hole and a corner too many", &surface, (struct set){set.states, 4, set.corners, own + 4}, 15, own + 3);
+    for (size_t w = 0; w < 7; w++) {
+        set.states[3] = no_rim[w];
+        expect("a rim of any length not declared 4", &surface, whole(&set), 11, 3);
+    }
+    set.states[3] = 4;
     for (size_t w = 0; w < WRONG_STATES; w++) {
         set.states[0] = wrong_states[w];
-        expect("a rim not declared patched", &surface, (struct set){set.states, 2, set.corners + own, 3}, 11, 0);
+        expect("a hole not declared patched", &surface, (struct set){set.states, 4, set.corners + own, 3}, 11, 0);
     }
 }
 
-static void compare_long_rim(struct generator *generator) {
+static void compare_long_hole(struct generator *generator) {
     static struct generated_surface surface;
     static struct generated_set set;
     size_t n = REFERENCE_LONGEST_LOOP + 1, own = 3 * (n - 2);
-    make_rim(&surface, n);
-    make_rim_set(generator, &set, n);
-    expect("a long rim patched", &surface, whole(&set), 11, 0);
-    expect("a long rim declared patched", &surface, (struct set){set.states, 2, set.corners, 0}, 11, 0);
+    make_hole(&surface, n, 0);
+    make_hole_set(generator, &set, n);
+    expect("a long hole patched", &surface, whole(&set), 11, 0);
+    expect("a long hole declared patched", &surface, (struct set){set.states, 4, set.corners, 0}, 11, 0);
     set.states[0] = 3;
-    expect("a long rim declared open", &surface, (struct set){set.states, 2, set.corners + own, 3}, 11, 0);
+    expect("a long hole declared open", &surface, (struct set){set.states, 4, set.corners + own, 3}, 11, 0);
+    set.states[0] = 4;
+    expect("a long hole declared a rim", &surface, (struct set){set.states, 4, set.corners + own, 3}, 11, 0);
     set.states[0] = 2;
-    expect("a long rim", &surface, (struct set){set.states, 2, set.corners + own, 3}, 0, 0);
-    expect("a long rim with a cover", &surface, whole(&set), 12, 1);
-    expect("a long rim and a corner too many", &surface, (struct set){set.states, 2, set.corners + own, 4}, 15, 3);
-    set.states[1] = 2;
-    expect("both declared long", &surface, (struct set){set.states, 2, set.corners, 0}, 11, 1);
+    expect("a long hole, and a long rim", &surface, (struct set){set.states, 4, set.corners + own, 3}, 0, 0);
+    expect("a long hole with a cover", &surface, whole(&set), 12, 2);
+    expect("a long hole and a corner too many", &surface, (struct set){set.states, 4, set.corners + own, 4}, 15, 3);
+    set.states[2] = 2;
+    expect("both holes declared long", &surface, (struct set){set.states, 4, set.corners, 0}, 11, 2);
+    set.states[2] = 1;
+    for (size_t w = 0; w < 7; w++) {
+        set.states[3] = no_rim[w];
+        expect("a long rim not declared 4", &surface, (struct set){set.states, 4, set.corners + own, 3}, 11, 3);
+    }
 }
 
-static void compare_rims(uint64_t seed) {
+/* An island's coast of n edges takes no corners, and is 4 at any length. */
+static void compare_island(struct generator *generator, size_t n) {
+    static struct generated_surface surface;
+    static struct generated_set set;
+    uint16_t states[3] = {4, 1, 4};
+    size_t own = 3 * (n - 2);
+    make_hole(&surface, n, 1);
+    make_hole_set(generator, &set, n);
+    expect("an island", &surface, (struct set){states, 3, set.corners + own, 3}, 0, 0);
+    expect("an island with a cover", &surface, (struct set){states, 3, set.corners, own + 3}, 12, 1);
+    expect("an island and a corner too many", &surface, (struct set){states, 3, set.corners + own, 4}, 15, 3);
+    for (size_t w = 0; w < 7; w++) {
+        states[0] = no_rim[w];
+        expect("an island not declared 4", &surface, (struct set){states, 3, set.corners + own, 3}, 11, 0);
+        expect("an island not declared 4, with a cover", &surface, (struct set){states, 3, set.corners, own + 3}, 11, 0);
+    }
+}
+
+static void compare_lengths(uint64_t seed) {
     struct generator generator;
     generate_start(&generator, seed);
-    for (size_t n = 3; n <= REFERENCE_LONGEST_LOOP; n++) compare_rim(&generator, n);
-    compare_long_rim(&generator);
+    for (size_t n = 3; n <= REFERENCE_LONGEST_LOOP; n++) compare_hole(&generator, n);
+    for (size_t n = 3; n <= REFERENCE_LONGEST_LOOP + 1; n++) compare_island(&generator, n);
+    compare_long_hole(&generator);
 }
 
 /* ---- Full sheets ---- */
@@ -543,10 +735,12 @@ static void take_own(const struct generated_surface *s, struct generated_set *t)
     for (size_t l = 0; l < loops; l++) begins[l + 1] = begins[l] + (t->states[l] == 1 ? 3 * (lengths[l] - 2u) : 0);
 }
 
-/* The set is wrong at a loop that is patched: declared open, one triangle turned round, and the set's end within it. */
+/* The set is wrong at a loop that is patched: declared open, declared a rim, one triangle turned round, and the set's end within it. */
 static void spoil_loop(const char *name, const struct generated_surface *s, struct generated_set *t, size_t loop) {
     uint16_t *corners = t->corners + begins[loop], first = corners[0];
     t->states[loop] = 3;
+    expect(name, s, whole(t), 11, loop);
+    t->states[loop] = 4;
     expect(name, s, whole(t), 11, loop);
     t->states[loop] = 1;
     expect(name, s, (struct set){t->states, loops, t->corners, begins[loop + 1] - 1}, 12, loop);
@@ -555,7 +749,16 @@ static void spoil_loop(const char *name, const struct generated_surface *s, stru
     expect(name, s, whole(t), 12, loop);
 }
 
-/* The patcher's own set passes; in another order a corner too many is still its first fault; then one loop has faults. */
+/* Any loop that is declared in that state, or the number of loops where none is. */
+static size_t any_in_state(struct generator *generator, const struct generated_set *t, uint16_t state) {
+    size_t first = generate_below(generator, loops + 1);
+    for (size_t l = 0; l < loops; l++)
+        if (t->states[(first + l) % loops] == state) return (first + l) % loops;
+    return loops;
+}
+
+/* The patcher's own set passes; in another order a corner too many is still its first fault; then a rim is declared patched, and one
+   loop has faults. */
 static void compare_sheet(const char *name, struct generator *generator, const struct generated_surface *s) {
     static struct generated_set t;
     take_own(s, &t);
@@ -563,10 +766,13 @@ static void compare_sheet(const char *name, struct generator *generator, const s
     expect(name, s, (struct set){t.states, loops + 1, t.corners, t.corner_count}, 9, loops);
     for (size_t l = 0; l < loops; l++) generate_shuffle_triangles(generator, t.corners + begins[l], begins[l + 1] - begins[l]);
     expect(name, s, (struct set){t.states, loops, t.corners, t.corner_count + 1}, 15, t.corner_count);
-    if (t.corner_count == 0) return;
-    size_t loop = generate_below(generator, loops);
-    while (t.states[loop] != 1) loop = (loop + 1) % loops;
-    spoil_loop(name, s, &t, loop);
+    size_t rim = any_in_state(generator, &t, 4), patched = any_in_state(generator, &t, 1);
+    if (rim < loops) {
+        t.states[rim] = 1;
+        expect(name, s, whole(&t), 11, rim);
+        t.states[rim] = 4;
+    }
+    if (patched < loops) spoil_loop(name, s, &t, patched);
 }
 
 static size_t compare_sheets(uint64_t seed) {
@@ -581,21 +787,39 @@ static size_t compare_sheets(uint64_t seed) {
 
 /* ---- Made sets ---- */
 
-static size_t by_answer[HIGHEST + 1], at_first[HIGHEST + 1], patched[REFERENCE_LONGEST_LOOP + 1];
+#define STATES 6
 
-/* Counts the answer, whether a verdict is of the first loop, and by their lengths the loops that are found patched. */
-static void meet(const struct generated_set *t) {
+/* by answers; by the states that were found right; and, each by the state it had, the rims and the other loops that were not */
+static size_t by_answer[HIGHEST + 1], at_first[HIGHEST + 1], patched[REFERENCE_LONGEST_LOOP + 1], right[STATES], rims_wrong[STATES], others_wrong[STATES];
+
+/* Counts a loop that got 11: by its state, the last standing for all that are not given, and whether it is a rim. */
+static void meet_wrong_state(const struct generated_surface *s, const struct generated_set *t) {
+    static unsigned char rims[REFERENCE_MOST_TRIANGLES];
+    size_t state = t->states[due.place] < STATES ? t->states[due.place] : STATES - 1;
+    reference_rims(theirs.grid + GUARD, s->corners, s->corner_count, theirs.rings + GUARD, theirs.lengths + GUARD, due.loops, rims);
+    (rims[due.place] ? rims_wrong : others_wrong)[state]++;
+}
+
+/* Counts the answer, whether a verdict is of the first loop, by their states the loops that are found right, and by their lengths those
+   that are found patched. */
+static void meet(const struct generated_surface *s, const struct generated_set *t) {
     size_t found = due.number >= 11 && due.number <= 14 ? due.place : due.loops;
     by_answer[due.number]++;
     at_first[due.number] += due.place == 0;
-    for (size_t l = 0; l < found; l++)
+    for (size_t l = 0; l < found; l++) {
+        right[t->states[l]]++;
         if (t->states[l] == 1) patched[theirs.lengths[GUARD + l]]++;
+    }
+    if (due.number == 11) meet_wrong_state(s, t);
 }
 
-/* Whether every answer was met, 11 to 14 at the first loop and at later ones, and loops of every length that are found patched. */
+/* Whether every answer was met, 11 to 14 at the first loop and at later ones, every state right and wrong, on rims and on others, and loops
+   of every length that are found patched. */
 static void met_all(void) {
-    size_t missing = by_answer[0] == 0 || by_answer[15] == 0;
+    size_t missing = (by_answer[0] == 0) + (by_answer[15] == 0);
     for (size_t n = 1; n <= 9; n++) missing += by_answer[n] == 0;
+    for (size_t n = 1; n <= 4; n++) missing += right[n] == 0;
+    for (size_t n = 0; n < STATES; n++) missing += (n != 4 && rims_wrong[n] == 0) + (n != 1 && others_wrong[n] == 0);
     for (size_t n = 11; n <= 14; n++) missing += (at_first[n] == 0) + (at_first[n] == by_answer[n]);
     for (size_t n = 3; n <= REFERENCE_LONGEST_LOOP; n++) missing += patched[n] == 0;
     if (missing > 0) printf("%zu answers or lengths were not met\n", missing);
@@ -613,7 +837,7 @@ static void compare_made(size_t many, uint64_t seed) {
         else if (own % 4 == 1) generate_surface(&generator, &surface);
         else generate_sound_surface(&generator, &surface);
         generate_set(&generator, &surface, &set);
-        if (agree(&surface, whole(&set))) meet(&set);
+        if (agree(&surface, whole(&set))) meet(&surface, &set);
         else if (wrong++ < 10) printf("set of seed %" PRIu64 "\n", own);
     }
 }
@@ -625,6 +849,7 @@ int main(int count, char **arguments) {
     generate_start(&generator, seed);
     fill(&before, sizeof before, &generator);
     compare_examples();
+    compare_lands();
     compare_long_lists();
     compare_refusals();
     compare_faults();
@@ -632,15 +857,21 @@ int main(int count, char **arguments) {
     compare_sixes(CONE, 1, 0, 1);
     compare_sixes(EVEN_CONE, 2, 0, 0);
     compare_threes();
-    compare_rims(seed);
+    compare_lengths(seed);
     size_t sheets = compare_sheets(seed), named = cases;
     compare_made(many, seed);
     if (count < 2) met_all();
-    printf("sets: %zu examples, %zu sheets, %zu sets of a known answer or all short, %zu made from seed %" PRIu64 ", %zu wrong; made by answer:", sizeof examples / sizeof examples[0], sheets, named, many, seed, wrong);
+    printf("sets: %zu examples, %zu sheets, %zu sets of a known answer or all short, %zu made from seed %" PRIu64 ", %zu wrong; made by answer:", sizeof examples / sizeof examples[0] + sizeof lands / sizeof lands[0], sheets, named, many, seed, wrong);
     for (int n = 0; n <= HIGHEST; n++)
         if (n != 10) printf(" %d: %zu", n, by_answer[n]);
     printf("; at the first loop:");
     for (int n = 11; n <= 14; n++) printf(" %d: %zu", n, at_first[n]);
+    printf("; 11 by state, at rims:");
+    for (int n = 0; n < STATES; n++) printf(" %zu", rims_wrong[n]);
+    printf(", at others:");
+    for (int n = 0; n < STATES; n++) printf(" %zu", others_wrong[n]);
+    printf("; right:");
+    for (int n = 1; n <= 4; n++) printf(" %d: %zu", n, right[n]);
     printf("\n");
     return wrong != 0;
 }

@@ -13,6 +13,7 @@ use Rattle.surface.specs.Refusals.{sheetRefusal}
 use Rattle.surface.specs.Threes.{Three, flat}
 use Rattle.loops.specs.Loops.{loops}
 use Rattle.survey.specs.Grid.{gridOf}
+use Rattle.rims.specs.Rims.{rimList}
 use Rattle.run.specs.Run.{ringList}
 use Rattle.verdicts.specs.Verdicts.{Verdict}
 use Rattle.texts.specs.Text.{TextOf, lines}
@@ -23,7 +24,7 @@ use Rattle.sets.specs.Set as set
 -- The checker's answer, where no buffer is too short: a refusal of the surface; 9; or the verdict.
 abbrev pub AnswersCounted : Bool → List ℕ → List ℕ → List ℕ → List ℕ → Answer → Type 0
 AnswersCounted false words corners states patches a = a ≡ States (length (loops corners))
-AnswersCounted true words corners states patches a = Verdict (gridOf words) corners [] 0 0 (ringList corners) states patches a
+AnswersCounted true words corners states patches a = Verdict (gridOf words) corners [] 0 0 (rimList (gridOf words) corners) (ringList corners) states patches a
 
 abbrev pub AnswersIf : Bool → Answer → List ℕ → List ℕ → List ℕ → List ℕ → Answer → Type 0
 AnswersIf true r words corners states patches a = a ≡ r

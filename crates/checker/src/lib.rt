@@ -56,6 +56,7 @@ fn judge_few(
     let mut places = [0u16; FEW];
     let mut found = [0u16; FEW];
     let mut sizes = [0u16; FEW];
+    let mut marks = [0u16; FEW];
     trial::judge_with(
         words,
         corners,
@@ -66,6 +67,7 @@ fn judge_few(
         &mut places,
         &mut found,
         &mut sizes,
+        &mut marks,
         grid,
         rings,
         lengths,
@@ -91,6 +93,7 @@ fn judge_many(
     let mut places = [0u16; Surface::POINTS];
     let mut found = [0u16; Surface::CORNERS];
     let mut sizes = [0u16; Surface::TRIANGLES];
+    let mut marks = [0u16; Surface::TRIANGLES];
     trial::judge_with(
         words,
         corners,
@@ -101,6 +104,7 @@ fn judge_many(
         &mut places,
         &mut found,
         &mut sizes,
+        &mut marks,
         grid,
         rings,
         lengths,

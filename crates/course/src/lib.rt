@@ -3,13 +3,14 @@ ghost use Rattle.rounds.specs.Workings.Rings.{Plain};
 ghost use Rattle.course.specs.Workings.Courses.{RunRoom, Runs};
 use column::FAR;
 use column::PLACES;
+use rounds::RIM;
 use terms::Loop;
 use terms::Surface;
 
 // Edges of the input, and at most as many diagonals.
 const EDGES: usize = 2 * Surface::CORNERS;
 
-// Loops of three and long ones only.
+// Rims, loops of three and long ones only.
 fn run_plain(
     grid: &[i32],
     corners: &[u16],
@@ -19,7 +20,7 @@ fn run_plain(
     weights: &mut [u64],
     patches: &mut [u16],
 ) -> usize
-    requires { ⌜ RunRoom (now grid) (now corners) (now rings) (now lengths) (now states) (now weights) (now patches) × Plain (now lengths) ⌝ }
+    requires { ⌜ RunRoom (now grid) (now corners) (now rings) (now lengths) (now states) (now weights) (now patches) × Plain (now lengths) (now states) ⌝ }
     ensures { λ r. ⌜ Runs (now (grid .entry)) (now (corners .entry)) (now (rings .entry)) (now (lengths .entry)) (now (states .entry)) (now (weights .entry)) (now (patches .entry)) r (now (states .exit)) (now (weights .exit)) (now (patches .exit)) ⌝ }
 {
     let mut r = 0;
@@ -27,6 +28,12 @@ fn run_plain(
     let mut l = 0;
     while l < lengths.len() {
         let end = r + lengths[l] as usize;
+        if states[l] == RIM {
+            weights[l] = 0;
+            r = end;
+            l += 1;
+            continue;
+        }
         if 3 < lengths[l] {
             states[l] = 2;
             weights[l] = 0;
@@ -70,6 +77,12 @@ fn run_all(
     let mut l = 0;
     while l < lengths.len() {
         let end = r + lengths[l] as usize;
+        if states[l] == RIM {
+            weights[l] = 0;
+            r = end;
+            l += 1;
+            continue;
+        }
         let done = turns::turn(
             grid,
             &rings[r..end],
@@ -94,7 +107,8 @@ fn run_all(
     p
 }
 
-// States, weights and patches of all loops, whose rings stand one after the other; gives how many corners were laid.
+// States, weights and patches of all loops, whose rings stand one after the other and whose rims are marked among the states; gives
+// how many corners were laid.
 pub fn run(
     grid: &[i32],
     corners: &[u16],
@@ -107,7 +121,7 @@ pub fn run(
     requires { ⌜ RunRoom (now grid) (now corners) (now rings) (now lengths) (now states) (now weights) (now patches) ⌝ }
     ensures { λ r. ⌜ Runs (now (grid .entry)) (now (corners .entry)) (now (rings .entry)) (now (lengths .entry)) (now (states .entry)) (now (weights .entry)) (now (patches .entry)) r (now (states .exit)) (now (weights .exit)) (now (patches .exit)) ⌝ }
 {
-    if rounds::any_middling(lengths) {
+    if rounds::any_middling(lengths, states) {
         return run_all(grid, corners, rings, lengths, states, weights, patches);
     }
     run_plain(grid, corners, rings, lengths, states, weights, patches)

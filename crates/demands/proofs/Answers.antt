@@ -22,6 +22,7 @@ use Rattle.surface.proofs.Laws.Thens.{then-refused, then-next}
 use Rattle.loops.specs.Loops.{loops}
 use Rattle.survey.specs.Grid.{gridOf}
 use Rattle.survey.specs.Outcome as survey
+use Rattle.rims.specs.Rims.{rimList}
 use Rattle.run.specs.Run.{ringList}
 use Rattle.verdicts.proofs.Laws.Once.{verdict-told}
 use Rattle.patching.specs.Outcome as patcher
@@ -216,7 +217,7 @@ module _ (words corners states set : List ℕ) (b : survey.Buffers) (o : survey.
   judge-so false e true n h =
       let k : thenCheck judgeRefusal stateRefusal ≡ Done = then-next judgeRefusal stateRefusal e ∙ ap (λ (t : Bool). cond t Done (States (length (loops corners)))) n in
       let q : JudgesCounted true words corners states set b o = subst (λ (t : Bool). JudgesCounted t words corners states set b o) n h in
-      (λ r. absurd (true≢false (sym r ∙ ap refusing k)), λ r. ap (λ (x : survey.Outcome). refusing (x .answer)) (q .2) ∙ verdict-told (gridOf words) corners [] 0 0 (ringList corners) states set (q .0) (q .1))
+      (λ r. absurd (true≢false (sym r ∙ ap refusing k)), λ r. ap (λ (x : survey.Outcome). refusing (x .answer)) (q .2) ∙ verdict-told (gridOf words) corners [] 0 0 (rimList (gridOf words) corners) (ringList corners) states set (q .0) (q .1))
 
   judging : Answered judgeTable (λ a. survey.refused a b) (λ x. x .answer) o
   judging =

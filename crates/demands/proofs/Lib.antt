@@ -3,4 +3,5 @@ pub mod Kept
 pub mod Closing
 pub mod Passable
 pub mod Sets
+pub mod Pieces
 pub mod Texts

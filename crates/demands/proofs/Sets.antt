@@ -2,27 +2,32 @@
 use mathlib.Core.Path.{_≡_, refl, sym, ap, _∙_, subst}
 use mathlib.Core.Bool.{Bool, true, false, true≢false}
 use mathlib.Core.List.{List, [], flatten}
-use Prim.Native.Nat.{ℕ, _*_, _≤_}
+use Prim.Native.Nat.{ℕ, _*_, _≤_, _<_}
 use native.Mathlib.Omega.{arith}
 use borrow.Author.Tests.{eqb-true, eqb-false}
 use lib.Dec.{eqb}
 use lib.IntN.{ℤ}
-use lib.ListN.{length, length-map}
+use lib.ListN.{length, getD, take, drop, length-map}
 use Rattle.answers.specs.Numbers.{refusing, numberOf}
 use Rattle.answers.specs.declared.Answer.{Answer}
 use Rattle.answers.specs.declared.Answer.the-variants.{Done, States}
 use Rattle.surface.specs.Edges.{Sound}
 use Rattle.surface.specs.Refusals.{refusal}
+use Rattle.surface.proofs.Laws.Lists.{map-at}
 use Rattle.surface.proofs.Laws.Over.{start-of}
 use Rattle.surface.proofs.Laws.Sound.{Passed, passed, passes, passed-sound}
 use Rattle.loops.specs.Loops.{loops, ring}
 use Rattle.loops.proofs.Theorems.{vertices-in-all, vertices-few}
+use Rattle.pieces.specs.Smallest.{numbersBelow}
+use Rattle.pieces.proofs.Laws.Uniting.{numbers-length, numbers-at}
 use Rattle.survey.specs.Grid.{gridOf}
 use Rattle.survey.specs.Outcome as survey
+use Rattle.rims.specs.Rims.{isRim, rimList}
 use Rattle.run.specs.Fates.{Fate}
 use Rattle.run.specs.Run.{Run, ringList, statesOf, laidBy}
 use Rattle.run.proofs.Laws.Grows.{run-length}
 use Rattle.run.proofs.Laws.Lengths.{laid-length, states-length}
+use Rattle.verdicts.specs.Faults.{patched, long, open-left, RightIf}
 use Rattle.verdicts.specs.Verdicts.{Verdict, AllRight}
 use Rattle.verdicts.proofs.Laws.Once.{verdict-once}
 use Rattle.verdicts.proofs.Laws.Passes.{passes-right, right-passes}
@@ -44,25 +49,53 @@ module _ (corners : List ℕ) (sound : Sound corners) where
   -- ---- a set whose loops are all right
 
   module _ (grid : List ℤ) (states set : List ℕ) where
-    passable : AllRight grid corners [] (ringList corners) states set → length states ≡ length (loops corners) → Passable grid corners states set
+    rims-are : length (rimList grid corners) ≡ length (loops corners)
+    rims-are = length-map (numbersBelow (length (loops corners))) (isRim grid corners) ∙ numbers-length (length (loops corners))
+
+    rim-at : (l : ℕ) → l < length (loops corners) → getD (rimList grid corners) l false ≡ isRim grid corners l
+    rim-at l h =
+        map-at (isRim grid corners) 0 false (numbersBelow (length (loops corners))) l (omega (arith, numbers-length (length (loops corners))))
+        ∙ ap (isRim grid corners) (numbers-at (length (loops corners)) l h)
+
+    abbrev Loop : ℕ → Bool → Type 0
+    Loop l k = RightIf grid corners (take (begins (ringList corners) states l) set) k (getD (ringList corners) l []) (getD states l 0) (drop (begins (ringList corners) states l) set)
+
+    -- loop l is right
+    right-loop : AllRight grid corners [] (rimList grid corners) (ringList corners) states set → (l : ℕ) → l < length (loops corners) → Loop l (isRim grid corners l)
+    right-loop h l b = subst (Loop l) (rim-at l b) (right-each grid corners [] (rimList grid corners) (ringList corners) states set h l (omega (arith, many)))
+
+    passable : AllRight grid corners [] (rimList grid corners) (ringList corners) states set → length states ≡ length (loops corners) → Passable grid corners states set
     passable h d = record {
       declared = d;
-      none-left = subst (λ (n : ℕ). length set ≡ begins (ringList corners) states n) many (right-none-left grid corners [] (ringList corners) states set h);
-      each = λ l b. right-each grid corners [] (ringList corners) states set h l (omega (arith, many));
+      none-left = subst (λ (n : ℕ). length set ≡ begins (ringList corners) states n) many (right-none-left grid corners [] (rimList grid corners) (ringList corners) states set h);
+      each = right-loop h;
     }
 
-    all-right : Passable grid corners states set → AllRight grid corners [] (ringList corners) states set
+    all-right : Passable grid corners states set → AllRight grid corners [] (rimList grid corners) (ringList corners) states set
     all-right p =
-        each-right grid corners [] (ringList corners) states set (p .declared ∙ sym many)
+        each-right grid corners [] (rimList grid corners) (ringList corners) states set (rims-are ∙ sym many) (p .declared ∙ sym many)
         (subst (λ (n : ℕ). length set ≡ begins (ringList corners) states n) (sym many) (p .none-left))
-        (λ l b. p .each l (omega (arith, many)))
+        (λ l b. subst (Loop l) (sym (rim-at l (omega (arith, many)))) (p .each l (omega (arith, many))))
 
-    closes : AllRight grid corners [] (ringList corners) states set → Closes corners states set
+    -- a rim's state is 4, and that of no other loop that is right
+    rim-state : (l : ℕ) (k : Bool) → Loop l k → k ≡ true → getD states l 0 ≡ 4
+    rim-state l true w e = w
+    rim-state l false w e = absurd (true≢false (sym e))
+
+    state-rim : (l : ℕ) (k : Bool) → Loop l k → getD states l 0 ≡ 4 → k ≡ true
+    state-rim l true w e = refl
+    state-rim l false (patched f s c t a n) e = absurd (omega arith)
+    state-rim l false (long f s) e = absurd (omega arith)
+    state-rim l false (open-left f s n) e = absurd (omega arith)
+
+    closes : AllRight grid corners [] (rimList grid corners) (ringList corners) states set → Closes grid corners states set
     closes h = record {
-      whole = parts-all grid corners [] (ringList corners) states set h;
-      closing = closing-demand corners _ sound (right-filled grid corners [] (ringList corners) states set h);
-      open-or-long = λ l b. part-empty grid corners [] (ringList corners) states set h (rings-apart corners sound) l (omega (arith, many));
+      whole = parts-all grid corners [] (rimList grid corners) (ringList corners) states set h;
+      closing = closing-demand corners _ sound (right-filled grid corners [] (rimList grid corners) (ringList corners) states set h);
+      open-or-long = λ l b. part-empty grid corners [] (rimList grid corners) (ringList corners) states set h (rings-apart corners sound) l (omega (arith, many));
       takes-nothing = empty-part (ringList corners) states set;
+      rims-declared = λ l b. rim-state l (isRim grid corners l) (right-loop h l b);
+      only-rims = λ l b. state-rim l (isRim grid corners l) (right-loop h l b);
     }
 
 -- ---- the checker
@@ -92,13 +125,13 @@ module _ (words corners states set : List ℕ) (b : survey.Buffers) (o : survey.
         }
     counted-demand true n (a, v, e) =
         let said : o .answer ≡ a = ap (λ (x : survey.Outcome). x .answer) e in
-        let right : o .answer ≡ Done → AllRight (gridOf words) corners [] (ringList corners) states set = λ d.
-        passes-right (gridOf words) corners [] 0 0 (ringList corners) states set (subst (Verdict (gridOf words) corners [] 0 0 (ringList corners) states set) (sym said ∙ d) v) in
+        let right : o .answer ≡ Done → AllRight (gridOf words) corners [] (rimList (gridOf words) corners) (ringList corners) states set = λ d.
+        passes-right (gridOf words) corners [] 0 0 (rimList (gridOf words) corners) (ringList corners) states set (subst (Verdict (gridOf words) corners [] 0 0 (rimList (gridOf words) corners) (ringList corners) states set) (sym said ∙ d) v) in
         record {
           passed-only = λ d. passable corners sound (gridOf words) states set (right d) (sym (eqb-true (length (loops corners)) (length states) n));
           passed-always = λ f p.
-              said ∙ verdict-once (gridOf words) corners [] 0 0 (ringList corners) states set a Done (rings-apart corners sound) v
-              (right-passes (gridOf words) corners [] 0 0 (ringList corners) states set (all-right corners sound (gridOf words) states set p));
+              said ∙ verdict-once (gridOf words) corners [] 0 0 (rimList (gridOf words) corners) (ringList corners) states set a Done (rings-apart corners sound) v
+              (right-passes (gridOf words) corners [] 0 0 (rimList (gridOf words) corners) (ringList corners) states set (all-right corners sound (gridOf words) states set p));
           closes = λ d. closes corners sound (gridOf words) states set (right d);
         }
 
@@ -115,7 +148,7 @@ module _ (words corners : List ℕ) (b : patcher.Buffers) (o : patcher.Outcome) 
   abbrev refuses : Answer
   refuses = refusal words corners (patcher.lent b) (patcher.needs words corners)
 
-  done-demand : refusing refuses ≡ false → (fates : List Fate) → Run (gridOf words) corners [] (ringList corners) fates → o ≡ patcher.done words corners fates b
+  done-demand : refusing refuses ≡ false → (fates : List Fate) → Run (gridOf words) corners [] (rimList (gridOf words) corners) (ringList corners) fates → o ≡ patcher.done words corners fates b
       → PatcherDemand words corners o
   done-demand r fates run e = record {
     fits = fit;
@@ -133,7 +166,7 @@ module _ (words corners : List ℕ) (b : patcher.Buffers) (o : patcher.Outcome) 
       sound = passed-sound words corners (patcher.lent b) (patcher.needs words corners) table
 
       fated : length (statesOf fates) ≡ length (loops corners)
-      fated = states-length fates ∙ run-length (gridOf words) corners [] (ringList corners) fates run ∙ many corners sound
+      fated = states-length fates ∙ run-length (gridOf words) corners [] (rimList (gridOf words) corners) (ringList corners) fates run ∙ many corners sound
 
       states : statesLeft o ≡ statesOf fates
       states = ap statesLeft e ∙ start-of (statesOf fates) (b .states) (length (loops corners)) (sym fated)
@@ -141,14 +174,14 @@ module _ (words corners : List ℕ) (b : patcher.Buffers) (o : patcher.Outcome) 
       set : setLeft o ≡ laidBy (ringList corners) fates
       set = ap setLeft e ∙ start-of (laidBy (ringList corners) fates) (b .patches) (length (laidBy (ringList corners) fates)) refl
 
-      right : AllRight (gridOf words) corners [] (ringList corners) (statesLeft o) (setLeft o)
-      right = subst (λ (x : List ℕ). AllRight (gridOf words) corners [] (ringList corners) x (setLeft o)) (sym states)
-          (subst (λ (x : List ℕ). AllRight (gridOf words) corners [] (ringList corners) (statesOf fates) x) (sym set) (run-right (gridOf words) corners [] (ringList corners) fates run))
+      right : AllRight (gridOf words) corners [] (rimList (gridOf words) corners) (ringList corners) (statesLeft o) (setLeft o)
+      right = subst (λ (x : List ℕ). AllRight (gridOf words) corners [] (rimList (gridOf words) corners) (ringList corners) x (setLeft o)) (sym states)
+          (subst (λ (x : List ℕ). AllRight (gridOf words) corners [] (rimList (gridOf words) corners) (ringList corners) (statesOf fates) x) (sym set) (run-right (gridOf words) corners [] (rimList (gridOf words) corners) (ringList corners) fates run))
 
       fit : o .corners ≤ 3 * length corners
       fit =
           let a : o .corners ≡ length (laidBy (ringList corners) fates) = ap (λ (x : patcher.Outcome). x .corners) e in
-          let c : length (laidBy (ringList corners) fates) ≤ 3 * length (flatten (ringList corners)) = laid-length (gridOf words) corners [] (ringList corners) fates run in
+          let c : length (laidBy (ringList corners) fates) ≤ 3 * length (flatten (ringList corners)) = laid-length (gridOf words) corners [] (rimList (gridOf words) corners) (ringList corners) fates run in
           omega (arith, vertices-in-all corners sound, vertices-few corners sound)
 
   pub patcher-demand : patcher.Patches words corners b o → refusing (o .answer) ≡ false → PatcherDemand words corners o

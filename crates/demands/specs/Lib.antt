@@ -2,4 +2,5 @@ pub mod Answers
 pub mod Loops
 pub mod Closing
 pub mod Sets
+pub mod Pieces
 pub mod Texts

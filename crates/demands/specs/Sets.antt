@@ -1,6 +1,6 @@
 -- Demand 3, of patch sets: when the checker passes one, that it passes our own patcher's, and what the edges are afterwards.
 use mathlib.Core.Path.{_≡_}
-use mathlib.Core.Bool.{false}
+use mathlib.Core.Bool.{true, false}
 use mathlib.Core.Logic.{_⊎_}
 use mathlib.Core.List.{List, [], _∷_, flatten}
 use Prim.Native.Nat.{ℕ, zero, suc, _+_, _*_, _<_, _≤_}
@@ -12,8 +12,9 @@ use Rattle.surface.specs.Refusals.{bufferRefusal, refusal}
 use Rattle.loops.specs.Loops.{loops}
 use Rattle.survey.specs.Grid.{gridOf}
 use Rattle.survey.specs.Outcome as survey
+use Rattle.rims.specs.Rims.{isRim}
 use Rattle.run.specs.Run.{ringList}
-use Rattle.verdicts.specs.Faults.{Right}
+use Rattle.verdicts.specs.Faults.{RightIf}
 use Rattle.verdicts.specs.Verdicts.{taken, parts}
 use Rattle.patching.specs.Outcome as patcher
 use Rattle.trial.specs.Outcome.{Judges}
@@ -28,13 +29,13 @@ begins [] states (suc l) = 0
 begins (r ∷ rings) [] (suc l) = 0
 begins (r ∷ rings) (s ∷ states) (suc l) = taken r s + begins rings states l
 
--- "No corner is left over and, loop by loop, each loop ..." is right: with the triangles of the loops before it laid, and the corners
--- from there on
+-- "No corner is left over and, loop by loop, each loop ..." that is no rim is right, with the triangles of the loops before it laid, and the
+-- corners from there on; and "each rim must be declared 4"
 pub record Passable (grid : List ℤ) (corners states set : List ℕ) : Type 0 where
   pub declared : length states ≡ length (loops corners)
   pub none-left : length set ≡ begins (ringList corners) states (length (loops corners))
   pub each : (l : ℕ) → l < length (loops corners)
-      → Right grid corners (take (begins (ringList corners) states l) set) (getD (ringList corners) l []) (getD states l 0) (drop (begins (ringList corners) states l) set)
+      → RightIf grid corners (take (begins (ringList corners) states l) set) (isRim grid corners l) (getD (ringList corners) l []) (getD states l 0) (drop (begins (ringList corners) states l) set)
 
 -- ---- the edges afterwards
 
@@ -42,14 +43,21 @@ pub record Passable (grid : List ℤ) (corners states set : List ℕ) : Type 0 w
 abbrev pub partsTaken : List ℕ → List ℕ → List ℕ → List (List ℕ)
 partsTaken corners states set = parts (ringList corners) states set
 
-pub record Closes (corners states set : List ℕ) : Type 0 where
+-- "declared open or long", or a rim
+abbrev pub DeclaredOpen : ℕ → Type 0
+DeclaredOpen state = (state ≡ 2) ⊎ ((state ≡ 3) ⊎ (state ≡ 4))
+
+pub record Closes (grid : List ℤ) (corners states set : List ℕ) : Type 0 where
   -- the loops take the whole set,
   pub whole : flatten (partsTaken corners states set) ≡ set
   -- "no directed edge occurs twice and the only open edges are those of loops" that take nothing,
   pub closing : ClosingDemand corners (partsTaken corners states set)
-  -- and these are the loops "declared open or long".
-  pub open-or-long : (l : ℕ) → l < length (loops corners) → laidIn (partsTaken corners states set) l ≡ [] → (getD states l 0 ≡ 2) ⊎ (getD states l 0 ≡ 3)
-  pub takes-nothing : (l : ℕ) → (getD states l 0 ≡ 2) ⊎ (getD states l 0 ≡ 3) → laidIn (partsTaken corners states set) l ≡ []
+  -- and these are the loops "declared open or long", and the rims: "the open edges that remain include the rims'".
+  pub open-or-long : (l : ℕ) → l < length (loops corners) → laidIn (partsTaken corners states set) l ≡ [] → DeclaredOpen (getD states l 0)
+  pub takes-nothing : (l : ℕ) → DeclaredOpen (getD states l 0) → laidIn (partsTaken corners states set) l ≡ []
+  -- "each rim must be declared 4", and nothing else is
+  pub rims-declared : (l : ℕ) → l < length (loops corners) → isRim grid corners l ≡ true → getD states l 0 ≡ 4
+  pub only-rims : (l : ℕ) → l < length (loops corners) → getD states l 0 ≡ 4 → isRim grid corners l ≡ true
 
 -- ---- the checker
 
@@ -61,7 +69,7 @@ pub record CheckerDemand (words corners states set : List ℕ) (b : survey.Buffe
   pub passed-always : refusing (refusal words corners (survey.lent b) (survey.needs words corners)) ≡ false
       → Passable (gridOf words) corners states set → o .answer ≡ Done
   -- After a passed set, anybody's:
-  pub closes : o .answer ≡ Done → Closes corners states set
+  pub closes : o .answer ≡ Done → Closes (gridOf words) corners states set
 
 -- ---- the patcher
 
@@ -80,4 +88,4 @@ pub record PatcherDemand (words corners : List ℕ) (o : patcher.Outcome) : Type
   pub passes : (b : survey.Buffers) (p : survey.Outcome) → bufferRefusal (survey.lent b) (survey.needs words corners) ≡ Done
       → Judges words corners (statesLeft o) (setLeft o) b p → p .answer ≡ Done
   -- After the run:
-  pub closes : Closes corners (statesLeft o) (setLeft o)
+  pub closes : Closes (gridOf words) corners (statesLeft o) (setLeft o)

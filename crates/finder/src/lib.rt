@@ -3,7 +3,7 @@
 ghost use Rattle.loops.specs.Loops.{loops};
 ghost use Rattle.cutting.specs.Listing.{ListsLoops};
 ghost use Rattle.finder.specs.Workings.Asked.{Ready, Lent};
-ghost use Rattle.finder.specs.Workings.Walking.{CycleRoom, CycleListed};
+ghost use Rattle.finder.specs.Workings.Walking.{KeepsTurns, CycleRoom, CycleListed};
 use cutting::Listed;
 use leaders::WALKED;
 use terms::Surface;
@@ -34,7 +34,8 @@ pub fn list_loops(
     )
 }
 
-// The same with a path and places that are lent, for a caller that knows how long they need be.
+// The same with a path and places that are lent, for a caller that knows how long they need be. What is left of the table of turns
+// still tells where each half-edge is shared.
 pub fn list_with(
     corners: &[u16],
     turns: &mut [u16],
@@ -46,6 +47,7 @@ pub fn list_with(
 ) -> Listed
     requires { ⌜ Ready (now corners) (now turns) (now rings) (now lengths) (now firsts) × Lent (now corners) (now path) (now places) ⌝ }
     ensures { λ r. ⌜ ListsLoops (now (corners .entry)) (loops (now (corners .entry))) (now (rings .entry)) (now (lengths .entry)) (now (firsts .entry)) r (now (rings .exit)) (now (lengths .exit)) (now (firsts .exit)) ⌝ }
+    ensures { λ _. ⌜ KeepsTurns (now (corners .entry)) (now (turns .exit)) ⌝ }
 {
     let mut at = Listed {
         loops: 0,

@@ -12,6 +12,7 @@ use Rattle.limits.specs.Limits as limits
 use Rattle.surface.specs.Refusals.{sheetRefusal}
 use Rattle.surface.specs.Threes.{flat}
 use Rattle.survey.specs.Grid.{gridOf}
+use Rattle.rims.specs.Rims.{rimList}
 use Rattle.run.specs.Fates.{Fate}
 use Rattle.run.specs.Run.{ringList}
 use Rattle.run.proofs.Laws.Once.{run-once}
@@ -45,7 +46,7 @@ prints-once bytes out out′ x y = go (text-or-fault bytes)
     of-text words corners true a p q = p ∙ sym q
     of-text words corners false a p q =
         p .2
-        ∙ ap (λ (fs : List Fate). listing (loopsOf (gridOf words) (ringList corners) fs)) (run-once (gridOf words) corners [] (ringList corners) (p .0) (q .0) (p .1) (q .1))
+        ∙ ap (λ (fs : List Fate). listing (loopsOf (gridOf words) (ringList corners) fs)) (run-once (gridOf words) corners [] (rimList (gridOf words) corners) (ringList corners) (p .0) (q .0) (p .1) (q .1))
         ∙ sym (q .2)
 
     go : Known points triangles bytes → out ≡ out′

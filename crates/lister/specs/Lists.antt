@@ -11,6 +11,7 @@ use Rattle.answers.specs.declared.Answer.the-variants.{Line}
 use Rattle.surface.specs.Refusals.{sheetRefusal}
 use Rattle.surface.specs.Threes.{Three, flat}
 use Rattle.survey.specs.Grid.{gridOf}
+use Rattle.rims.specs.Rims.{rimList}
 use Rattle.run.specs.Fates.{Fate, stateOf, weighs, lays}
 use Rattle.run.specs.Run.{Run, ringList}
 use Rattle.patching.specs.Outcome.{Buffers, Outcome, refused, Patches}
@@ -35,7 +36,7 @@ loopsOf grid (r ∷ rings) (f ∷ fates) = record { ring = r; state = stateOf f;
 abbrev pub PrintsIf : Bool → Answer → List ℕ → List ℕ → List ℕ → Type 0
 PrintsIf true a words corners out = out ≡ answerLine a
 PrintsIf false a words corners out =
-    (fates : List Fate) × Run (gridOf words) corners [] (ringList corners) fates × (out ≡ listing (loopsOf (gridOf words) (ringList corners) fates))
+    (fates : List Fate) × Run (gridOf words) corners [] (rimList (gridOf words) corners) (ringList corners) fates × (out ≡ listing (loopsOf (gridOf words) (ringList corners) fates))
 
 -- what is printed of a text
 pub record Prints (bytes out : List ℕ) : Type 0 where

@@ -13,6 +13,7 @@ use Rattle.surface.specs.Refusals.{refusal}
 use Rattle.loops.specs.Loops.{loops}
 use Rattle.cutting.specs.Listing.{ringsOf}
 use Rattle.survey.specs.Grid.{gridOf}
+use Rattle.rims.specs.Rims.{rimList}
 use Rattle.run.specs.Fates.{Fate}
 use Rattle.run.specs.Run.{Run, ringList, statesOf, weightsOf, laidBy}
 use Rattle.patching.specs.declared.Patched.{Patched}
@@ -82,7 +83,7 @@ lent b =
 abbrev pub PatchesIf : Bool → Answer → List ℕ → List ℕ → Buffers → Outcome → Type 0
 PatchesIf true a words corners b o = o ≡ refused a b
 PatchesIf false a words corners b o =
-    (fates : List Fate) × Run (gridOf words) corners [] (ringList corners) fates × (o ≡ done words corners fates b)
+    (fates : List Fate) × Run (gridOf words) corners [] (rimList (gridOf words) corners) (ringList corners) fates × (o ≡ done words corners fates b)
 
 abbrev pub Patches : List ℕ → List ℕ → Buffers → Outcome → Type 0
 Patches words corners b o =

@@ -1,9 +1,8 @@
-// Patches a surface whose counts fit, with lent scratch: the other checks, the grid, the loops, and what becomes of each.
+// Patches a surface whose counts fit, with lent scratch: the other checks, the grid, the loops, the rims, and what becomes of each.
 ghost use mathlib.Core.Path.{_≡_};
 ghost use Rattle.rounds.specs.Workings.Scratch.{Scratch};
 ghost use Rattle.patching.specs.Outcome.{outcome, buffers, Patches};
 use answers::Answer;
-use terms::Surface;
 
 // What the patcher answers: done or a refusal, how many loops there are, how many vertices their rings have, and how many corners
 // were laid.
@@ -46,9 +45,19 @@ pub fn patch_with(
     if checked.refuses() {
         return refused(checked);
     }
-    let mut firsts = [0u16; Surface::TRIANGLES];
     survey::lay_grid(words, grid);
-    let listed = finder::list_with(corners, turns, path, places, rings, lengths, &mut firsts);
+    // the first half-edges stand among the states until the rims are marked there
+    let listed = finder::list_with(corners, turns, path, places, rings, lengths, states);
+    marking::mark(
+        &grid[..words.len()],
+        corners,
+        &rings[..listed.vertices],
+        &lengths[..listed.loops],
+        turns,
+        path,
+        places,
+        states,
+    );
     let laid = course::run(
         &grid[..words.len()],
         corners,

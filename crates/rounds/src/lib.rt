@@ -1,6 +1,8 @@
 // What going from loop to loop takes, for the patcher and for the checker alike.
 ghost use mathlib.Core.Path.{_≡_};
 ghost use mathlib.Core.Bool.{false};
+ghost use Prim.Native.Nat.{_≤_};
+ghost use lib.ListN.{length};
 ghost use Rattle.rounds.specs.Workings.Rings.{Plain};
 use terms::Loop;
 
@@ -8,9 +10,13 @@ use terms::Loop;
 // may have: to clear that would take longer than the work.
 pub const FEW: usize = 48;
 
-// Whether some loop has more than three edges and is not long: only such loops need bars and a table.
-pub fn any_middling(lengths: &[u16]) -> bool
-    ensures { λ r. ⌜ (r ≡ false → Plain (now (lengths .entry))) ⌝ }
+// What stands for a rim among the states, also before the run.
+pub const RIM: u16 = 4;
+
+// Whether some loop that is no rim has more than three edges and is not long: only such loops need bars and a table.
+pub fn any_middling(lengths: &[u16], marks: &[u16]) -> bool
+    requires { ⌜ length (now lengths) ≤ length (now marks) ⌝ }
+    ensures { λ r. ⌜ (r ≡ false → Plain (now (lengths .entry)) (now (marks .entry))) ⌝ }
 {
     let mut l = 0;
     while l < lengths.len() {
@@ -20,6 +26,10 @@ pub fn any_middling(lengths: &[u16]) -> bool
             continue;
         }
         if Loop::LONGEST < n {
+            l += 1;
+            continue;
+        }
+        if marks[l] == RIM {
             l += 1;
             continue;
         }

@@ -1,4 +1,6 @@
 -- What becomes of one loop in a run.
+use mathlib.Core.Path.{_≡_}
+use mathlib.Core.Bool.{Bool, true, false}
 use mathlib.Core.List.{List, []}
 use Prim.Native.Nat.{ℕ, _<_, _≤_}
 use lib.IntN.{ℤ}
@@ -7,31 +9,41 @@ use Rattle.limits.specs.Limits as limits
 use Rattle.covers.specs.Covers.{Cover, patchOf}
 use Rattle.run.specs.Here.{NoneHere, weightHere, PatchHere}
 
--- "State 1: patched. State 2: long ... State 3: no allowed cover."
+-- "State 1: patched. State 2: long ... State 3: no allowed cover." "A rim gets state 4."
 pub data Fate : Type 0 where
   patched : Cover → Fate
   long : Fate
   uncovered : Fate
+  rim : Fate
 
 abbrev pub stateOf : Fate → ℕ
 stateOf (patched c) = 1
 stateOf long = 2
 stateOf uncovered = 3
+stateOf rim = 4
 
--- "States 2 and 3 have weight 0, lay nothing": what the loop with this ring weighs, and the corners that it lays
+-- "States 2 and 3 have weight 0, lay nothing", and so has a rim: what the loop with this ring weighs, and the corners that it lays
 abbrev pub weighs : List ℤ → List ℕ → Fate → ℕ
 weighs grid ring (patched c) = weightHere grid ring c
 weighs grid ring long = 0
 weighs grid ring uncovered = 0
+weighs grid ring rim = 0
 
 abbrev pub lays : List ℕ → Fate → List ℕ
 lays ring (patched c) = patchOf ring c
 lays ring long = []
 lays ring uncovered = []
+lays ring rim = []
 
--- The fate that the loop with this ring has, where the input has these corners and these were laid before it: patched by the least
+-- The fate that the loop with this ring has, being no rim, where the input has these corners and these were laid before it: patched by the least
 -- allowed cover under the tie rule; long; or uncovered, because no allowed cover exists.
 abbrev pub Meets : List ℤ → List ℕ → List ℕ → List ℕ → Fate → Type 0
 Meets grid input laid ring (patched c) = (length ring ≤ limits.longest) × PatchHere grid input laid ring c
 Meets grid input laid ring long = limits.longest < length ring
 Meets grid input laid ring uncovered = (length ring ≤ limits.longest) × NoneHere input laid ring
+Meets grid input laid ring rim = ⊥
+
+-- "A rim gets state 4, weight 0, and is not patched at any length"; any other loop meets one of the other fates
+abbrev pub Becomes : List ℤ → List ℕ → List ℕ → Bool → List ℕ → Fate → Type 0
+Becomes grid input laid true ring f = f ≡ rim
+Becomes grid input laid false ring f = Meets grid input laid ring f

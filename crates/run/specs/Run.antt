@@ -1,9 +1,10 @@
 -- The run. "Loops are handled in listed order." A patch that was laid bars diagonals of the loops after it.
+use mathlib.Core.Bool.{Bool}
 use mathlib.Core.List.{List, [], _∷_, _++_, map}
 use Prim.Native.Nat.{ℕ}
 use lib.IntN.{ℤ}
 use Rattle.loops.specs.Loops.{loops, ring}
-use Rattle.run.specs.Fates.{Fate, stateOf, weighs, lays, Meets}
+use Rattle.run.specs.Fates.{Fate, stateOf, weighs, lays, Becomes}
 
 -- the rings of all loops of the surface, in listed order
 abbrev pub ringList : List ℕ → List (List ℕ)
@@ -20,12 +21,14 @@ laidBy [] fates = []
 laidBy (r ∷ rings) [] = []
 laidBy (r ∷ rings) (f ∷ fates) = lays r f ++ laidBy rings fates
 
--- each loop meets its fate, with what was laid before it
-abbrev pub Run : List ℤ → List ℕ → List ℕ → List (List ℕ) → List Fate → Type 0
-Run grid input laid [] [] = Unit {0}
-Run grid input laid [] (f ∷ fates) = ⊥
-Run grid input laid (r ∷ rings) [] = ⊥
-Run grid input laid (r ∷ rings) (f ∷ fates) = Meets grid input laid r f × Run grid input (laid ++ lays r f) rings fates
+-- each loop, a rim or not, meets its fate, with what was laid before it
+abbrev pub Run : List ℤ → List ℕ → List ℕ → List Bool → List (List ℕ) → List Fate → Type 0
+Run grid input laid [] [] [] = Unit {0}
+Run grid input laid [] [] (f ∷ fates) = ⊥
+Run grid input laid [] (r ∷ rings) fates = ⊥
+Run grid input laid (k ∷ rims) [] fates = ⊥
+Run grid input laid (k ∷ rims) (r ∷ rings) [] = ⊥
+Run grid input laid (k ∷ rims) (r ∷ rings) (f ∷ fates) = Becomes grid input laid k r f × Run grid input (laid ++ lays r f) rims rings fates
 
 abbrev pub statesOf : List Fate → List ℕ
 statesOf fates = map stateOf fates

@@ -1,21 +1,24 @@
--- The starred examples of the bench, and the one of two equal weights, a row each, in the scope's order.
+-- The starred examples of the bench, and the one of two equal weights, a row each, in the scope's order; and what pieces and rims are in them.
 use mathlib.Core.Path.{_≡_}
-use mathlib.Core.Bool.{true}
+use mathlib.Core.Bool.{true, false}
 use mathlib.Core.List.{List, [], _∷_, map}
 use Prim.Native.Nat.{ℕ}
 use lib.IntN.{ℤ, pos, negsuc}
 use lib.Ieee.{binary32, ofBits}
 use Rattle.answers.specs.declared.Answer.{Answer}
-use Rattle.answers.specs.declared.Answer.the-variants.{Done, Repeated, Barred, Heavy}
+use Rattle.answers.specs.declared.Answer.the-variants.{Done, Repeated, Misdeclared, Barred, Heavy}
 use Rattle.grid.specs.Places.{Places}
 use Rattle.grid.specs.declared.Coordinate.the-variants.{Shifted, TooFar}
 use Rattle.surface.specs.Refusals.{cornerRefusal}
 use Rattle.loops.specs.Loops.{cycle, ring}
 use Rattle.covers.specs.Covers.{Cover, empty, apex}
 use Rattle.bars.specs.Bars.{barred}
+use Rattle.pieces.specs.Smallest.{pieceNumbers}
+use Rattle.rims.specs.Rims.{rimList}
 use Rattle.run.specs.Fates.{Fate}
 use Rattle.run.specs.Run.{Run, ringList, statesOf, weightsOf, laidBy}
 use Rattle.run.specs.Here.{AllowedHere, NoneHere, weightHere, PatchHere}
+use Rattle.verdicts.specs.Faults.{Right, Fault}
 use Rattle.verdicts.specs.Verdicts.{Verdict}
 
 -- (0,1,2),(0,1,3)
@@ -42,6 +45,22 @@ cone = 0 ∷ 1 ∷ 4 ∷ 1 ∷ 2 ∷ 4 ∷ 2 ∷ 3 ∷ 4 ∷ 3 ∷ 0 ∷ 4 ∷ [
 abbrev pub crossed : List ℕ
 crossed = 0 ∷ 1 ∷ 2 ∷ 0 ∷ 2 ∷ 3 ∷ 1 ∷ 3 ∷ 4 ∷ []
 
+-- (0,1,3),(1,4,3),(1,2,4),(2,5,4),(2,0,5),(0,3,5): a plate with a hole
+abbrev pub plate : List ℕ
+plate = 0 ∷ 1 ∷ 3 ∷ 1 ∷ 4 ∷ 3 ∷ 1 ∷ 2 ∷ 4 ∷ 2 ∷ 5 ∷ 4 ∷ 2 ∷ 0 ∷ 5 ∷ 0 ∷ 3 ∷ 5 ∷ []
+
+-- (0,0,0),(30,0,0),(0,30,0),(5,5,0),(15,5,0),(5,15,0)
+abbrev pub plateGrid : List ℤ
+plateGrid = map pos (0 ∷ 0 ∷ 0 ∷ 30 ∷ 0 ∷ 0 ∷ 0 ∷ 30 ∷ 0 ∷ 5 ∷ 5 ∷ 0 ∷ 15 ∷ 5 ∷ 0 ∷ 5 ∷ 15 ∷ 0 ∷ [])
+
+-- (0,0,0),(4,0,0),(0,9,0),(4,4,0),(9,9,0)
+abbrev pub wideStrip : List ℤ
+wideStrip = map pos (0 ∷ 0 ∷ 0 ∷ 4 ∷ 0 ∷ 0 ∷ 0 ∷ 9 ∷ 0 ∷ 4 ∷ 4 ∷ 0 ∷ 9 ∷ 9 ∷ 0 ∷ [])
+
+-- (0,0,0),(4,0,0),(0,4,0),(4,4,0),(0,4,4)
+abbrev pub evenStrip : List ℤ
+evenStrip = map pos (0 ∷ 0 ∷ 0 ∷ 4 ∷ 0 ∷ 0 ∷ 0 ∷ 4 ∷ 0 ∷ 4 ∷ 4 ∷ 0 ∷ 0 ∷ 4 ∷ 4 ∷ [])
+
 -- (0,0,0),(10,0,0),(10,10,0),(0,10,4)
 abbrev pub lifted : List ℤ
 lifted = map pos (0 ∷ 0 ∷ 0 ∷ 10 ∷ 0 ∷ 0 ∷ 10 ∷ 10 ∷ 0 ∷ 0 ∷ 10 ∷ 4 ∷ [])
@@ -55,8 +74,8 @@ abbrev pub dentedTop : List ℤ
 dentedTop = map pos (0 ∷ 0 ∷ 0 ∷ 10 ∷ 0 ∷ 0 ∷ 3 ∷ 3 ∷ 0 ∷ 0 ∷ 10 ∷ 0 ∷ 4 ∷ 4 ∷ 9 ∷ [])
 
 -- a loop of four and one of three, by their rings
-abbrev pub rim : List ℕ
-rim = 0 ∷ 1 ∷ 2 ∷ 3 ∷ []
+abbrev pub square : List ℕ
+square = 0 ∷ 1 ∷ 2 ∷ 3 ∷ []
 
 abbrev pub side : List ℕ
 side = 1 ∷ 3 ∷ 4 ∷ []
@@ -81,17 +100,24 @@ Open corners = NoneHere corners []
 abbrev pub ToTake : List ℕ → List ℤ → List ℕ → Cover → Type 0
 ToTake corners grid ring = PatchHere grid corners [] ring
 
+-- what is wrong with a loop's part of a set, and that nothing is, where no patch is laid yet: facts about the cover, whether the loop is a rim or not
+abbrev pub Wrong : List ℤ → List ℕ → List ℕ → List ℕ → Answer → Type 0
+Wrong grid corners ring set = Fault grid corners [] 0 ring 1 set
+
+abbrev pub Fine : List ℤ → List ℕ → List ℕ → List ℕ → Type 0
+Fine grid corners ring set = Right grid corners [] ring 1 set
+
 -- the run over the surface gives its loops these states and weights and lays these corners
 pub record Leaves (grid : List ℤ) (corners states weights laid : List ℕ) : Type 0 where
   pub fates : List Fate
-  pub run : Run grid corners [] (ringList corners) fates
+  pub run : Run grid corners [] (rimList grid corners) (ringList corners) fates
   pub its-states : statesOf fates ≡ states
   pub its-weights : weightsOf grid (ringList corners) fates ≡ weights
   pub its-laid : laidBy (ringList corners) fates ≡ laid
 
 -- the set of these states and corners gets this verdict
 abbrev pub Gets : List ℤ → List ℕ → List ℕ → List ℕ → Answer → Type 0
-Gets grid corners states set = Verdict grid corners [] 0 0 (ringList corners) states set
+Gets grid corners states set = Verdict grid corners [] 0 0 (rimList grid corners) (ringList corners) states set
 
 pub record Table : Type 0 where
   -- 0.5 gives 0 rest 0.5
@@ -110,31 +136,49 @@ pub record Table : Type 0 where
   pub repeated : cornerRefusal repeating 4 ≡ Repeated 3
   -- (0,1,2),(0,3,4): rings 0,1,2 and 0,3,4
   pub bow-tie : ringList bowTie ≡ (0 ∷ 1 ∷ 2 ∷ []) ∷ (0 ∷ 3 ∷ 4 ∷ []) ∷ []
+  -- in two pieces, since they share a vertex and no edge
+  pub bow-pieces : pieceNumbers bowTie ≡ 0 ∷ 1 ∷ []
   -- the pinched strip: one cycle 0,1,3,0,4,2; rings 0,1,3 and 0,4,2
   pub strip-cycle : ring pinchedStrip (cycle pinchedStrip 0) ≡ 0 ∷ 1 ∷ 3 ∷ 0 ∷ 4 ∷ 2 ∷ []
   pub strip-rings : ringList pinchedStrip ≡ (0 ∷ 1 ∷ 3 ∷ []) ∷ (0 ∷ 4 ∷ 2 ∷ []) ∷ []
+  -- in one piece: runs of 16 and 36, so the second is the rim and the first is patched; of two runs of 16 the first is
+  pub strip-run : Leaves wideStrip pinchedStrip (1 ∷ 4 ∷ []) (16 ∷ 0 ∷ []) (0 ∷ 3 ∷ 1 ∷ [])
+  pub strip-rims : rimList wideStrip pinchedStrip ≡ false ∷ true ∷ []
+  pub even-rims : rimList evenStrip pinchedStrip ≡ true ∷ false ∷ []
   -- (0,1,2),(0,2,3): diagonal 0-2 barred; patch (0,3,1),(1,3,2), weight 280, and (0,3,2),(0,2,1) has the barred diagonal: it gets 13
-  pub folded-rings : ringList folded ≡ rim ∷ []
-  pub folded-bar : barred folded [] rim 0 2 ≡ true
-  pub folded-taken : ToTake folded lifted rim overOne
-  pub folded-run : Leaves lifted folded (1 ∷ []) (280 ∷ []) (0 ∷ 3 ∷ 1 ∷ 1 ∷ 3 ∷ 2 ∷ [])
-  pub folded-barred : Free folded rim overTwo → ⊥
-  pub folded-judged : Gets lifted folded (1 ∷ []) (0 ∷ 3 ∷ 2 ∷ 0 ∷ 2 ∷ 1 ∷ []) (Barred 0)
+  pub folded-rings : ringList folded ≡ square ∷ []
+  pub folded-bar : barred folded [] square 0 2 ≡ true
+  pub folded-taken : ToTake folded lifted square overOne
+  -- its loop is alone in its piece: a rim, which is not patched, and a set that patches it gets 11
+  pub folded-run : Leaves lifted folded (4 ∷ []) (0 ∷ []) []
+  pub folded-barred : Free folded square overTwo → ⊥
+  pub folded-wrong : Wrong lifted folded square (0 ∷ 3 ∷ 2 ∷ 0 ∷ 2 ∷ 1 ∷ []) (Barred 0)
+  pub folded-judged : Gets lifted folded (1 ∷ []) (0 ∷ 3 ∷ 2 ∷ 0 ∷ 2 ∷ 1 ∷ []) (Misdeclared 0)
   -- the cone with a dent: patch (0,3,2),(0,2,1), weight 60; (0,3,1),(1,3,2) weighs 140 and gets 14;
   -- (3,2,0),(2,1,0) passes
-  pub cone-rings : ringList cone ≡ rim ∷ []
-  pub cone-taken : ToTake cone dentedTop rim overTwo
-  pub cone-run : Leaves dentedTop cone (1 ∷ []) (60 ∷ []) (0 ∷ 3 ∷ 2 ∷ 0 ∷ 2 ∷ 1 ∷ [])
-  pub cone-other : Free cone rim overOne
-  pub cone-heavier : weightHere dentedTop rim overOne ≡ 140
-  pub cone-judged : Gets dentedTop cone (1 ∷ []) (0 ∷ 3 ∷ 1 ∷ 1 ∷ 3 ∷ 2 ∷ []) (Heavy 0)
-  pub cone-passed : Gets dentedTop cone (1 ∷ []) (3 ∷ 2 ∷ 0 ∷ 2 ∷ 1 ∷ 0 ∷ []) Done
+  pub cone-rings : ringList cone ≡ square ∷ []
+  pub cone-taken : ToTake cone dentedTop square overTwo
+  pub cone-run : Leaves dentedTop cone (4 ∷ []) (0 ∷ []) []
+  pub cone-other : Free cone square overOne
+  pub cone-heavier : weightHere dentedTop square overOne ≡ 140
+  pub cone-wrong : Wrong dentedTop cone square (0 ∷ 3 ∷ 1 ∷ 1 ∷ 3 ∷ 2 ∷ []) (Heavy 0)
+  pub cone-fine : Fine dentedTop cone square (3 ∷ 2 ∷ 0 ∷ 2 ∷ 1 ∷ 0 ∷ [])
+  pub cone-judged : Gets dentedTop cone (1 ∷ []) (3 ∷ 2 ∷ 0 ∷ 2 ∷ 1 ∷ 0 ∷ []) (Misdeclared 0)
+  pub cone-passed : Gets dentedTop cone (4 ∷ []) [] Done
   -- the cone with the points of (0,1,2),(0,2,3): both covers weigh 280, so m = 1: (0,3,1),(1,3,2)
-  pub equal-one : weightHere liftedTop rim overOne ≡ 280
-  pub equal-two : weightHere liftedTop rim overTwo ≡ 280
-  pub equal-taken : ToTake cone liftedTop rim overOne
+  pub equal-one : weightHere liftedTop square overOne ≡ 280
+  pub equal-two : weightHere liftedTop square overTwo ≡ 280
+  pub equal-taken : ToTake cone liftedTop square overOne
   -- (0,1,2),(0,2,3),(1,3,4): ring 0,1,2,3 has no cover, ring 1,3,4 is patched by (1,4,3) wherever the points lie
-  pub crossed-rings : ringList crossed ≡ rim ∷ side ∷ []
-  pub crossed-open : Open crossed rim
+  pub crossed-rings : ringList crossed ≡ square ∷ side ∷ []
+  pub crossed-open : Open crossed square
   pub crossed-taken : (grid : List ℤ) → ToTake crossed grid side alone
-  pub crossed-run : (grid : List ℤ) → Leaves grid crossed (3 ∷ 1 ∷ []) (0 ∷ weightHere grid side alone ∷ []) (1 ∷ 4 ∷ 3 ∷ [])
+  -- and each is the rim of its piece
+  pub crossed-run : (grid : List ℤ) → Leaves grid crossed (4 ∷ 4 ∷ []) (0 ∷ 0 ∷ []) []
+  -- a plate with a hole: the greater loop is the rim, the other is patched, and 11 is given for 1 on the rim and for 4 on the hole
+  pub plate-rings : ringList plate ≡ (0 ∷ 1 ∷ 2 ∷ []) ∷ (4 ∷ 3 ∷ 5 ∷ []) ∷ []
+  pub plate-rims : rimList plateGrid plate ≡ true ∷ false ∷ []
+  pub plate-run : Leaves plateGrid plate (4 ∷ 1 ∷ []) (0 ∷ 100 ∷ []) (4 ∷ 5 ∷ 3 ∷ [])
+  pub plate-paved : Gets plateGrid plate (1 ∷ 1 ∷ []) (0 ∷ 2 ∷ 1 ∷ 4 ∷ 5 ∷ 3 ∷ []) (Misdeclared 0)
+  pub plate-left : Gets plateGrid plate (4 ∷ 4 ∷ []) [] (Misdeclared 1)
+  pub plate-passed : Gets plateGrid plate (4 ∷ 1 ∷ []) (5 ∷ 3 ∷ 4 ∷ []) Done

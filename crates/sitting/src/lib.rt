@@ -3,6 +3,7 @@ ghost use Rattle.summary.specs.Workings.Courses.{VerdictRoom, Gives};
 use answers::Answer;
 use column::FAR;
 use column::PLACES;
+use rounds::RIM;
 use terms::Loop;
 use terms::Surface;
 
@@ -15,11 +16,12 @@ pub fn verdict_all(
     corners: &[u16],
     rings: &[u16],
     lengths: &[u16],
+    rims: &[u16],
     states: &[u16],
     set: &[u16],
 ) -> Answer
-    requires { ⌜ VerdictRoom (now grid) (now corners) (now rings) (now lengths) (now states) ⌝ }
-    ensures { λ r. ⌜ Gives (now (grid .entry)) (now (corners .entry)) (now (rings .entry)) (now (lengths .entry)) (now (states .entry)) (now (set .entry)) r ⌝ }
+    requires { ⌜ VerdictRoom (now grid) (now corners) (now rings) (now lengths) (now rims) (now states) ⌝ }
+    ensures { λ r. ⌜ Gives (now (grid .entry)) (now (corners .entry)) (now (rings .entry)) (now (lengths .entry)) (now (rims .entry)) (now (states .entry)) (now (set .entry)) r ⌝ }
 {
     let mut heads = [0u16; Surface::POINTS];
     let mut links = [0u16; EDGES];
@@ -34,6 +36,14 @@ pub fn verdict_all(
     let mut l = 0;
     while l < lengths.len() {
         let end = r + lengths[l] as usize;
+        if rims[l] == RIM {
+            if states[l] != RIM {
+                return Answer::Misdeclared(l);
+            }
+            r = end;
+            l += 1;
+            continue;
+        }
         let found = judgement::judge_loop(
             grid,
             &rings[r..end],

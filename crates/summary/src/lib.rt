@@ -1,10 +1,11 @@
-// The verdict over loops that are all judged at sight: triangles and long ones.
+// The verdict over loops that are all judged at sight: rims, triangles and long ones.
 ghost use mathlib.Core.Path.{_≡_};
 ghost use Prim.Native.Nat.{_≤_};
 ghost use lib.ListN.{length, drop};
 ghost use Rattle.verdicts.specs.Verdicts.{leftOver};
 ghost use Rattle.summary.specs.Workings.Courses.{PlainVerdictRoom, GivesPlain};
 use answers::Answer;
+use rounds::RIM;
 
 // Corners left after the last loop, where the set was taken up to `at`.
 pub fn left_over(set: &[u16], at: usize) -> Answer
@@ -17,16 +18,30 @@ pub fn left_over(set: &[u16], at: usize) -> Answer
     Answer::Done
 }
 
-// Loops of three and long ones only.
-pub fn verdict_plain(rings: &[u16], lengths: &[u16], states: &[u16], set: &[u16]) -> Answer
-    requires { ⌜ PlainVerdictRoom (now rings) (now lengths) (now states) ⌝ }
-    ensures { λ r. ⌜ GivesPlain (now (rings .entry)) (now (lengths .entry)) (now (states .entry)) (now (set .entry)) r ⌝ }
+// Rims, loops of three and long ones only.
+pub fn verdict_plain(
+    rings: &[u16],
+    lengths: &[u16],
+    marks: &[u16],
+    states: &[u16],
+    set: &[u16],
+) -> Answer
+    requires { ⌜ PlainVerdictRoom (now rings) (now lengths) (now marks) (now states) ⌝ }
+    ensures { λ r. ⌜ GivesPlain (now (rings .entry)) (now (lengths .entry)) (now (marks .entry)) (now (states .entry)) (now (set .entry)) r ⌝ }
 {
     let mut r = 0;
     let mut at = 0;
     let mut l = 0;
     while l < lengths.len() {
         let end = r + lengths[l] as usize;
+        if marks[l] == RIM {
+            if states[l] != RIM {
+                return Answer::Misdeclared(l);
+            }
+            r = end;
+            l += 1;
+            continue;
+        }
         let found = sight::judge_plain(&rings[r..end], states[l], set, at, l);
         let Answer::Done = found else {
             return found;

@@ -12,6 +12,7 @@ use Rattle.surface.specs.Refusals.{refusal}
 use Rattle.loops.specs.Loops.{loops}
 use Rattle.survey.specs.Grid.{gridOf}
 use Rattle.survey.specs.Outcome.{Buffers, Outcome, refused, done, needs, lent}
+use Rattle.rims.specs.Rims.{rimList}
 use Rattle.run.specs.Run.{ringList}
 use Rattle.verdicts.specs.Verdicts.{Verdict}
 use Rattle.sentence.specs.declared.Judged.{Judged}
@@ -30,7 +31,7 @@ judged a words corners b =
 abbrev pub JudgesCounted : Bool → List ℕ → List ℕ → List ℕ → List ℕ → Buffers → Outcome → Type 0
 JudgesCounted false words corners states set b o = o ≡ refused (States (length (loops corners))) b
 JudgesCounted true words corners states set b o =
-    (a : Answer) × Verdict (gridOf words) corners [] 0 0 (ringList corners) states set a × (o ≡ judged a words corners b)
+    (a : Answer) × Verdict (gridOf words) corners [] 0 0 (rimList (gridOf words) corners) (ringList corners) states set a × (o ≡ judged a words corners b)
 
 -- 1 to 8 come first
 abbrev pub JudgesIf : Bool → Answer → List ℕ → List ℕ → List ℕ → List ℕ → Buffers → Outcome → Type 0

@@ -2,7 +2,7 @@
 -- (`input`), the set's triangles of the loops before have the corners `laid` ("Bars come from the set's own earlier loops"), and `set` is what is
 -- left of the set.
 use mathlib.Core.Path.{_≡_}
-use mathlib.Core.Bool.{true}
+use mathlib.Core.Bool.{Bool, true, false}
 use mathlib.Core.List.{List}
 use Prim.Native.Nat.{ℕ, _-_, _*_, _<_, _≤_}
 use lib.IntN.{ℤ}
@@ -78,3 +78,13 @@ pub data Fault (grid : List ℤ) (input laid : List ℕ) (l : ℕ) (ring : List 
   no-cover : a ≡ Uncovered l → DeclaredPatched input laid ring state → NoCoverTaken ring set → Fault grid input laid l ring state set a
   cover-barred : a ≡ Barred l → DeclaredPatched input laid ring state → BarredTaken input laid ring set → Fault grid input laid l ring state set a
   too-heavy : a ≡ Heavy l → DeclaredPatched input laid ring state → HeavyTaken grid input laid ring set → Fault grid input laid l ring state set a
+
+-- "Each rim must be declared 4"; any other loop is right as above
+abbrev pub RightIf : List ℤ → List ℕ → List ℕ → Bool → List ℕ → ℕ → List ℕ → Type 0
+RightIf grid input laid true ring state set = state ≡ 4
+RightIf grid input laid false ring state set = Right grid input laid ring state set
+
+-- "on a rim verdict 11 is given exactly for a state other than 4; on other loops as before"
+abbrev pub FaultIf : List ℤ → List ℕ → List ℕ → ℕ → Bool → List ℕ → ℕ → List ℕ → Answer → Type 0
+FaultIf grid input laid l true ring state set a = (a ≡ Misdeclared l) × (state ≡ 4 → ⊥)
+FaultIf grid input laid l false ring state set a = Fault grid input laid l ring state set a

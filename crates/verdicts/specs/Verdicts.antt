@@ -1,6 +1,6 @@
 -- The verdict on a patch set, over all loops in listed order.
 use mathlib.Core.Path.{_≡_}
-use mathlib.Core.Bool.{cond}
+use mathlib.Core.Bool.{Bool, cond}
 use mathlib.Core.Logic.{_⊎_}
 use mathlib.Core.List.{List, [], _∷_, _++_}
 use Prim.Native.Nat.{ℕ, suc, _+_}
@@ -9,7 +9,7 @@ use lib.IntN.{ℤ}
 use lib.ListN.{take, drop}
 use Rattle.answers.specs.declared.Answer.{Answer}
 use Rattle.answers.specs.declared.Answer.the-variants.{Done, LeftOver}
-use Rattle.verdicts.specs.Faults.{share, Right, Fault}
+use Rattle.verdicts.specs.Faults.{share, RightIf, FaultIf}
 
 -- only a loop that is declared patched takes corners
 abbrev pub taken : List ℕ → ℕ → ℕ
@@ -22,23 +22,27 @@ leftOver at (x ∷ set) = LeftOver at
 
 -- The verdict a, where loop l is the first of these rings and `at` corners were taken before it: "the first loop that has one decides;
 -- 15 comes last".
-abbrev pub Verdict : List ℤ → List ℕ → List ℕ → ℕ → ℕ → List (List ℕ) → List ℕ → List ℕ → Answer → Type 0
-Verdict grid input laid l at [] [] set a = a ≡ leftOver at set
-Verdict grid input laid l at [] (s ∷ states) set a = ⊥
-Verdict grid input laid l at (r ∷ rings) [] set a = ⊥
-Verdict grid input laid l at (r ∷ rings) (s ∷ states) set a =
-    let k = taken r s in
-    Fault grid input laid l r s set a
-    ⊎ (Right grid input laid r s set × Verdict grid input (laid ++ take k set) (suc l) (at + k) rings states (drop k set) a)
+abbrev pub Verdict : List ℤ → List ℕ → List ℕ → ℕ → ℕ → List Bool → List (List ℕ) → List ℕ → List ℕ → Answer → Type 0
+Verdict grid input laid l at [] [] [] set a = a ≡ leftOver at set
+Verdict grid input laid l at [] [] (s ∷ states) set a = ⊥
+Verdict grid input laid l at [] (r ∷ rings) states set a = ⊥
+Verdict grid input laid l at (k ∷ rims) [] states set a = ⊥
+Verdict grid input laid l at (k ∷ rims) (r ∷ rings) [] set a = ⊥
+Verdict grid input laid l at (k ∷ rims) (r ∷ rings) (s ∷ states) set a =
+    let n = taken r s in
+    FaultIf grid input laid l k r s set a
+    ⊎ (RightIf grid input laid k r s set × Verdict grid input (laid ++ take n set) (suc l) (at + n) rims rings states (drop n set) a)
 
 -- No corner is left over, and loop by loop each loop is right.
-abbrev pub AllRight : List ℤ → List ℕ → List ℕ → List (List ℕ) → List ℕ → List ℕ → Type 0
-AllRight grid input laid [] [] set = set ≡ []
-AllRight grid input laid [] (s ∷ states) set = ⊥
-AllRight grid input laid (r ∷ rings) [] set = ⊥
-AllRight grid input laid (r ∷ rings) (s ∷ states) set =
-    let k = taken r s in
-    Right grid input laid r s set × AllRight grid input (laid ++ take k set) rings states (drop k set)
+abbrev pub AllRight : List ℤ → List ℕ → List ℕ → List Bool → List (List ℕ) → List ℕ → List ℕ → Type 0
+AllRight grid input laid [] [] [] set = set ≡ []
+AllRight grid input laid [] [] (s ∷ states) set = ⊥
+AllRight grid input laid [] (r ∷ rings) states set = ⊥
+AllRight grid input laid (k ∷ rims) [] states set = ⊥
+AllRight grid input laid (k ∷ rims) (r ∷ rings) [] set = ⊥
+AllRight grid input laid (k ∷ rims) (r ∷ rings) (s ∷ states) set =
+    let n = taken r s in
+    RightIf grid input laid k r s set × AllRight grid input (laid ++ take n set) rims rings states (drop n set)
 
 -- what each loop takes of the set
 abbrev pub parts : List (List ℕ) → List ℕ → List ℕ → List (List ℕ)

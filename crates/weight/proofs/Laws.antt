@@ -12,3 +12,4 @@ pub mod Naturals
 pub mod Totals
 pub mod Figures
 pub mod Named
+pub mod Strides

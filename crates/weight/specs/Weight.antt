@@ -51,6 +51,10 @@ pub record Short (v : Vector) : Type 0 where
 unfoldable pub pointOf : List ℤ → ℕ → Point
 pointOf grid v = record { x = getD grid (3 * v) (pos 0); y = getD grid (3 * v + 1) (pos 0); z = getD grid (3 * v + 2) (pos 0) }
 
+-- "the three absolute grid differences", added, from point a to point b
+unfoldable pub strideOf : List ℤ → ℕ → ℕ → ℕ
+strideOf grid a b = size (less (pointOf grid b) (pointOf grid a))
+
 -- all numbers of the grid are coordinates
 abbrev pub Coordinates : List ℤ → Type 0
 Coordinates grid = (j : ℕ) → Coordinate (getD grid j (pos 0))

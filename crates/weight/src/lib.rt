@@ -2,7 +2,7 @@
 ghost use mathlib.Core.Path.{_≡_};
 ghost use Prim.Native.Nat.{_^_, _<_};
 ghost use lib.IntN.{natAbs, _-ℤ_, _*ℤ_};
-ghost use Rattle.weight.specs.Weight.{less, cross, size, weightOf, pointOf, Coordinate, OnGrid, Difference, Short, Coordinates, Names};
+ghost use Rattle.weight.specs.Weight.{less, cross, size, strideOf, weightOf, pointOf, Coordinate, OnGrid, Difference, Short, Coordinates, Names};
 
 // A point of the grid.
 pub struct Point {
@@ -24,6 +24,22 @@ pub fn weigh_named(grid: &[i32], a: usize, b: usize, c: usize) -> u64
     ensures { λ r. ⌜ r ≡ weightOf (pointOf (now (grid .entry)) a) (pointOf (now (grid .entry)) b) (pointOf (now (grid .entry)) c) ⌝ }
 {
     weigh(point_at(grid, a), point_at(grid, b), point_at(grid, c))
+}
+
+// The three absolute differences of two points of the grid's list, added.
+pub fn stride(grid: &[i32], a: usize, b: usize) -> u64
+    requires { ⌜ Coordinates (now grid) × Names (now grid) a × Names (now grid) b ⌝ }
+    ensures { λ r. ⌜ r ≡ strideOf (now (grid .entry)) a b ⌝ }
+{
+    extent(minus(point_at(grid, b), point_at(grid, a)))
+}
+
+// The absolute values of a vector's three parts, added.
+fn extent(v: Vector) -> u64
+    requires { ⌜ Short v ⌝ }
+    ensures { λ r. ⌜ r ≡ size v ⌝ }
+{
+    size_of(v.x) + size_of(v.y) + size_of(v.z)
 }
 
 // The point that the number names.

@@ -16,6 +16,7 @@ use Rattle.surface.proofs.Laws.Sound.{passed, passed-sound}
 use Rattle.loops.specs.Loops.{loops}
 use Rattle.survey.specs.Grid.{gridOf}
 use Rattle.survey.specs.Outcome.{Buffers, Outcome, needs, lent}
+use Rattle.rims.specs.Rims.{rimList}
 use Rattle.run.specs.Run.{ringList}
 use Rattle.verdicts.proofs.Laws.Once.{verdict-once}
 use Rattle.trial.specs.Outcome.{JudgesCounted, JudgesIf, Judges}
@@ -47,7 +48,7 @@ module _ (words corners states set : List ℕ) where
     counted-once : (t : Bool) → refusing (sheetRefusal words corners) ≡ false → AnswersCounted t words corners states set a → AnswersCounted t words corners states set b → a ≡ b
     counted-once false e x y = x ∙ sym y
     counted-once true e x y =
-        verdict-once (gridOf words) corners [] 0 0 (ringList corners) states set a b (rings-apart corners (passed-sound words corners [] [] (passed words corners [] [] e))) x y
+        verdict-once (gridOf words) corners [] 0 0 (rimList (gridOf words) corners) (ringList corners) states set a b (rings-apart corners (passed-sound words corners [] [] (passed words corners [] [] e))) x y
 
     pub answers-once : Answers words corners states set a → Answers words corners states set b → a ≡ b
     unfolding Answers

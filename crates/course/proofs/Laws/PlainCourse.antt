@@ -1,6 +1,7 @@
--- The run over loops of three and long ones.
+-- The run over rims, loops of three and long ones.
 use mathlib.Core.Path.{_≡_, refl, sym, ap, _∙_, subst}
-use mathlib.Core.Logic.{_⊎_, inl, inr}
+use mathlib.Core.Logic.{inl, inr}
+use mathlib.Core.Bool.{Bool}
 use mathlib.Core.List.{List, []}
 use Prim.Native.Nat.{ℕ, _+_, _-_, _*_, _≤_, _<_}
 use native.Mathlib.Nat.{add-zero}
@@ -10,36 +11,43 @@ use lib.ListN.{length, getD, take, drop, set}
 use Rattle.limits.specs.Limits as limits
 use Rattle.surface.proofs.Laws.Laid.{laid-none}
 use Rattle.run.specs.Fates.{long}
-use Rattle.rounds.specs.Workings.Rings.{RingOf, Loops, Plain}
+use Rattle.rounds.specs.Workings.Rings.{RingOf, Loops, rimMark, PlainAt, Plain}
 use Rattle.rounds.proofs.Laws.Reading.{as-many, length-at}
 use Rattle.plain.specs.declared.Became.{Became}
 use Rattle.plain.specs.Workings.Threes.{ThreeRoom, ThreeTook}
 use Rattle.course.specs.Workings.Courses.{Lent, RunRoom, Ran}
-use Rattle.course.proofs.Laws.Courses.{patches-in, ran-more}
+use Rattle.course.proofs.Laws.Courses.{state-kept, becomes-other, patches-in, ran-more}
 use Rattle.course.proofs.Laws.Going.{Going, part-is, going-next}
 
-module _ (grid : List ℤ) (input rings lengths states₀ weights₀ patches₀ : List ℕ) (l r p : ℕ) (states weights patches : List ℕ) (g : Going grid input rings lengths states₀ weights₀ patches₀ l r p states weights patches)
+module _ {grid : List ℤ} {input rings lengths states₀ weights₀ patches₀ : List ℕ} {l r p : ℕ} {states weights patches : List ℕ} (g : Going grid input rings lengths states₀ weights₀ patches₀ l r p states weights patches)
     (room : RunRoom grid input rings lengths states₀ weights₀ patches₀) (h : l < length lengths) where
+  state-here : getD states l 0 ≡ getD states₀ l 0
+  state-here =
+      let a : length lengths ≡ length (room .rs) = as-many grid input (room .rs) rings lengths (room .loops) in
+      state-kept (room .loops) (room .lent) (omega arith) (g .ran (room .rims) (room .rs) (room .loops) (room .lent))
+
   -- ---- a long loop
 
-  pub going-long : Plain lengths → 3 < getD lengths l 0 → Going grid input rings lengths states₀ weights₀ patches₀ (l + 1) (r + getD lengths l 0) p (set states l 2) (set weights l 0) patches
-  going-long q m = going-next grid input rings lengths states₀ weights₀ patches₀ l r p states weights patches g (r + getD lengths l 0) p 2 0 patches refl more
+  pub going-long : Plain lengths states₀ → (getD states l 0 ≡ rimMark → ⊥) → 3 < getD lengths l 0 → Going grid input rings lengths states₀ weights₀ patches₀ (l + 1) (r + getD lengths l 0) p (set states l 2) (set weights l 0) patches
+  going-long q no′ m = going-next g 2 0 refl more
     where
-      more : (rs : List (List ℕ)) → Loops grid input rs rings lengths → Lent rs states₀ weights₀ patches₀ → Ran grid input rs states₀ weights₀ patches₀ (l + 1) (r + getD lengths l 0) p (set states l 2) (set weights l 0) patches
-      more rs s n =
+      more : (rims : List Bool) (rs : List (List ℕ)) → Loops grid input rs rings lengths → Lent rims rs states₀ weights₀ patches₀ → Ran grid input rims rs states₀ weights₀ patches₀ (l + 1) (r + getD lengths l 0) p (set states l 2) (set weights l 0) patches
+      more rims rs s n =
           let a : length lengths ≡ length rs = as-many grid input rs rings lengths s in
           let k : l < length rs = omega arith in
           let e : getD lengths l 0 ≡ length (getD rs l []) = length-at grid input rs rings lengths s l k in
-          ran-more grid input rs rings lengths s states₀ weights₀ patches₀ n l r p states weights patches k (g .ran rs s n) long (subst (λ (x : ℕ). limits.longest < x) e (longer (q l h)))
-          (r + getD lengths l 0) p 2 0 patches (ap (λ (x : ℕ). r + x) e) (sym (add-zero p)) refl refl (sym (laid-none p patches))
+          ran-more s n k (g .ran rims rs s n) long
+          (becomes-other s n k (g .ran rims rs s n) no′ long (subst (λ (x : ℕ). limits.longest < x) e (longer (q l h))))
+          (ap (λ (x : ℕ). r + x) e) (sym (add-zero p)) refl refl (sym (laid-none p patches))
         where
-          longer : (getD lengths l 0 ≤ 3) ⊎ (limits.longest < getD lengths l 0) → limits.longest < getD lengths l 0
+          longer : PlainAt lengths states₀ l → limits.longest < getD lengths l 0
           longer (inl x) = absurd (omega arith)
-          longer (inr x) = x
+          longer (inr (inl x)) = x
+          longer (inr (inr x)) = absurd (no′ (state-here ∙ x))
 
   -- ---- a loop of three
 
-  module _ (m : getD lengths l 0 ≤ 3) where
+  module _ (no′ : getD states l 0 ≡ rimMark → ⊥) (m : getD lengths l 0 ≤ 3) where
     abbrev part : List ℕ
     part = take (r + getD lengths l 0 - r) (drop r rings)
 
@@ -48,12 +56,12 @@ module _ (grid : List ℤ) (input rings lengths states₀ weights₀ patches₀ 
         let s = room .loops in
         let a : length lengths ≡ length (room .rs) = as-many grid input (room .rs) rings lengths s in
         let k : l < length (room .rs) = omega arith in
-        let e : part ≡ getD (room .rs) l [] = part-is grid input rings lengths states₀ weights₀ patches₀ l r p states weights patches g (room .rs) s (room .lent) k in
+        let e : part ≡ getD (room .rs) l [] = part-is g (room .rims) (room .rs) s (room .lent) k in
         let f : getD lengths l 0 ≡ length (getD (room .rs) l []) = length-at grid input (room .rs) rings lengths s l k in
         let ring = s .each l k in
         let three : 3 ≤ length (getD (room .rs) l []) = ring .three in
         let enough : p + 3 * (length (getD (room .rs) l []) - 2) ≤ length patches =
-        patches-in grid input (room .rs) rings lengths s states₀ weights₀ patches₀ (room .lent) l r p states weights patches k (g .ran (room .rs) s (room .lent)) in
+        patches-in s (room .lent) k (g .ran (room .rims) (room .rs) s (room .lent)) in
         record {
           input = input;
           ring-of = subst (RingOf grid input) (sym e) ring;
@@ -61,18 +69,19 @@ module _ (grid : List ℤ) (input rings lengths states₀ weights₀ patches₀ 
           room = omega arith;
         }
 
-    pub going-three : (b : Became) (patches′ : List ℕ) → length patches′ ≡ length patches → ThreeTook grid part patches p 0 b patches′
+    pub going-three : {b : Became} {patches′ : List ℕ} → length patches′ ≡ length patches → ThreeTook grid part patches p 0 b patches′
         → Going grid input rings lengths states₀ weights₀ patches₀ (l + 1) (r + getD lengths l 0) (b .corners) (set states l (b .state)) (set weights l (b .weight)) patches′
-    going-three b patches′ kept t =
-        going-next grid input rings lengths states₀ weights₀ patches₀ l r p states weights patches g (r + getD lengths l 0) (b .corners) (b .state) (b .weight) patches′ kept more
+    going-three {b} {patches′} kept t =
+        going-next g (b .state) (b .weight) kept more
       where
-        more : (rs : List (List ℕ)) → Loops grid input rs rings lengths → Lent rs states₀ weights₀ patches₀
-            → Ran grid input rs states₀ weights₀ patches₀ (l + 1) (r + getD lengths l 0) (b .corners) (set states l (b .state)) (set weights l (b .weight)) patches′
-        more rs s n =
+        more : (rims : List Bool) (rs : List (List ℕ)) → Loops grid input rs rings lengths → Lent rims rs states₀ weights₀ patches₀
+            → Ran grid input rims rs states₀ weights₀ patches₀ (l + 1) (r + getD lengths l 0) (b .corners) (set states l (b .state)) (set weights l (b .weight)) patches′
+        more rims rs s n =
             let a : length lengths ≡ length rs = as-many grid input rs rings lengths s in
             let k : l < length rs = omega arith in
-            let e : part ≡ getD rs l [] = part-is grid input rings lengths states₀ weights₀ patches₀ l r p states weights patches g rs s n k in
+            let e : part ≡ getD rs l [] = part-is g rims rs s n k in
             let f : getD lengths l 0 ≡ length (getD rs l []) = length-at grid input rs rings lengths s l k in
             let u : ThreeTook grid (getD rs l []) patches p 0 b patches′ = subst (λ (x : List ℕ). ThreeTook grid x patches p 0 b patches′) e t in
-            ran-more grid input rs rings lengths s states₀ weights₀ patches₀ n l r p states weights patches k (g .ran rs s n) (u .fate) (u .meets input _)
-            (r + getD lengths l 0) (b .corners) (b .state) (b .weight) patches′ (ap (λ (x : ℕ). r + x) f) (u .corners ∙ ap (λ (x : ℕ). p + x) (sym (u .three))) (u .state) (u .weight) (u .lay)
+            ran-more s n k (g .ran rims rs s n) (u .fate)
+            (becomes-other s n k (g .ran rims rs s n) no′ (u .fate) (u .meets input _))
+            (ap (λ (x : ℕ). r + x) f) (u .corners ∙ ap (λ (x : ℕ). p + x) (sym (u .three))) (u .state) (u .weight) (u .lay)

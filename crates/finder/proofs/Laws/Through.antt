@@ -31,7 +31,7 @@ pub record Through (corners turns₀ rings₀ lengths₀ firsts₀ path₀ place
   pub path-same : length path ≡ length path₀
   pub places-same : length places ≡ length places₀
 
-module _ (corners turns₀ rings₀ lengths₀ firsts₀ path₀ places₀ : List ℕ) (ready : Ready corners turns₀ rings₀ lengths₀ firsts₀ × Lent corners path₀ places₀) where
+module _ {corners turns₀ rings₀ lengths₀ firsts₀ path₀ places₀ : List ℕ} (ready : Ready corners turns₀ rings₀ lengths₀ firsts₀ × Lent corners path₀ places₀) where
   pub through-begins : Through corners turns₀ rings₀ lengths₀ firsts₀ path₀ places₀ turns₀ rings₀ lengths₀ firsts₀ path₀ places₀ (record { loops = 0; vertices = 0; path = 0 }) 0
   unfolding edgesBelow loopsBelow
   through-begins =
@@ -48,7 +48,7 @@ module _ (corners turns₀ rings₀ lengths₀ firsts₀ path₀ places₀ : Lis
         places-same = refl;
       }
 
-  module _ (turns rings lengths firsts path places : List ℕ) (at : Listed) (h : ℕ) (th : Through corners turns₀ rings₀ lengths₀ firsts₀ path₀ places₀ turns rings lengths firsts path places at h) where
+  module _ {turns rings lengths firsts path places : List ℕ} {at : Listed} {h : ℕ} (th : Through corners turns₀ rings₀ lengths₀ firsts₀ path₀ places₀ turns rings lengths firsts path places at h) where
     pub through-ends : length corners ≤ h → ListsLoops corners (loops corners) rings₀ lengths₀ firsts₀ at rings lengths firsts
     unfolding loops
     through-ends l = let w = th .within in let q : length corners ≡ h = omega arith in rw q (th .lists)
@@ -56,8 +56,8 @@ module _ (corners turns₀ rings₀ lengths₀ firsts₀ path₀ places₀ : Lis
     through-long : length corners ≤ length turns
     through-long = omega (arith, th .turns-same, ready .0 .table-long)
 
-    pub through-skips : (r : ℕ) → (h < r) × (r ≤ length corners) × Quiet turns h r → Through corners turns₀ rings₀ lengths₀ firsts₀ path₀ places₀ turns rings lengths firsts path places at r
-    through-skips r w =
+    pub through-skips : {r : ℕ} → (h < r) × (r ≤ length corners) × Quiet turns h r → Through corners turns₀ rings₀ lengths₀ firsts₀ path₀ places₀ turns rings lengths firsts path places at r
+    through-skips {r} w =
         let a : h < r = w .0 in
         let b : r ≤ length corners = w .1 in
         let z : h + (r - h) ≡ r = omega arith in
@@ -100,10 +100,10 @@ module _ (corners turns₀ rings₀ lengths₀ firsts₀ path₀ places₀ : Lis
             lists = lists-self corners (loopsBelow corners h) rings₀ lengths₀ firsts₀ at rings lengths firsts (th .lists);
           }
 
-      pub through-on : (turns′ rings′ lengths′ firsts′ path′ places′ : List ℕ) (r : Listed) → CycleListed corners h rings lengths firsts turns′ r rings′ lengths′ firsts′
+      pub through-on : {turns′ rings′ lengths′ firsts′ path′ places′ : List ℕ} {r : Listed} → CycleListed corners h rings lengths firsts turns′ r rings′ lengths′ firsts′
           → length turns′ ≡ length turns → length rings′ ≡ length rings → length lengths′ ≡ length lengths → length firsts′ ≡ length firsts → length path′ ≡ length path → length places′ ≡ length places
           → Through corners turns₀ rings₀ lengths₀ firsts₀ path₀ places₀ turns′ rings′ lengths′ firsts′ path′ places′ r (h + 1)
-      through-on turns′ rings′ lengths′ firsts′ path′ places′ r w a b c d p q =
+      through-on {rings′ = rings′} {lengths′ = lengths′} {firsts′ = firsts′} {r = r} w a b c d p q =
           let s : loopsBelow corners (suc h) ≡ loopsBelow corners h ++ loopsOf corners h = loops-leader corners h leading in
           record {
             within = omega arith;

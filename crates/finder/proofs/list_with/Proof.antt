@@ -12,77 +12,31 @@ Inv-loop corners turns₀ path₀ places₀ rings₀ lengths₀ firsts₀ at₀ 
 abbrev μ-loop : tie.MeasureT-loop
 μ-loop corners turns₀ path₀ places₀ rings₀ lengths₀ firsts₀ at₀ h₀ turns path places rings lengths firsts at h = length corners - h
 
-loop-holds : tie.Need-loop-holds Inv-loop μ-loop
-loop-holds c = through-begins _ _ _ _ _ _ _ (c .before .before .before .before .before .before .before .pre)
+-- where a turn begins, and the function's entry behind it
+abbrev Turn : Type 0
+Turn = tie.In-loop Inv-loop μ-loop
 
-mul-if1 : tie.Need-mul-if1 Inv-loop μ-loop
-mul-if1 c = search needs
-
-slice-read-if1 : tie.Need-slice-read-if1 Inv-loop μ-loop
-slice-read-if1 c = search needs
-
-next-leader-requires : tie.Need-next-leader-requires Inv-loop μ-loop
-next-leader-requires c κs = search needs
-
-loop-less : tie.Need-loop-less Inv-loop μ-loop
-loop-less c = search needs
-
-loop-again : tie.Need-loop-again Inv-loop μ-loop
-loop-again c = through-skips _ _ _ _ _ _ _ (c .before .before .before .before .before .before .before .before .before .before .before .before .before .pre) _ _ _ _ _ _ _ _ (c .before .before .before .before .before .loop .inv) _ (c .next-leader .ensures)
-
-list-cycle-requires : tie.Need-list-cycle-requires Inv-loop μ-loop
-list-cycle-requires c κs = through-room _ _ _ _ _ _ _ (c .before .before .before .before .before .before .before .before .before .before .before .before .before .before .before .before .before .pre) _ _ _ _ _ _ _ _ (c .before .before .before .before .before .before .before .before .before .loop .inv) (c .before .before .before .before .before .before .before .before .loop-test .taken) (c .before .before .before .before .before .before .if1 .left)
-
-add-h : tie.Need-add-h Inv-loop μ-loop
-add-h c = search needs
-
-loop-less-2 : tie.Need-loop-less-2 Inv-loop μ-loop
-loop-less-2 c = search needs
-
-loop-again-2 : tie.Need-loop-again-2 Inv-loop μ-loop
-loop-again-2 c = through-on _ _ _ _ _ _ _ (c .before .before .before .before .before .before .before .before .before .before .before .before .before .before .before .before .before .before .before .before .before .before .before .before .before .before .before .before .before .before .pre) _ _ _ _ _ _ _ _ (c .before .before .before .before .before .before .before .before .before .before .before .before .before .before .before .before .before .before .before .before .before .before .loop .inv) (c .before .before .before .before .before .before .before .before .before .before .before .before .before .before .before .before .before .before .before .before .before .loop-test .taken) (c .before .before .before .before .before .before .before .before .before .before .before .before .before .before .before .before .before .before .before .if1 .left) _ _ _ _ _ _ _ (c .before .before .before .before .before .before .before .before .before .before .before .before .list-cycle .ensures) (c .before .before .before .before .before .before .before .before .before .before .before .before .list-cycle .kept .1 .1 .0) (c .before .before .before .before .before .before .before .before .before .before .before .before .list-cycle .kept .1 .1 .1 .1 .1 .0) (c .before .before .before .before .before .before .before .before .before .before .before .before .list-cycle .kept .1 .1 .1 .1 .1 .1 .0) (c .before .before .before .before .before .before .before .before .before .before .before .before .list-cycle .kept .1 .1 .1 .1 .1 .1 .1 .0) (c .before .before .before .before .before .before .before .before .before .before .before .before .list-cycle .kept .1 .1 .1 .0) (c .before .before .before .before .before .before .before .before .before .before .before .before .list-cycle .kept .1 .1 .1 .1 .0)
-
-same-length : tie.Need-same-length Inv-loop μ-loop
-same-length c = search needs
-
-same-length-2 : tie.Need-same-length-2 Inv-loop μ-loop
-same-length-2 c = search needs
-
-same-length-3 : tie.Need-same-length-3 Inv-loop μ-loop
-same-length-3 c = search needs
-
-same-length-4 : tie.Need-same-length-4 Inv-loop μ-loop
-same-length-4 c = search needs
-
-same-length-5 : tie.Need-same-length-5 Inv-loop μ-loop
-same-length-5 c = search needs
-
-same-length-6 : tie.Need-same-length-6 Inv-loop μ-loop
-same-length-6 c = search needs
-
-returns : tie.Need-returns Inv-loop μ-loop
-returns c = through-ends _ _ _ _ _ _ _ (c .before .before .before .before .before .before .before .before .before .pre) _ _ _ _ _ _ _ _ (c .before .loop .inv) (c .loop-test .left)
+abbrev entry : Turn → tie.Start Inv-loop μ-loop
+entry t = search
 
 pub list-with-spec : {M : Type 1} → statement M
 list-with-spec =
     tie.close
-    (tie.spec
-    Inv-loop
-    μ-loop
-    loop-holds
-    mul-if1
-    slice-read-if1
-    next-leader-requires
-    loop-less
-    loop-again
-    list-cycle-requires
-    add-h
-    loop-less-2
-    loop-again-2
-    same-length
-    same-length-2
-    same-length-3
-    same-length-4
-    same-length-5
-    same-length-6
-    returns)
+    (tie.spec Inv-loop μ-loop
+    (λ c. let s : tie.Start Inv-loop μ-loop = search in through-begins (s .pre))
+    (λ c. search needs)
+    (λ c. search needs)
+    (λ c κs. search needs)
+    (λ c. search needs)
+    (λ c. let t : Turn = search in search (through-skips, t .before .loop .inv, entry t .pre))
+    (λ c κs. let t : Turn = search in search (through-room, t .before .loop .inv, entry t .pre, t .loop-test))
+    (λ c. search needs)
+    (λ c. search needs)
+    (λ c. let t : Turn = search in let l : tie.After-list-cycle Inv-loop μ-loop = search in search (through-on, t .before .loop .inv, entry t .pre, t .loop-test, l .list-cycle))
+    (λ c. search needs)
+    (λ c. search needs)
+    (λ c. search needs)
+    (λ c. search needs)
+    (λ c. search needs)
+    (λ c. search needs)
+    (λ c. let s : tie.Start Inv-loop μ-loop = search in (through-ends (s .pre) (c .before .loop .inv) (c .loop-test .left), (_, c .before .loop .inv .turned))))

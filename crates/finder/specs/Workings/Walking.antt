@@ -33,6 +33,10 @@ turnNow Nothing false e = openMark + following e
 unfoldable pub Turned : List ℕ → List ℕ → List ℕ → Type 0
 Turned corners walked turns = (e : ℕ) → e < length corners → getD turns e 0 ≡ turnNow (twin corners e) (holds e walked) e
 
+-- some edges were walked, and the table still has every turn
+abbrev pub KeepsTurns : List ℕ → List ℕ → Type 0
+KeepsTurns corners turns = (walked : List ℕ) × Turned corners walked turns
+
 -- ---- the cycles
 
 -- what all cycles ask for

@@ -1,22 +1,29 @@
 -- `verdict` takes the bench only where a loop needs it.
-use borrow.Author.Needs.{needs}
+use mathlib.Core.Path.{_≡_}
+use mathlib.Core.List.{List}
+use Prim.Native.Nat.{ℕ, _≤_}
+use native.Mathlib.Omega.{arith}
+use lib.IntN.{ℤ}
+use lib.ListN.{length}
+use Rattle.rounds.proofs.Laws.Reading.{as-many}
+use Rattle.summary.specs.Workings.Courses.{VerdictRoom}
 use Rattle.hearing.proofs.verdict.Statement.{statement}
 use Rattle.hearing.proofs.verdict.Tie as tie
 
-any-middling-requires : tie.Need-any-middling-requires
-any-middling-requires c κs = search needs
-
-verdict-all-requires : tie.Need-verdict-all-requires
-verdict-all-requires c κs = c .before .before .before .before .before .before .before .pre
-
-returns : tie.Need-returns
-returns c = c .verdict-all .ensures
-
-verdict-plain-requires : tie.Need-verdict-plain-requires
-verdict-plain-requires c κs = record { grid = _; input = _; room = c .before .before .before .before .before .before .before .pre; plain = c .before .any-middling .ensures (c .if1 .left) }
-
-returns-2 : tie.Need-returns-2
-returns-2 c = c .verdict-plain .ensures _ _
+-- there is a mark for each loop
+marks-long : {grid : List ℤ} {input rings lengths marks states : List ℕ} → VerdictRoom grid input rings lengths marks states → length lengths ≤ length marks
+marks-long {grid} {input} {rings} {lengths} {marks} room =
+    let a : length lengths ≡ length (room .rs) = as-many grid input (room .rs) rings lengths (room .loops) in
+    let d : length (room .rims) ≡ length (room .rs) = room .declared .rims-many in
+    let m : length (room .rims) ≤ length marks = room .declared .marked .long in
+    omega arith
 
 pub verdict-spec : {M : Type 1} → statement M
-verdict-spec = tie.close (tie.spec any-middling-requires verdict-all-requires returns verdict-plain-requires returns-2)
+verdict-spec =
+    tie.close
+    (tie.spec
+    (λ c κs. search marks-long)
+    (λ c κs. search)
+    (λ c. search)
+    (λ c κs. let s : tie.Start = search in let m : tie.After-any-middling = search in record { grid = _; input = _; room = s .pre; plain = search (m .any-middling .ensures) })
+    (λ c. c .verdict-plain .ensures _ _))

@@ -21,6 +21,7 @@ use Rattle.loops.specs.Loops.{loops, ring}
 use Rattle.loops.proofs.Theorems.{three-or-more, vertices-in-all, vertices-few}
 use Rattle.cutting.specs.Listing.{ringsOf}
 use Rattle.survey.specs.Grid.{gridOf}
+use Rattle.rims.specs.Rims.{rimList}
 use Rattle.run.specs.Fates.{Fate}
 use Rattle.run.specs.Run.{Run, ringList, statesOf, weightsOf, laidBy}
 use Rattle.run.proofs.Laws.Grows.{run-length}
@@ -72,12 +73,12 @@ lengths-same corners [] = refl
 lengths-same corners (l ∷ ls) = rw (length-map l (startOf corners), lengths-same corners ls)
 
 module _ (words corners : List ℕ) (b : Buffers) where
-  module _ (sound : Sound corners) (few : length corners ≤ limits.corners) (fates : List Fate) (run : Run (gridOf words) corners [] (ringList corners) fates) where
+  module _ (sound : Sound corners) (few : length corners ≤ limits.corners) (fates : List Fate) (run : Run (gridOf words) corners [] (rimList (gridOf words) corners) (ringList corners) fates) where
     rings-many : length (ringList corners) ≡ length (loops corners)
     rings-many = length-map (loops corners) (ring corners)
 
     fated : length fates ≡ length (ringList corners)
-    fated = run-length (gridOf words) corners [] (ringList corners) fates run
+    fated = run-length (gridOf words) corners [] (rimList (gridOf words) corners) (ringList corners) fates run
 
     lengths-long : length (loops corners) ≡ length (map length (loops corners))
     lengths-long = sym (length-map (loops corners) length)
@@ -117,7 +118,7 @@ module _ (words corners : List ℕ) (b : Buffers) where
       listed = record {
         loops = loopsOf (gridOf words) (ringList corners) fates;
         lying = left-lying;
-        fits = loops-fit (gridOf words) corners [] (ringList corners) fates run (rings-three corners sound) rings-few;
+        fits = loops-fit (gridOf words) corners [] (rimList (gridOf words) corners) (ringList corners) fates run (rings-three corners sound) rings-few;
         many = loops-many (gridOf words) (ringList corners) fates fated ∙ rings-many;
       };
     }
@@ -126,13 +127,13 @@ module _ (words corners : List ℕ) (b : Buffers) where
   refuses = refusal words corners (lent b) (needs words corners)
 
   -- what a run left, by the fates that it gave
-  pub run-listed : (fates : List Fate) → refusing refuses ≡ false → Run (gridOf words) corners [] (ringList corners) fates → LeftListed (done words corners fates b)
+  pub run-listed : (fates : List Fate) → refusing refuses ≡ false → Run (gridOf words) corners [] (rimList (gridOf words) corners) (ringList corners) fates → LeftListed (done words corners fates b)
   run-listed fates r run =
       let table : Passed words corners (lent b) (needs words corners) = passed words corners (lent b) (needs words corners) r in
       done-listed (passed-sound words corners (lent b) (needs words corners) table) (counts-fit (length words) (length corners) (table .counts) .few-corners) fates run
 
   -- whose loops are those of the fates
-  pub run-loops : (fates : List Fate) (r : refusing refuses ≡ false) (run : Run (gridOf words) corners [] (ringList corners) fates)
+  pub run-loops : (fates : List Fate) (r : refusing refuses ≡ false) (run : Run (gridOf words) corners [] (rimList (gridOf words) corners) (ringList corners) fates)
       → run-listed fates r run .listed .loops ≡ loopsOf (gridOf words) (ringList corners) fates
   unfolding run-listed done-listed
   run-loops fates r run = refl

@@ -15,6 +15,7 @@ use Rattle.surface.proofs.Laws.Thens.{buffers-enough}
 use Rattle.surface.proofs.Laws.Deciding.{buffers-pass}
 use Rattle.surface.proofs.Laws.Threes.{flat-length}
 use Rattle.survey.specs.Grid.{gridOf}
+use Rattle.rims.specs.Rims.{rimList}
 use Rattle.run.specs.Fates.{Fate}
 use Rattle.run.specs.Run.{Run, ringList}
 use Rattle.patching.specs.Outcome.{Buffers, Outcome, lent, needs, PatchesIf, Patches}
@@ -74,7 +75,7 @@ module _ {bytes : List ℕ} {ps ts : List Three} (t : TextOf points triangles by
         go true e p = ap answerLine (ap (λ (q : Outcome). q .answer) p)
         go false e (fates, run, p) = absurd (true≢false (sym r ∙ ap (λ (q : Outcome). refusing (q .answer)) p))
 
-    told : (fates : List Fate) (e : refusing answers ≡ false) (run : Run (gridOf (flat ps)) (flat ts) [] (ringList (flat ts)) fates)
+    told : (fates : List Fate) (e : refusing answers ≡ false) (run : Run (gridOf (flat ps)) (flat ts) [] (rimList (gridOf (flat ps)) (flat ts)) (ringList (flat ts)) fates)
         → PrintsIf (refusing answers) answers (flat ps) (flat ts) (listing (run-listed (flat ps) (flat ts) b fates e run .listed .loops))
     told fates e run =
         subst (λ (x : Bool). PrintsIf x answers (flat ps) (flat ts) (listing (run-listed (flat ps) (flat ts) b fates e run .listed .loops))) (sym e)

@@ -1,5 +1,6 @@
 -- The loops that a run leaves, as they are told: what they have, one after the other, and that their lines are not too wide.
-use mathlib.Core.Path.{_≡_, refl, ap}
+use mathlib.Core.Path.{_≡_, refl, sym, ap, subst}
+use mathlib.Core.Bool.{Bool, true, false}
 use mathlib.Core.List.{List, [], _∷_, _++_, map, flatten}
 use Prim.Native.Nat.{ℕ, zero, suc, _+_, _<_, _≤_}
 use native.Mathlib.Nat.{not-suc-le-zero}
@@ -8,7 +9,7 @@ use lib.IntN.{ℤ}
 use lib.ListN.{length, getD, length-append}
 use Rattle.limits.specs.Limits as limits
 use Rattle.covers.proofs.Laws.Corners.{patch-length}
-use Rattle.run.specs.Fates.{Fate, patched, long, uncovered, stateOf, weighs, lays, Meets}
+use Rattle.run.specs.Fates.{Fate, patched, long, uncovered, rim, stateOf, weighs, lays, Meets, Becomes}
 use Rattle.run.specs.Run.{Run, statesOf, weightsOf, laidBy}
 use Rattle.report.specs.Listing.{Shown}
 use Rattle.report.specs.Workings.Telling.{Fits, shown, nothing}
@@ -59,15 +60,21 @@ module _ (grid : List ℤ) where
     fits-one laid ring (patched c) t few m = record { three = t; few = few; patched = λ e. m .0; share = patch-length ring c (m .1 .among .covers) }
     fits-one laid ring long t few m = record { three = t; few = few; patched = λ e. absurd (omega arith); share = refl }
     fits-one laid ring uncovered t few m = record { three = t; few = few; patched = λ e. absurd (omega arith); share = refl }
+    fits-one laid ring rim t few m = absurd m
 
-    pub loops-fit : (laid : List ℕ) (rings : List (List ℕ)) (fates : List Fate) → Run grid input laid rings fates → ((l : ℕ) → l < length rings → 3 ≤ length (getD rings l [])) → length (flatten rings) ≤ limits.corners
+    fits-kept : (laid : List ℕ) (k : Bool) (ring : List ℕ) (f : Fate) → 3 ≤ length ring → length ring ≤ limits.corners → Becomes grid input laid k ring f → Fits (showOf grid ring f)
+    fits-kept laid true ring f t few m = subst (λ (x : Fate). Fits (showOf grid ring x)) (sym m) (record { three = t; few = few; patched = λ e. absurd (omega arith); share = refl })
+    fits-kept laid false ring f t few m = fits-one laid ring f t few m
+
+    pub loops-fit : (laid : List ℕ) (rims : List Bool) (rings : List (List ℕ)) (fates : List Fate) → Run grid input laid rims rings fates → ((l : ℕ) → l < length rings → 3 ≤ length (getD rings l [])) → length (flatten rings) ≤ limits.corners
         → (l : ℕ) → l < length (loopsOf grid rings fates) → Fits (getD (loopsOf grid rings fates) l nothing)
     unfolding flatten
-    loops-fit laid [] fates run threes few l k = absurd (not-suc-le-zero k)
-    loops-fit laid (r ∷ rings) [] run threes few l k = absurd (not-suc-le-zero k)
-    loops-fit laid (r ∷ rings) (f ∷ fates) run threes few zero k =
+    loops-fit laid rims [] fates run threes few l k = absurd (not-suc-le-zero k)
+    loops-fit laid rims (r ∷ rings) [] run threes few l k = absurd (not-suc-le-zero k)
+    loops-fit laid [] (r ∷ rings) (f ∷ fates) run threes few l k = absurd run
+    loops-fit laid (j ∷ rims) (r ∷ rings) (f ∷ fates) run threes few zero k =
         let e : length (r ++ flatten rings) ≡ length r + length (flatten rings) = length-append r (flatten rings) in
-        fits-one laid r f (threes zero (omega arith)) (omega arith) (run .0)
-    loops-fit laid (r ∷ rings) (f ∷ fates) run threes few (suc l) k =
+        fits-kept laid j r f (threes zero (omega arith)) (omega arith) (run .0)
+    loops-fit laid (j ∷ rims) (r ∷ rings) (f ∷ fates) run threes few (suc l) k =
         let e : length (r ++ flatten rings) ≡ length r + length (flatten rings) = length-append r (flatten rings) in
-        loops-fit (laid ++ lays r f) rings fates (run .1) (λ i h. threes (suc i) (omega arith)) (omega arith) l (omega arith)
+        loops-fit (laid ++ lays r f) rims rings fates (run .1) (λ i h. threes (suc i) (omega arith)) (omega arith) l (omega arith)

@@ -7,6 +7,7 @@ use Rattle.answers.specs.Numbers.{refusing}
 use Rattle.answers.specs.declared.Answer.{Answer}
 use Rattle.surface.specs.Refusals.{refusal}
 use Rattle.survey.specs.Grid.{gridOf}
+use Rattle.rims.specs.Rims.{rimList}
 use Rattle.run.specs.Fates.{Fate}
 use Rattle.run.specs.Run.{ringList}
 use Rattle.run.proofs.Laws.Once.{run-once}
@@ -20,4 +21,4 @@ patches-once words corners b o p = go (refusing a) a
 
     go : (t : Bool) (a : Answer) → PatchesIf t a words corners b o → PatchesIf t a words corners b p → o ≡ p
     go true a x y = x ∙ sym y
-    go false a x y = x .2 ∙ ap (λ (fs : List Fate). done words corners fs b) (run-once (gridOf words) corners [] (ringList corners) (x .0) (y .0) (x .1) (y .1)) ∙ sym (y .2)
+    go false a x y = x .2 ∙ ap (λ (fs : List Fate). done words corners fs b) (run-once (gridOf words) corners [] (rimList (gridOf words) corners) (ringList corners) (x .0) (y .0) (x .1) (y .1)) ∙ sym (y .2)

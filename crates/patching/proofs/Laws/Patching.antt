@@ -1,7 +1,7 @@
 -- From the checks, the finder and the run to what the patcher answers and leaves.
-use mathlib.Core.Path.{_≡_, ap, _∙_, subst}
+use mathlib.Core.Path.{_≡_, sym, ap, _∙_, subst}
 use mathlib.Core.Bool.{true}
-use mathlib.Core.List.{List, [], _∷_, flatten}
+use mathlib.Core.List.{List, [], _∷_, map, flatten}
 use Prim.Native.Nat.{ℕ, _*_, _/_, _≤_}
 use native.Mathlib.Nat.{le-trans}
 use native.Mathlib.Omega.{arith}
@@ -14,18 +14,23 @@ use Rattle.limits.specs.Limits as limits
 use Rattle.surface.specs.Buffers.{over}
 use Rattle.surface.specs.Refusals.{countRefusal, refusal}
 use Rattle.surface.proofs.Laws.Thens.{counts-fit}
+use Rattle.surface.proofs.Laws.Over.{over-again}
 use Rattle.surface.proofs.Laws.Deciding.{count-decides, content-decides}
-use Rattle.loops.specs.Loops.{loops, ring}
+use Rattle.loops.specs.Loops.{loops}
 use Rattle.cutting.specs.Listing.{ListsLoops, ringsOf}
 use Rattle.cutting.specs.declared.Listed.{Listed}
+use Rattle.finder.specs.Workings.Asked.{Ready}
 use Rattle.survey.specs.Grid.{gridOf}
 use Rattle.survey.specs.Workings.Checks.{Checked}
-use Rattle.survey.proofs.Laws.Known.{Known, corner-inside, rings-few, loops-few}
-use Rattle.survey.proofs.Laws.Parts.{grid-part, of-parts}
-use Rattle.run.specs.Run.{Run, ringList, weightsOf}
-use Rattle.rounds.specs.Workings.Rings.{Loops}
-use Rattle.rounds.specs.Workings.Scratch.{Scratch}
-use Rattle.rounds.proofs.Laws.Rings.{loops-of}
+use Rattle.survey.proofs.Laws.Known.{Known, ready, rings-few, loops-few}
+use Rattle.survey.proofs.Laws.Parts.{grid-part}
+use Rattle.rims.specs.Rims.{rimList}
+use Rattle.run.specs.Run.{Run, ringList, statesOf, weightsOf}
+use Rattle.run.proofs.Laws.Grows.{run-length}
+use Rattle.run.proofs.Laws.Lengths.{states-length}
+use Rattle.rounds.specs.Workings.Scratch.{few, Scratch}
+use Rattle.marking.specs.Workings.Marking.{markOf, Marked}
+use Rattle.marking.proofs.Laws.Listed.{input-here, as-many-loops, loops-here, all-marked, marks-here, rims-here}
 use Rattle.course.specs.Workings.Courses.{Lent, RunRoom, RanAll, Runs}
 use Rattle.patching.specs.Outcome.{Buffers, outcome, buffers, done, needs, lent, Patches}
 use Rattle.patching.specs.declared.Patched.{Patched}
@@ -35,7 +40,12 @@ pub scratch-most : (words corners turns path places : List ℕ) → countRefusal
     → Scratch words corners turns path places
 scratch-most words corners turns path places c t p q =
     let f = counts-fit (length words) (length corners) c in
-    record { counts = c; turns-long = le-trans (f .few-corners) t; path-long = le-trans (f .few-corners) p; places-long = omega (arith, f .few-words) }
+    record { counts = c; turns-long = le-trans (f .few-corners) t; path-long = le-trans (f .few-corners) p; places-long = omega (arith, f .few-words); pieces-long = omega (arith, f .few-corners) }
+
+-- room for few is room for a surface with few points and corners
+pub scratch-few : (words corners turns path places : List ℕ) → countRefusal (length words) (length corners) ≡ Done → length words / 3 ≤ few → length corners ≤ few
+    → few ≤ length turns → few ≤ length path → few ≤ length places → Scratch words corners turns path places
+scratch-few words corners turns path places c p q t u v = record { counts = c; turns-long = le-trans q t; path-long = le-trans q u; places-long = le-trans p v; pieces-long = omega arith }
 
 -- a refusal as the code makes it
 abbrev pub Refuses : Patched → Answer → Type 0
@@ -61,51 +71,57 @@ module _ (words corners : List ℕ) (b : Buffers) where
   content-refuse c r a table h k t = decided r a h (content-decides words corners (lent b) (needs words corners) c a (k .said)) t
 
   module _ {table : List ℕ} (k : Known words corners table (b .grid) (b .rings) (b .lengths) (lentBesides b) (needsBesides corners)) where
-    -- there is room for what the run leaves
-    the-lent : Lent (ringList corners) (b .states) (b .weights) (b .patches)
-    unfolding ringsOf
-    the-lent =
-        let n : length (ringList corners) ≡ length (loops corners) = length-map (loops corners) (ring corners) in
-        let t : length (loops corners) ≤ length corners / 3 = loops-few k in
-        let v : length (flatten (ringList corners)) ≤ length corners = rings-few k in
-        let p : length corners / 3 ≤ length (b .states) = k .others-long 0 (omega arith) in
-        let q : length corners / 3 ≤ length (b .weights) = k .others-long 1 (omega arith) in
-        let r : 3 * length corners ≤ length (b .patches) = k .others-long 2 (omega arith) in
-        record { states-room = omega arith; weights-room = omega arith; patches-room = omega arith }
+    -- the loops can be listed in the lent buffers, with their first half-edges among the states
+    pub listing-ready : length corners ≤ length table → Ready corners table (b .rings) (b .lengths) (b .states)
+    listing-ready t = ready k (b .rings) (b .lengths) (b .states) t (k .rings-long) (k .lengths-long) (k .others-long 0 (omega arith))
 
-    module _ (at : Listed) (firsts rings′ lengths′ firsts′ : List ℕ) (grid′ : List ℤ) (ls : ListsLoops corners (loops corners) (b .rings) (b .lengths) firsts at rings′ lengths′ firsts′) (eg : grid′ ≡ over (gridOf words) (b .grid)) where
-      loops-here : Loops (take (length words) grid′) corners (ringList corners) (take (at .vertices) rings′) (take (at .loops) lengths′)
-      loops-here =
-          of-parts ls words (b .grid) grid′ eg (λ (g : List ℤ) (r l : List ℕ). Loops g corners (ringList corners) r l)
-          (loops-of words corners table (k .woven) (k .on-grid) (k .fits .few-words) (k .fits .few-corners))
+    module _ {at : Listed} {rings′ lengths′ firsts : List ℕ} {grid′ : List ℤ} (ls : ListsLoops corners (loops corners) (b .rings) (b .lengths) (b .states) at rings′ lengths′ firsts) (eg : grid′ ≡ over (gridOf words) (b .grid)) where
+      abbrev g : List ℤ
+      g = take (length words) grid′
 
-      pub run-room : RunRoom (take (length words) grid′) corners (take (at .vertices) rings′) (take (at .loops) lengths′) (b .states) (b .weights) (b .patches)
-      run-room = record {
-        rs = ringList corners;
-        loops = loops-here;
-        lent = the-lent;
-        corners = record { whole = k .fits .corner-threes; few = k .fits .few-corners; inside = corner-inside k };
-      }
+      module _ {states : List ℕ} (marked : Marked g corners firsts states) where
+        -- there is room for what the run leaves
+        the-lent : Lent (rimList g corners) (ringList corners) states (b .weights) (b .patches)
+        unfolding ringsOf
+        the-lent =
+            let v : length (flatten (ringList corners)) ≤ length corners = rings-few k in
+            let n : length (ringList corners) ≤ length corners / 3 = omega (arith, as-many-loops k, loops-few k) in
+            let q : length corners / 3 ≤ length (b .weights) = k .others-long 1 (omega arith) in
+            let r : 3 * length corners ≤ length (b .patches) = k .others-long 2 (omega arith) in
+            let x = marks-here k ls eg marked in
+            let z : length (rimList g corners) ≤ length states = x .long in
+            record { rims-many = rims-here k ls eg marked; marked = x; states-room = omega (arith, rims-here k ls eg marked); weights-room = omega arith; patches-room = omega arith }
 
-      pub done-is : (p : ℕ) (states′ weights′ patches′ : List ℕ)
-          → Runs (take (length words) grid′) corners (take (at .vertices) rings′) (take (at .loops) lengths′) (b .states) (b .weights) (b .patches) p states′ weights′ patches′
-          → Patches words corners b (outcome (record { answer = Done; loops = at .loops; vertices = at .vertices; corners = p }) (buffers grid′ rings′ lengths′ states′ weights′ patches′))
-      done-is p states′ weights′ patches′ r = rw (k .none-refused) (q .fates, subst (λ (g : List ℤ). Run g corners [] (ringList corners) (q .fates)) gridded (q .run), left)
-        where
-          q : RanAll (take (length words) grid′) corners (ringList corners) (b .states) (b .weights) (b .patches) p states′ weights′ patches′
-          q = r (ringList corners) loops-here the-lent
+        pub run-room : RunRoom g corners (take (at .vertices) rings′) (take (at .loops) lengths′) states (b .weights) (b .patches)
+        run-room = record { rims = rimList g corners; rs = ringList corners; loops = loops-here k ls eg; lent = the-lent; corners = input-here k }
 
-          gridded : take (length words) grid′ ≡ gridOf words
-          gridded = grid-part words (b .grid) grid′ eg
+        pub done-is : (p : ℕ) (states′ weights′ patches′ : List ℕ)
+            → Runs g corners (take (at .vertices) rings′) (take (at .loops) lengths′) states (b .weights) (b .patches) p states′ weights′ patches′
+            → Patches words corners b (outcome (record { answer = Done; loops = at .loops; vertices = at .vertices; corners = p }) (buffers grid′ rings′ lengths′ states′ weights′ patches′))
+        done-is p states′ weights′ patches′ r = rw (k .none-refused) (q .fates, subst (λ (x : List ℤ). Run x corners [] (rimList x corners) (ringList corners) (q .fates)) gridded (q .run), left)
+          where
+            q : RanAll g corners (rimList g corners) (ringList corners) states (b .weights) (b .patches) p states′ weights′ patches′
+            q = r (rimList g corners) (ringList corners) (loops-here k ls eg) the-lent
 
-          ew : weights′ ≡ over (weightsOf (gridOf words) (ringList corners) (q .fates)) (b .weights)
-          ew = q .weights-are ∙ ap (λ (g : List ℤ). over (weightsOf g (ringList corners) (q .fates)) (b .weights)) gridded
+            gridded : g ≡ gridOf words
+            gridded = grid-part words (b .grid) grid′ eg
 
-          left : outcome (record { answer = Done; loops = at .loops; vertices = at .vertices; corners = p }) (buffers grid′ rings′ lengths′ states′ weights′ patches′) ≡ done words corners (q .fates) b
-          left = λ t. record {
-            answer = Done;
-            loops = ls .count t;
-            vertices = ls .vertices t;
-            corners = q .count t;
-            left = record { grid = eg t; rings = ls .all-rings t; lengths = ls .all-lengths t; states = q .states-are t; weights = ew t; patches = q .patches-are t };
-          }
+            -- as many states as marks
+            es : states′ ≡ over (statesOf (q .fates)) (b .states)
+            es =
+                q .states-are
+                ∙ ap (over (statesOf (q .fates))) (all-marked k ls eg marked)
+                ∙ over-again (statesOf (q .fates)) (map markOf (rimList g corners)) (b .states)
+                (states-length (q .fates) ∙ run-length g corners [] (rimList g corners) (ringList corners) (q .fates) (q .run) ∙ sym (the-lent .rims-many) ∙ sym (length-map (rimList g corners) markOf))
+
+            ew : weights′ ≡ over (weightsOf (gridOf words) (ringList corners) (q .fates)) (b .weights)
+            ew = q .weights-are ∙ ap (λ (x : List ℤ). over (weightsOf x (ringList corners) (q .fates)) (b .weights)) gridded
+
+            left : outcome (record { answer = Done; loops = at .loops; vertices = at .vertices; corners = p }) (buffers grid′ rings′ lengths′ states′ weights′ patches′) ≡ done words corners (q .fates) b
+            left = λ t. record {
+              answer = Done;
+              loops = ls .count t;
+              vertices = ls .vertices t;
+              corners = q .count t;
+              left = record { grid = eg t; rings = ls .all-rings t; lengths = ls .all-lengths t; states = es t; weights = ew t; patches = q .patches-are t };
+            }

@@ -1,138 +1,140 @@
--- `patch_with` writes nothing before every check is done, and hands the run the parts that were written.
-use mathlib.Core.Path.{_∙_, refl, sym}
+-- `patch_with` writes nothing before every check is done, marks the rims among the states, and hands the run the parts that were written.
+use mathlib.Core.Path.{_∙_, sym}
 use native.Mathlib.Omega.{arith}
-use lib.Dec.{lit≤}
 use lib.ListN.{length}
+use borrow.Author.Needs.{needs}
 use Rattle.surface.proofs.Laws.Lists.{as-long}
 use Rattle.surface.proofs.Laws.Thens.{counts-fit}
-use Rattle.survey.proofs.Laws.Known.{Known, known, still-long, grid-ready, ready, lent-long}
+use Rattle.survey.proofs.Laws.Known.{Known, known, still-long, grid-ready, lent-long}
 use Rattle.survey.proofs.Laws.Parts.{grid-in, rings-in, lengths-in}
+use Rattle.marking.proofs.Laws.Listed.{mark-room}
 use Rattle.patching.specs.Outcome.{Buffers, buffers}
-use Rattle.patching.proofs.Laws.Patching.{lentBesides, needsBesides, content-refuse, run-room, done-is}
+use Rattle.patching.proofs.Laws.Patching.{lentBesides, needsBesides, content-refuse, listing-ready, run-room, done-is}
 use Rattle.patching.proofs.patch_with.Statement.{statement}
 use Rattle.patching.proofs.patch_with.Tie as tie
+
+-- the places on the way back, by their types: each call, and the function's entry
+abbrev entry : tie.After-turns → tie.Start
+entry c = search
+
+abbrev checked : tie.Else1 → tie.After-turns
+checked c = search
+
+abbrev passed : tie.After-grid → tie.Else1
+passed c = search
+
+abbrev gridded : tie.After-turns2 → tie.After-grid
+gridded c = search
+
+abbrev listed : tie.After-turns3 → tie.After-turns2
+listed c = search
+
+abbrev marked : tie.After-run → tie.After-turns3
+marked c = search
+
+abbrev placed : tie.After-run → tie.After-places2
+placed c = search
+
+abbrev states-marked : tie.After-run → tie.After-states2
+states-marked c = search
+
+abbrev states-listed : tie.After-places2 → tie.After-states
+states-listed c = search
+
+abbrev places-listed : tie.After-places2 → tie.After-places
+places-listed c = search
 
 -- the buffers as they are lent
 abbrev lent-here : tie.Start → Buffers
 lent-here c = buffers (c .args .grid .now) (c .args .rings .now) (c .args .lengths .now) (c .args .states .now) (c .args .weights .now) (c .args .patches .now)
 
 -- what is known once nothing is refused
-known-here : (c : tie.Else1) → Known (c .before .before .before .before .before .before .before .before .before .before .before .before .before .before .before .before .before .before .args .words .now) (c .before .before .before .before .before .before .before .before .before .before .before .before .before .before .before .before .before .before .args .corners .now) (c .before .before .before .before .check-with .last .1 .1 .1 .1 .0) (c .before .before .before .before .before .before .before .before .before .before .before .before .before .before .before .before .before .before .args .grid .now) (c .before .before .before .before .before .before .before .before .before .before .before .before .before .before .before .before .before .before .args .rings .now) (c .before .before .before .before .before .before .before .before .before .before .before .before .before .before .before .before .before .before .args .lengths .now) (lentBesides (lent-here (c .before .before .before .before .before .before .before .before .before .before .before .before .before .before .before .before .before .before))) (needsBesides (c .before .before .before .before .before .before .before .before .before .before .before .before .before .before .before .before .before .before .args .corners .now))
-known-here c = known _ _ _ (c .before .before .before .before .before .before .before .before .before .before .before .before .before .before .before .before .before .before .args .grid .now) (c .before .before .before .before .before .before .before .before .before .before .before .before .before .before .before .before .before .before .args .rings .now) (c .before .before .before .before .before .before .before .before .before .before .before .before .before .before .before .before .before .before .args .lengths .now) (lentBesides (lent-here (c .before .before .before .before .before .before .before .before .before .before .before .before .before .before .before .before .before .before))) (needsBesides (c .before .before .before .before .before .before .before .before .before .before .before .before .before .before .before .before .before .before .args .corners .now)) _ (c .before .before .before .before .before .before .before .before .before .before .before .before .before .before .before .before .before .before .pre .counts) (c .before .before .before .before .check-with .ensures) (sym (c .before .refuses .ensures) ∙ c .if1 .left)
+known-here : (c : tie.Else1)
+    → let s = entry (checked c) in
+    let b = lent-here s in
+    Known (s .args .words .now) (s .args .corners .now) (checked c .before .check-with .last .1 .1 .1 .1 .0) (b .grid) (b .rings) (b .lengths) (lentBesides b) (needsBesides (s .args .corners .now))
+known-here c =
+    let s = entry (checked c) in
+    let b = lent-here s in
+    known _ _ _ (b .grid) (b .rings) (b .lengths) (lentBesides b) (needsBesides (s .args .corners .now)) _ (s .pre .counts) (checked c .before .check-with .ensures) (sym (c .before .refuses .ensures) ∙ c .if1 .left)
 
-mul-t21 : tie.Need-mul-t21
-mul-t21 c = omega (arith, counts-fit (length (c .before .before .before .before .before .before .before .before .before .before .args .words .now)) (length (c .before .before .before .before .before .before .before .before .before .before .args .corners .now)) (c .before .before .before .before .before .before .before .before .before .before .pre .counts) .few-corners)
+-- the parts of the buffers that were written are there
+grid-there : tie.Need-slice-reshare-prefix-mark
+grid-there c = let l : tie.After-turns2 = search in grid-in (entry (checked (passed (gridded l))) .args .words .now) _ _ (gridded l .before .lay-grid .ensures)
 
-slice-aggregate-check-with : tie.Need-slice-aggregate-check-with
-slice-aggregate-check-with c = refl
+rings-there : tie.Need-slice-reshare-prefix-mark-2
+rings-there c = let l : tie.After-turns2 = search in rings-in (l .before .list-with .ensures .0)
 
-slice-aggregate-check-with-2 : tie.Need-slice-aggregate-check-with-2
-slice-aggregate-check-with-2 c = refl
+lengths-there : tie.Need-slice-reshare-prefix-mark-3
+lengths-there c = let l : tie.After-turns2 = search in lengths-in (l .before .list-with .ensures .0)
 
-check-with-requires : tie.Need-check-with-requires
-check-with-requires c κs = record { counts = c .before .before .before .before .before .before .before .before .before .before .before .before .before .pre .counts; long = c .before .before .before .before .before .before .before .before .before .before .before .before .before .pre .turns-long }
+grid-still : tie.Need-slice-reshare-prefix-run
+grid-still c = let m : tie.After-turns3 = search in let l = listed m in grid-in (entry (checked (passed (gridded l))) .args .words .now) _ _ (gridded l .before .lay-grid .ensures)
 
-refuses-requires : tie.Need-refuses-requires
-refuses-requires c κs = tt
+rings-still : tie.Need-slice-reshare-prefix-run-2
+rings-still c = let m : tie.After-turns3 = search in rings-in (listed m .before .list-with .ensures .0)
 
-refused-requires : tie.Need-refused-requires
-refused-requires c κs = tt
-
-same-length : tie.Need-same-length
-same-length c = c .before .before .before .before .turns .given
-
-returns : tie.Need-returns
-returns c = content-refuse _ _ (lent-here (c .before .before .before .before .before .before .before .before .before .before .before .before .before .before .before .before .before .before .before)) (c .before .before .before .before .before .before .before .before .before .before .before .before .before .before .before .before .before .before .before .pre .counts) _ _ _ (c .refused .ensures) (c .before .before .before .before .before .check-with .ensures) (sym (c .before .before .refuses .ensures) ∙ c .before .if1 .taken)
-
-lay-grid-requires : tie.Need-lay-grid-requires
-lay-grid-requires c κs = grid-ready (known-here (c .before))
-
-slice-aggregate-list-with : tie.Need-slice-aggregate-list-with
-slice-aggregate-list-with c = refl
-
-list-with-requires : tie.Need-list-with-requires
-list-with-requires c κs = let k = known-here (c .before .before .before .before .before .before .before .before .before) in (ready k _ _ _ (still-long (c .before .before .before .before .before .before .before .before .before .before .before .before .before .before .before .before .before .before .before .before .before .before .before .before .before .before .before .pre .turns-long) (c .before .before .before .before .before .before .before .before .before .before .before .before .turns .given)) (k .rings-long) (k .lengths-long) (lit≤ tt), lent-long k _ _ (c .before .before .before .before .before .before .before .before .before .before .before .before .before .before .before .before .before .before .before .before .before .before .before .before .before .before .before .pre .path-long) (c .before .before .before .before .before .before .before .before .before .before .before .before .before .before .before .before .before .before .before .before .before .before .before .before .before .before .before .pre .places-long))
-
-slice-reshare-prefix-run : tie.Need-slice-reshare-prefix-run
-slice-reshare-prefix-run c = grid-in (c .before .before .before .before .before .before .before .before .before .before .before .before .before .before .before .before .before .before .before .before .before .before .before .before .before .before .before .before .before .before .before .before .before .before .before .before .before .before .before .args .words .now) _ _ (c .before .before .before .before .before .before .before .before .before .before .before .before .before .before .before .before .before .before .before .lay-grid .ensures)
-
-slice-aggregate-run : tie.Need-slice-aggregate-run
-slice-aggregate-run c = as-long _ _ (slice-reshare-prefix-run (c .before))
-
-slice-reshare-prefix-run-2 : tie.Need-slice-reshare-prefix-run-2
-slice-reshare-prefix-run-2 c = rings-in (c .before .before .before .before .before .before .before .before .before .before .before .before .list-with .ensures)
-
-slice-aggregate-run-2 : tie.Need-slice-aggregate-run-2
-slice-aggregate-run-2 c = as-long _ _ (slice-reshare-prefix-run-2 (c .before))
-
-slice-reshare-prefix-run-3 : tie.Need-slice-reshare-prefix-run-3
-slice-reshare-prefix-run-3 c = lengths-in (c .before .before .before .before .before .before .before .before .before .before .before .before .before .list-with .ensures)
-
-slice-aggregate-run-3 : tie.Need-slice-aggregate-run-3
-slice-aggregate-run-3 c = as-long _ _ (slice-reshare-prefix-run-3 (c .before))
-
-run-requires : tie.Need-run-requires
-run-requires c κs = run-room _ _ (lent-here (c .before .before .before .before .before .before .before .before .before .before .before .before .before .before .before .before .before .before .before .before .before .before .before .before .before .before .before .before .before .before .before .before .before .before .before .before .before .before .before .before .before .before .before .before .before)) (known-here (c .before .before .before .before .before .before .before .before .before .before .before .before .before .before .before .before .before .before .before .before .before .before .before .before .before .before .before)) _ _ _ _ _ _ (c .before .before .before .before .before .before .before .before .before .before .before .before .before .before .before .before .before .list-with .ensures) (c .before .before .before .before .before .before .before .before .before .before .before .before .before .before .before .before .before .before .before .before .before .before .before .before .before .lay-grid .ensures)
-
-same-length-2 : tie.Need-same-length-2
-same-length-2 c = c .before .before .before .before .before .before .before .before .before .before .before .before .before .before .before .before .before .before .before .before .before .before .before .turns2 .given ∙ c .before .before .before .before .before .before .before .before .before .before .before .before .before .before .before .before .before .before .before .before .before .before .before .before .before .before .before .before .before .before .before .before .before .before .before .before .before .turns .given
-
-same-length-3 : tie.Need-same-length-3
-same-length-3 c = c .before .before .before .before .before .before .before .before .before .before .before .before .before .before .before .before .before .before .before .before .before .path .given
-
-same-length-4 : tie.Need-same-length-4
-same-length-4 c = c .before .before .before .before .before .before .before .before .before .before .before .before .before .before .before .before .before .before .before .places .given
-
-same-length-5 : tie.Need-same-length-5
-same-length-5 c = c .before .before .before .before .before .before .before .before .before .before .before .before .before .before .before .before .before .before .before .before .before .before .before .before .before .before .before .before .before .before .before .grid .given
-
-same-length-6 : tie.Need-same-length-6
-same-length-6 c = c .before .before .before .before .before .before .before .before .before .before .before .before .before .before .before .before .before .rings .given
-
-same-length-7 : tie.Need-same-length-7
-same-length-7 c = c .before .before .before .before .before .before .before .before .before .before .before .before .before .before .before .lengths .given
-
-same-length-8 : tie.Need-same-length-8
-same-length-8 c = c .before .before .before .before .before .states .given
-
-same-length-9 : tie.Need-same-length-9
-same-length-9 c = c .before .before .before .weights .given
-
-same-length-10 : tie.Need-same-length-10
-same-length-10 c = c .before .patches .given
-
-returns-2 : tie.Need-returns-2
-returns-2 c = done-is _ _ (lent-here (c .before .before .before .before .before .before .before .before .before .before .before .before .before .before .before .before .before .before .before .before .before .before .before .before .before .before .before .before .before .before .before .before .before .before .before .before .before .before .before .before .before .before .before .before .before .before .before .before .before .before .before .before)) (known-here (c .before .before .before .before .before .before .before .before .before .before .before .before .before .before .before .before .before .before .before .before .before .before .before .before .before .before .before .before .before .before .before .before .before .before)) _ _ _ _ _ _ (c .before .before .before .before .before .before .before .before .before .before .before .before .before .before .before .before .before .before .before .before .before .before .before .before .list-with .ensures) (c .before .before .before .before .before .before .before .before .before .before .before .before .before .before .before .before .before .before .before .before .before .before .before .before .before .before .before .before .before .before .before .before .lay-grid .ensures) _ _ _ _ (c .before .before .before .before .before .before .run .ensures)
+lengths-still : tie.Need-slice-reshare-prefix-run-3
+lengths-still c = let m : tie.After-turns3 = search in lengths-in (listed m .before .list-with .ensures .0)
 
 pub patch-with-spec : {M : Type 1} → statement M
 patch-with-spec =
     tie.close
     (tie.spec
-    mul-t21
-    slice-aggregate-check-with
-    slice-aggregate-check-with-2
-    check-with-requires
-    refuses-requires
-    refused-requires
-    same-length
-    returns
-    lay-grid-requires
-    slice-aggregate-list-with
-    list-with-requires
-    slice-reshare-prefix-run
-    slice-aggregate-run
-    slice-reshare-prefix-run-2
-    slice-aggregate-run-2
-    slice-reshare-prefix-run-3
-    slice-aggregate-run-3
-    run-requires
-    same-length-2
-    same-length-3
-    same-length-4
-    same-length-5
-    same-length-6
-    same-length-7
-    same-length-8
-    same-length-9
-    same-length-10
-    returns-2)
+    (λ c. let s : tie.Start = search in omega (arith, counts-fit (length (s .args .words .now)) (length (s .args .corners .now)) (s .pre .counts) .few-corners))
+    (λ c. search needs)
+    (λ c. search needs)
+    (λ c κs. let s : tie.Start = search in record { counts = s .pre .counts; long = s .pre .turns-long })
+    (λ c κs. search needs)
+    (λ c κs. search needs)
+    (λ c. let t : tie.After-turns = search in t .turns .given)
+    (λ c. let t : tie.After-turns = search in content-refuse _ _ (lent-here (entry t)) (entry t .pre .counts) _ _ _ (c .refused .ensures) (t .before .check-with .ensures) (sym (c .before .before .refuses .ensures) ∙ c .before .if1 .taken))
+    (λ c κs. grid-ready (known-here (c .before)))
+    (λ c κs.
+    let g : tie.After-grid = search in
+    let p = passed g in
+    let k = known-here p in
+    let s = entry (checked p) in
+    (listing-ready (s .args .words .now) (s .args .corners .now) (lent-here s) k (still-long (s .pre .turns-long) (checked p .turns .given)), lent-long k _ _ (s .pre .path-long) (s .pre .places-long)))
+    grid-there
+    (λ c. as-long _ _ (grid-there (c .before)))
+    rings-there
+    (λ c. as-long _ _ (rings-there (c .before)))
+    lengths-there
+    (λ c. as-long _ _ (lengths-there (c .before)))
+    (λ c κs.
+    let q : tie.After-places = search in
+    let a = q .before .before in
+    let l = a .before .before in
+    let p = passed (gridded l) in
+    let s = entry (checked p) in
+    mark-room (known-here p) (l .before .list-with .ensures .0) (gridded l .before .lay-grid .ensures) (l .before .list-with .ensures .1)
+    (still-long (still-long (s .pre .turns-long) (checked p .turns .given)) (l .turns2 .given)) (still-long (s .pre .path-long) (a .path .given)) (still-long (s .pre .pieces-long) (q .places .given)))
+    grid-still
+    (λ c. as-long _ _ (grid-still (c .before)))
+    rings-still
+    (λ c. as-long _ _ (rings-still (c .before)))
+    lengths-still
+    (λ c. as-long _ _ (lengths-still (c .before)))
+    (λ c κs.
+    let m : tie.After-turns3 = search in
+    let l = listed m in
+    let p = passed (gridded l) in
+    let s = entry (checked p) in
+    run-room (s .args .words .now) (s .args .corners .now) (lent-here s) (known-here p) (l .before .list-with .ensures .0) (gridded l .before .lay-grid .ensures) (m .before .mark .ensures))
+    (λ c. let r : tie.After-run = search in let m = marked r in let l = listed m in m .turns3 .given ∙ l .turns2 .given ∙ checked (passed (gridded l)) .turns .given)
+    (λ c. let r : tie.After-run = search in let m = placed r in m .before .before .path2 .given ∙ places-listed m .before .before .path .given)
+    (λ c. let r : tie.After-run = search in let m = placed r in m .places2 .given ∙ places-listed m .places .given)
+    (λ c. let r : tie.After-run = search in gridded (listed (marked r)) .grid .given)
+    (λ c. let r : tie.After-run = search in states-listed (placed r) .before .before .before .before .rings .given)
+    (λ c. let r : tie.After-run = search in states-listed (placed r) .before .before .lengths .given)
+    (λ c. let n : tie.After-states3 = search in let m = states-marked (n .before) in n .states3 .given ∙ m .states2 .given ∙ states-listed (m .before .before) .states .given)
+    (λ c. search needs)
+    (λ c. search needs)
+    (λ c.
+    let r : tie.After-run = search in
+    let m = marked r in
+    let l = listed m in
+    let p = passed (gridded l) in
+    let s = entry (checked p) in
+    done-is (s .args .words .now) (s .args .corners .now) (lent-here s) (known-here p) (l .before .list-with .ensures .0) (gridded l .before .lay-grid .ensures) (m .before .mark .ensures) _ _ _ _ (r .run .ensures)))

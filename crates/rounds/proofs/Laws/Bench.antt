@@ -89,6 +89,25 @@ module _ (input laid : List ℕ) (r e : ℕ) (heads links ends marks rows : List
         edges-few = omega arith;
       }
 
+-- a ring that is passed over leaves it standing
+pub standing-passed : (input laid laid′ : List ℕ) (r r′ e : ℕ) (heads links ends marks rows : List ℕ) (table : List Float) → laid ≡ laid′ → r ≤ r′
+    → Standing input laid r e heads links ends marks rows table → Standing input laid′ r′ e heads links ends marks rows table
+standing-passed input laid laid′ r r′ e heads links ends marks rows table q h s =
+    let b : Bench input laid′ e heads links ends marks (r + 1) rows table = subst (λ (x : List ℕ). Bench input x e heads links ends marks (r + 1) rows table) q (s .bench) in
+    record {
+      links-long = s .links-long;
+      ends-long = s .ends-long;
+      bench = record {
+        tells = b .tells;
+        whole = b .whole;
+        marks-long = b .marks-long;
+        below = λ v. let x = b .below v in omega arith;
+        rows-long = b .rows-long;
+        table-long = b .table-long;
+      };
+      edges-few = let x = s .edges-few in omega arith;
+    }
+
 -- a loop that lays nothing leaves the bench as it was
 pub bench-kept : (input before : List ℕ) (e f : ℕ) (heads links ends marks marks′ : List ℕ) (base base′ : ℕ) (rows rows′ : List ℕ) (table table′ : List Float)
     → Bench input before e heads links ends marks base rows table → f ≡ e → length marks′ ≡ limits.points → ((v : ℕ) → getD marks′ v 0 < base′)

@@ -1,15 +1,17 @@
 -- The loops of a surface by their rings, as the code that goes from loop to loop takes them. These definitions are the code's own, and no
 -- part of a promise.
 use mathlib.Core.Path.{_≡_}
-use mathlib.Core.Bool.{true}
+use mathlib.Core.Bool.{Bool, true, false}
 use mathlib.Core.Logic.{_⊎_}
 use mathlib.Core.List.{List, [], map, flatten}
 use Prim.Native.Nat.{ℕ, _+_, _-_, _%_, _<_, _≤_}
+use lib.Dec.{eqb}
 use lib.IntN.{ℤ}
 use lib.ListN.{length, getD, take, drop}
 use Rattle.limits.specs.Limits as limits
 use Rattle.weight.specs.Weight.{Coordinates, Names}
 use Rattle.bars.specs.Bars.{between}
+use Rattle.run.specs.Fates.{stateOf, rim}
 
 -- the ring of a loop of the input: three or more different points on the grid, each joined to the next by the input
 pub record RingOf (grid : List ℤ) (input ring : List ℕ) : Type 0 where
@@ -43,6 +45,18 @@ pub record Input (input : List ℕ) : Type 0 where
   pub few : length input ≤ limits.corners
   pub inside : (i : ℕ) → i < length input → getD input i 0 < limits.points
 
--- each of the lengths is three or a long one's
-abbrev pub Plain : List ℕ → Type 0
-Plain lengths = (l : ℕ) → l < length lengths → (getD lengths l 0 ≤ 3) ⊎ (limits.longest < getD lengths l 0)
+-- Which loops are rims, as it stands among the states before the run: the mark of a rim is its state, and that of any other loop is another
+-- number.
+abbrev pub rimMark : ℕ
+rimMark = stateOf rim
+
+pub record Marks (rims : List Bool) (marks : List ℕ) : Type 0 where
+  pub long : length rims ≤ length marks
+  pub told : (l : ℕ) → l < length rims → eqb (getD marks l 0) rimMark ≡ getD rims l false
+
+-- each loop is of three, or long, or a rim
+abbrev pub PlainAt : List ℕ → List ℕ → ℕ → Type 0
+PlainAt lengths marks l = (getD lengths l 0 ≤ 3) ⊎ ((limits.longest < getD lengths l 0) ⊎ (getD marks l 0 ≡ rimMark))
+
+abbrev pub Plain : List ℕ → List ℕ → Type 0
+Plain lengths marks = (l : ℕ) → l < length lengths → PlainAt lengths marks l

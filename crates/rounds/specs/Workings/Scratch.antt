@@ -10,9 +10,11 @@ use Rattle.surface.specs.Refusals.{countRefusal}
 abbrev pub few : ℕ
 few = 48
 
--- 1 and 2 were not given, and there is room for a turn and an edge of the path for each corner, and a place for each point
+-- 1 and 2 were not given, and there is room for a turn and an edge of the path for each corner, a place for each point, and there also a
+-- piece for each triangle
 pub record Scratch (words corners turns path places : List ℕ) : Type 0 where
   pub counts : countRefusal (length words) (length corners) ≡ Done
   pub turns-long : length corners ≤ length turns
   pub path-long : length corners ≤ length path
   pub places-long : length words / 3 ≤ length places
+  pub pieces-long : length corners / 3 ≤ length places

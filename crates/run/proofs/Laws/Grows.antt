@@ -1,28 +1,34 @@
 -- One loop more at the end of a run.
 use mathlib.Core.Path.{_≡_, refl, sym, ap, _∙_, subst}
+use mathlib.Core.Bool.{Bool}
 use mathlib.Core.List.{List, [], _∷_, _++_, append-nil, append-assoc}
 use Prim.Native.Nat.{ℕ, suc}
 use native.Mathlib.Omega.{arith}
 use lib.IntN.{ℤ}
 use lib.ListN.{length}
-use Rattle.run.specs.Fates.{Fate, stateOf, weighs, lays, Meets}
+use Rattle.run.specs.Fates.{Fate, stateOf, weighs, lays, Becomes}
 use Rattle.run.specs.Run.{Run, weightsOf, laidBy, statesOf}
 
-pub run-length : (grid : List ℤ) (input laid : List ℕ) (rings : List (List ℕ)) (fs : List Fate) → Run grid input laid rings fs → length fs ≡ length rings
-run-length grid input laid [] [] p = refl
-run-length grid input laid [] (f ∷ fs) p = absurd p
-run-length grid input laid (r ∷ rings) [] p = absurd p
-run-length grid input laid (r ∷ rings) (f ∷ fs) p = ap suc (run-length grid input (laid ++ lays r f) rings fs (p .1))
+pub run-length : (grid : List ℤ) (input laid : List ℕ) (rims : List Bool) (rings : List (List ℕ)) (fs : List Fate) → Run grid input laid rims rings fs → length fs ≡ length rings
+run-length grid input laid [] [] [] p = refl
+run-length grid input laid [] [] (f ∷ fs) p = absurd p
+run-length grid input laid [] (r ∷ rings) fs p = absurd p
+run-length grid input laid (k ∷ rims) [] fs p = absurd p
+run-length grid input laid (k ∷ rims) (r ∷ rings) [] p = absurd p
+run-length grid input laid (k ∷ rims) (r ∷ rings) (f ∷ fs) p = ap suc (run-length grid input (laid ++ lays r f) rims rings fs (p .1))
 
 -- the loop behind the others meets its fate with all that they laid
-pub run-more : (grid : List ℤ) (input laid : List ℕ) (rings : List (List ℕ)) (fs : List Fate) (ring : List ℕ) (f : Fate) → Run grid input laid rings fs → Meets grid input (laid ++ laidBy rings fs) ring f → Run grid input laid (rings ++ (ring ∷ [])) (fs ++ (f ∷ []))
-run-more grid input laid [] [] ring f p m = (subst (λ (z : List ℕ). Meets grid input z ring f) (append-nil laid) m, tt)
-run-more grid input laid [] (g ∷ fs) ring f p m = absurd p
-run-more grid input laid (r ∷ rings) [] ring f p m = absurd p
-run-more grid input laid (r ∷ rings) (g ∷ fs) ring f p m = (
+pub run-more : (grid : List ℤ) (input laid : List ℕ) (rims : List Bool) (rings : List (List ℕ)) (fs : List Fate) (k : Bool) (ring : List ℕ) (f : Fate) → Run grid input laid rims rings fs
+    → Becomes grid input (laid ++ laidBy rings fs) k ring f → Run grid input laid (rims ++ (k ∷ [])) (rings ++ (ring ∷ [])) (fs ++ (f ∷ []))
+run-more grid input laid [] [] [] k ring f p m = (subst (λ (z : List ℕ). Becomes grid input z k ring f) (append-nil laid) m, tt)
+run-more grid input laid [] [] (g ∷ fs) k ring f p m = absurd p
+run-more grid input laid [] (r ∷ rings) fs k ring f p m = absurd p
+run-more grid input laid (j ∷ rims) [] fs k ring f p m = absurd p
+run-more grid input laid (j ∷ rims) (r ∷ rings) [] k ring f p m = absurd p
+run-more grid input laid (j ∷ rims) (r ∷ rings) (g ∷ fs) k ring f p m = (
   p .0,
-  run-more grid input (laid ++ lays r g) rings fs ring f (p .1)
-      (subst (λ (z : List ℕ). Meets grid input z ring f) (sym (append-assoc laid (lays r g) (laidBy rings fs))) m),
+  run-more grid input (laid ++ lays r g) rims rings fs k ring f (p .1)
+      (subst (λ (z : List ℕ). Becomes grid input z k ring f) (sym (append-assoc laid (lays r g) (laidBy rings fs))) m),
 )
 
 pub laid-more : (rings : List (List ℕ)) (fs : List Fate) (ring : List ℕ) (f : Fate) → length fs ≡ length rings → laidBy (rings ++ (ring ∷ [])) (fs ++ (f ∷ [])) ≡ laidBy rings fs ++ lays ring f

@@ -1,5 +1,6 @@
 -- How much a run lays: whole triangles, fewer than its loops have edges, on the loops' own vertices.
 use mathlib.Core.Path.{_≡_, refl, ap}
+use mathlib.Core.Bool.{Bool, true, false}
 use mathlib.Core.List.{List, [], _∷_, _++_, flatten}
 use Prim.Native.Nat.{ℕ, suc, _+_, _-_, _*_, _%_, _≤_, zero-le}
 use native.Mathlib.Omega.{arith}
@@ -7,7 +8,7 @@ use lib.IntN.{ℤ}
 use lib.ListN.{length, length-append}
 use Rattle.covers.specs.Covers.{patchOf}
 use Rattle.covers.proofs.Laws.Corners.{patch-length}
-use Rattle.run.specs.Fates.{Fate, patched, long, uncovered, lays, Meets}
+use Rattle.run.specs.Fates.{Fate, patched, long, uncovered, lays, Meets, Becomes}
 use Rattle.run.specs.Run.{Run, weightsOf, laidBy, statesOf}
 
 -- ---- one loop
@@ -23,28 +24,40 @@ module _ (grid : List ℤ) (input laid ring : List ℕ) where
   lays-whole long m = refl
   lays-whole uncovered m = refl
 
+  pub kept-length : (k : Bool) (f : Fate) → Becomes grid input laid k ring f → length (lays ring f) ≤ 3 * (length ring - 2)
+  kept-length true f e = rw e zero-le
+  kept-length false f m = lays-length f m
+
+  pub kept-whole : (k : Bool) (f : Fate) → Becomes grid input laid k ring f → length (lays ring f) % 3 ≡ 0
+  kept-whole true f e = rw e
+  kept-whole false f m = lays-whole f m
+
 -- ---- all loops
 
-pub laid-length : (grid : List ℤ) (input laid : List ℕ) (rings : List (List ℕ)) (fs : List Fate) → Run grid input laid rings fs → length (laidBy rings fs) ≤ 3 * length (flatten rings)
+pub laid-length : (grid : List ℤ) (input laid : List ℕ) (rims : List Bool) (rings : List (List ℕ)) (fs : List Fate) → Run grid input laid rims rings fs → length (laidBy rings fs) ≤ 3 * length (flatten rings)
 unfolding flatten
-laid-length grid input laid [] [] p = zero-le
-laid-length grid input laid [] (f ∷ fs) p = absurd p
-laid-length grid input laid (r ∷ rings) [] p = absurd p
-laid-length grid input laid (r ∷ rings) (f ∷ fs) p =
+laid-length grid input laid [] [] [] p = zero-le
+laid-length grid input laid [] [] (f ∷ fs) p = absurd p
+laid-length grid input laid [] (r ∷ rings) fs p = absurd p
+laid-length grid input laid (k ∷ rims) [] fs p = absurd p
+laid-length grid input laid (k ∷ rims) (r ∷ rings) [] p = absurd p
+laid-length grid input laid (k ∷ rims) (r ∷ rings) (f ∷ fs) p =
     let a : length (lays r f ++ laidBy rings fs) ≡ length (lays r f) + length (laidBy rings fs) = length-append (lays r f) (laidBy rings fs) in
     let b : length (r ++ flatten rings) ≡ length r + length (flatten rings) = length-append r (flatten rings) in
-    let c : length (lays r f) ≤ 3 * (length r - 2) = lays-length grid input laid r f (p .0) in
-    let d : length (laidBy rings fs) ≤ 3 * length (flatten rings) = laid-length grid input (laid ++ lays r f) rings fs (p .1) in
+    let c : length (lays r f) ≤ 3 * (length r - 2) = kept-length grid input laid r k f (p .0) in
+    let d : length (laidBy rings fs) ≤ 3 * length (flatten rings) = laid-length grid input (laid ++ lays r f) rims rings fs (p .1) in
     omega arith
 
-pub laid-whole : (grid : List ℤ) (input laid : List ℕ) (rings : List (List ℕ)) (fs : List Fate) → Run grid input laid rings fs → length (laidBy rings fs) % 3 ≡ 0
-laid-whole grid input laid [] [] p = refl
-laid-whole grid input laid [] (f ∷ fs) p = absurd p
-laid-whole grid input laid (r ∷ rings) [] p = absurd p
-laid-whole grid input laid (r ∷ rings) (f ∷ fs) p =
+pub laid-whole : (grid : List ℤ) (input laid : List ℕ) (rims : List Bool) (rings : List (List ℕ)) (fs : List Fate) → Run grid input laid rims rings fs → length (laidBy rings fs) % 3 ≡ 0
+laid-whole grid input laid [] [] [] p = refl
+laid-whole grid input laid [] [] (f ∷ fs) p = absurd p
+laid-whole grid input laid [] (r ∷ rings) fs p = absurd p
+laid-whole grid input laid (k ∷ rims) [] fs p = absurd p
+laid-whole grid input laid (k ∷ rims) (r ∷ rings) [] p = absurd p
+laid-whole grid input laid (k ∷ rims) (r ∷ rings) (f ∷ fs) p =
     let a : length (lays r f ++ laidBy rings fs) ≡ length (lays r f) + length (laidBy rings fs) = length-append (lays r f) (laidBy rings fs) in
-    let c : length (lays r f) % 3 ≡ 0 = lays-whole grid input laid r f (p .0) in
-    let d : length (laidBy rings fs) % 3 ≡ 0 = laid-whole grid input (laid ++ lays r f) rings fs (p .1) in
+    let c : length (lays r f) % 3 ≡ 0 = kept-whole grid input laid r k f (p .0) in
+    let d : length (laidBy rings fs) % 3 ≡ 0 = laid-whole grid input (laid ++ lays r f) rims rings fs (p .1) in
     omega arith
 
 pub weights-length : (grid : List ℤ) (rings : List (List ℕ)) (fs : List Fate) → length fs ≡ length rings → length (weightsOf grid rings fs) ≡ length fs

@@ -1,5 +1,6 @@
 -- A run has one outcome at most: a loop that has a patch is neither long nor without a cover, and its patch is unique.
-use mathlib.Core.Path.{_≡_, refl, sym, ap, ap₂, subst}
+use mathlib.Core.Path.{_≡_, refl, sym, ap, ap₂, subst, _∙_}
+use mathlib.Core.Bool.{Bool, true, false}
 use mathlib.Core.List.{List, [], _∷_, _++_}
 use Prim.Native.Nat.{ℕ, _-_, _<_, _≤_}
 use native.Mathlib.Omega.{arith}
@@ -10,7 +11,7 @@ use Rattle.covers.proofs.Laws.Best.{patch-unique}
 use Rattle.weight.specs.Edition.{naturals, triOf, along}
 use Rattle.weight.proofs.Laws.Naturals.{naturals-lawful}
 use Rattle.bars.specs.Bars.{barred}
-use Rattle.run.specs.Fates.{Fate, patched, long, uncovered, lays, Meets}
+use Rattle.run.specs.Fates.{Fate, patched, long, uncovered, lays, Meets, Becomes}
 use Rattle.run.specs.Run.{Run}
 
 -- no ring is longer than the longest that is patched, and not longer
@@ -29,14 +30,20 @@ meets-once grid input laid ring uncovered (patched d) p q = absurd (p .1 d (q .1
 meets-once grid input laid ring uncovered long p q = absurd (no-longer ring (p .0) q)
 meets-once grid input laid ring uncovered uncovered p q = refl
 
-pub run-once : (grid : List ℤ) (input laid : List ℕ) (rings : List (List ℕ)) (fs gs : List Fate) → Run grid input laid rings fs → Run grid input laid rings gs → fs ≡ gs
-run-once grid input laid [] [] [] p q = refl
-run-once grid input laid [] [] (g ∷ gs) p q = absurd q
-run-once grid input laid [] (f ∷ fs) gs p q = absurd p
-run-once grid input laid (r ∷ rings) [] gs p q = absurd p
-run-once grid input laid (r ∷ rings) (f ∷ fs) [] p q = absurd q
-run-once grid input laid (r ∷ rings) (f ∷ fs) (g ∷ gs) p q =
-    let e : f ≡ g = meets-once grid input laid r f g (p .0) (q .0) in
+pub becomes-once : (grid : List ℤ) (input laid : List ℕ) (k : Bool) (ring : List ℕ) (f g : Fate) → Becomes grid input laid k ring f → Becomes grid input laid k ring g → f ≡ g
+becomes-once grid input laid true ring f g p q = p ∙ sym q
+becomes-once grid input laid false ring f g p q = meets-once grid input laid ring f g p q
+
+pub run-once : (grid : List ℤ) (input laid : List ℕ) (rims : List Bool) (rings : List (List ℕ)) (fs gs : List Fate) → Run grid input laid rims rings fs → Run grid input laid rims rings gs → fs ≡ gs
+run-once grid input laid [] [] [] [] p q = refl
+run-once grid input laid [] [] [] (g ∷ gs) p q = absurd q
+run-once grid input laid [] [] (f ∷ fs) gs p q = absurd p
+run-once grid input laid [] (r ∷ rings) fs gs p q = absurd p
+run-once grid input laid (k ∷ rims) [] fs gs p q = absurd p
+run-once grid input laid (k ∷ rims) (r ∷ rings) [] gs p q = absurd p
+run-once grid input laid (k ∷ rims) (r ∷ rings) (f ∷ fs) [] p q = absurd q
+run-once grid input laid (k ∷ rims) (r ∷ rings) (f ∷ fs) (g ∷ gs) p q =
+    let e : f ≡ g = becomes-once grid input laid k r f g (p .0) (q .0) in
     ap₂ (λ (x : Fate) (xs : List Fate). x ∷ xs) e
-    (run-once grid input (laid ++ lays r f) rings fs gs (p .1)
-    (subst (λ (x : Fate). Run grid input (laid ++ lays r x) rings gs) (sym e) (q .1)))
+    (run-once grid input (laid ++ lays r f) rims rings fs gs (p .1)
+    (subst (λ (x : Fate). Run grid input (laid ++ lays r x) rims rings gs) (sym e) (q .1)))

@@ -1,5 +1,6 @@
 -- The verdict over all loops, with the bench from one turn to the next.
-use mathlib.Core.Path.{_≡_, sym, subst}
+use mathlib.Core.Path.{_≡_, refl, sym, subst}
+use mathlib.Core.Bool.{Bool}
 use mathlib.Core.List.{List, [], _++_}
 use Prim.Native.Nat.{ℕ, _+_, _-_, _≤_, _<_}
 use native.Mathlib.Omega.{arith}
@@ -8,43 +9,44 @@ use lib.ListN.{length, getD, take, drop}
 use lib.Seq.{take-add}
 use lib.Ieee.{Float}
 use Rattle.answers.specs.declared.Answer.{Answer}
-use Rattle.answers.specs.declared.Answer.the-variants.{Done}
+use Rattle.answers.specs.declared.Answer.the-variants.{Done, Misdeclared}
 use Rattle.limits.specs.Limits as limits
 use Rattle.bars.specs.Workings.Chains.{Tells}
 use Rattle.column.specs.Workings.Columns.{Table}
 use Rattle.verdicts.specs.Verdicts.{taken, leftOver}
-use Rattle.rounds.specs.Workings.Rings.{RingOf, Loops, RingPlace}
+use Rattle.rounds.specs.Workings.Rings.{RingOf, Loops, RingPlace, rimMark}
 use Rattle.rounds.specs.Workings.Bench.{Bench}
 use Rattle.rounds.proofs.Laws.Reading.{as-many, places-of}
-use Rattle.rounds.proofs.Laws.Bench.{noughts, edgesMost, Standing, standing-begins, standing-room, standing-next}
+use Rattle.rounds.proofs.Laws.Bench.{noughts, edgesMost, Standing, standing-begins, standing-room, standing-next, standing-passed}
 use Rattle.judgement.specs.Workings.Turns.{LoopTurn, Judging, FindsLoop}
-use Rattle.summary.specs.Workings.Courses.{VerdictRoom, Gives}
+use Rattle.summary.specs.Workings.Courses.{Declared, VerdictRoom, Gives}
 use Rattle.summary.proofs.Laws.Verdicts.{Gone, gone-begins, gone-ends, ring-here, turn-decides, turn-goes}
+use Rattle.summary.proofs.Laws.Verdicts as verdicts
 
 -- the first l loops are right, whatever loops they are, and the bench is ready
-pub record Going (grid : List ℤ) (input rings lengths states set : List ℕ) (l r at e : ℕ) (heads links ends marks rows : List ℕ) (table : List Float) : Type 0 where
+pub record Going (grid : List ℤ) (input rings lengths rimmed states set : List ℕ) (l r at e : ℕ) (heads links ends marks rows : List ℕ) (table : List Float) : Type 0 where
   pub standing : Standing input (take at set) r e heads links ends marks rows table
-  pub gone : (rs : List (List ℕ)) → Loops grid input rs rings lengths → length states ≡ length rs → Gone grid input rs states set l r at
+  pub gone : (rims : List Bool) (rs : List (List ℕ)) → Loops grid input rs rings lengths → Declared rims rs rimmed states → Gone grid input rims rs states set l r at
 
-module _ (grid : List ℤ) (input rings lengths states set : List ℕ) (room : VerdictRoom grid input rings lengths states) where
-  pub going-begins : (heads links ends : List ℕ) (table : List Float) → length links ≡ edgesMost → length ends ≡ edgesMost → Table table → Tells input [] (length input) heads links ends
-      → Going grid input rings lengths states set 0 0 0 (length input) heads links ends (noughts limits.points) (noughts limits.longest) table
-  going-begins heads links ends table ll le lt t = record {
+module _ {grid : List ℤ} {input rings lengths rimmed states set : List ℕ} (room : VerdictRoom grid input rings lengths rimmed states) where
+  pub going-begins : {heads links ends : List ℕ} {table : List Float} → length links ≡ edgesMost → length ends ≡ edgesMost → Table table → Tells input [] (length input) heads links ends
+      → Going grid input rings lengths rimmed states set 0 0 0 (length input) heads links ends (noughts limits.points) (noughts limits.longest) table
+  going-begins {heads} {links} {ends} {table} ll le lt t = record {
     standing = standing-begins input heads links ends table ll le lt t;
-    gone = λ rs s d. gone-begins grid input rs states set;
+    gone = λ rims rs s d. gone-begins;
   }
 
-  module _ (l r at e : ℕ) (heads links ends marks rows : List ℕ) (table : List Float) (g : Going grid input rings lengths states set l r at e heads links ends marks rows table) where
-    here : Gone grid input (room .rs) states set l r at
-    here = g .gone (room .rs) (room .loops) (room .declared)
+  module _ {l r at e : ℕ} {heads links ends marks rows : List ℕ} {table : List Float} (g : Going grid input rings lengths rimmed states set l r at e heads links ends marks rows table) where
+    here : Gone grid input (room .rims) (room .rs) states set l r at
+    here = g .gone (room .rims) (room .rs) (room .loops) (room .declared)
 
     pub set-in : at ≤ length set
     set-in = here .within
 
-    pub going-ends : (a : Answer) → length lengths ≤ l → a ≡ leftOver at (drop at set) → Gives grid input rings lengths states set a
-    going-ends a h q rs s d =
+    pub going-ends : {a : Answer} → length lengths ≤ l → a ≡ leftOver at (drop at set) → Gives grid input rings lengths rimmed states set a
+    going-ends h q rims rs s d =
         let n : length lengths ≡ length rs = as-many grid input rs rings lengths s in
-        gone-ends grid input rs states set l r at a d (omega arith) (g .gone rs s d) q
+        gone-ends (d .rims-many) (d .states-many) (omega arith) (g .gone rims rs s d) q
 
     module _ (h : l < length lengths) where
       abbrev part : List ℕ
@@ -56,11 +58,28 @@ module _ (grid : List ℤ) (input rings lengths states set : List ℕ) (room : V
       pub state-in : l < length states
       state-in =
           let a : length lengths ≡ length (room .rs) = as-many grid input (room .rs) rings lengths (room .loops) in
-          let d : length states ≡ length (room .rs) = room .declared in
+          let d : length states ≡ length (room .rs) = room .declared .states-many in
           omega arith
 
+      pub mark-in : l < length rimmed
+      mark-in =
+          let a : length lengths ≡ length (room .rs) = as-many grid input (room .rs) rings lengths (room .loops) in
+          let d : length (room .rims) ≡ length (room .rs) = room .declared .rims-many in
+          let m : length (room .rims) ≤ length rimmed = room .declared .marked .long in
+          omega arith
+
+      -- a rim is judged at sight, and passed over
+      pub rim-decides : getD rimmed l 0 ≡ rimMark → (getD states l 0 ≡ rimMark → ⊥) → Gives grid input rings lengths rimmed states set (Misdeclared l)
+      rim-decides m n rims rs s d = verdicts.rim-decides s d h (g .gone rims rs s d) m n
+
+      pub rim-goes : getD rimmed l 0 ≡ rimMark → getD states l 0 ≡ rimMark → Going grid input rings lengths rimmed states set (l + 1) (r + getD lengths l 0) at e heads links ends marks rows table
+      rim-goes m q = record {
+        standing = standing-passed input (take at set) (take at set) r (r + getD lengths l 0) e heads links ends marks rows table refl (omega arith) (g .standing);
+        gone = λ rims rs s d. verdicts.rim-goes s d h (g .gone rims rs s d) m q;
+      }
+
       ring-of : RingOf grid input part
-      ring-of = ring-here grid input (room .rs) rings lengths (room .loops) states set (room .declared) l r at h here
+      ring-of = ring-here (room .loops) (room .declared) h here
 
       pub loop-turn : LoopTurn grid part heads links ends marks (r + 1) rows table e
       loop-turn =
@@ -76,24 +95,24 @@ module _ (grid : List ℤ) (input rings lengths states set : List ℕ) (room : V
             room = standing-room input (take at set) r e heads links ends marks rows table (g .standing) part (room .corners) (omega arith) (omega arith);
           }
 
-      module _ (a : Answer) (f : ℕ) (heads′ links′ ends′ marks′ rows′ : List ℕ) (table′ : List Float)
+      module _ (no′ : getD rimmed l 0 ≡ rimMark → ⊥) {a : Answer} {f : ℕ} {heads′ links′ ends′ marks′ rows′ : List ℕ} {table′ : List Float}
           (found : FindsLoop grid part (getD states l 0) (drop at set) l heads links ends marks (r + 1) rows table e a f heads′ links′ ends′ marks′ rows′ table′) where
         turned : Judging grid input (take at set) part (getD states l 0) (drop at set) l (r + 1) e a f heads′ links′ ends′ marks′ rows′ table′
         turned = found input (take at set) ring-of (g .standing .bench)
 
-        pub decides : (a ≡ Done → ⊥) → Gives grid input rings lengths states set a
-        decides n rs s d = turn-decides grid input rs rings lengths s states set d l r at h (g .gone rs s d) a (turned .finds) n
+        pub decides : (a ≡ Done → ⊥) → Gives grid input rings lengths rimmed states set a
+        decides n rims rs s d = turn-decides s d h (g .gone rims rs s d) no′ (turned .finds) n
 
-        module _ (k : ℕ) (done : a ≡ Done) (t : (ring : List ℕ) → length ring ≡ r + getD lengths l 0 - r → k ≡ taken ring (getD states l 0)) where
-          on : (rs : List (List ℕ)) → Loops grid input rs rings lengths → length states ≡ length rs → Gone grid input rs states set (l + 1) (r + getD lengths l 0) (at + k)
-          on rs s d = turn-goes grid input rs rings lengths s states set d l r at h (g .gone rs s d) a k (turned .finds) done t
+        module _ {k : ℕ} (done : a ≡ Done) (t : (ring : List ℕ) → length ring ≡ r + getD lengths l 0 - r → k ≡ taken ring (getD states l 0)) where
+          on : (rims : List Bool) (rs : List (List ℕ)) → Loops grid input rs rings lengths → Declared rims rs rimmed states → Gone grid input rims rs states set (l + 1) (r + getD lengths l 0) (at + k)
+          on rims rs s d = turn-goes s d h (g .gone rims rs s d) no′ (turned .finds) done t
 
           -- what the loop takes is there
           pub takes-in : at + k ≤ length set
-          takes-in = on (room .rs) (room .loops) (room .declared) .within
+          takes-in = on (room .rims) (room .rs) (room .loops) (room .declared) .within
 
           pub going-on : length links′ ≡ length links → length ends′ ≡ length ends
-              → Going grid input rings lengths states set (l + 1) (r + getD lengths l 0) (at + k) f heads′ links′ ends′ marks′ rows′ table′
+              → Going grid input rings lengths rimmed states set (l + 1) (r + getD lengths l 0) (at + k) f heads′ links′ ends′ marks′ rows′ table′
           going-on kl ke =
               let n : length part ≡ getD lengths l 0 = places .part-long in
               let q : k ≡ taken part (getD states l 0) = t part (omega arith) in

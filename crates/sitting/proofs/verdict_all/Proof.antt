@@ -1,152 +1,95 @@
--- `verdict_all` judges all loops, with one bench.
-use mathlib.Core.Path.{refl, sym}
-use lib.ListN.{length}
-use Prim.Native.Nat.{_-_}
+-- `verdict_all` judges all loops, rims at sight and the others with one bench.
+use Rattle.rounds.specs.Workings.Rings.{RingPlace}
 use Rattle.rounds.proofs.Laws.Bench.{input-room}
 use Rattle.sight.proofs.Laws.Findings.{not-done}
-use Rattle.sitting.proofs.Laws.FullVerdict.{Going, going-begins, set-in, going-ends, places, state-in, loop-turn, decides, takes-in, going-on}
+use Rattle.sitting.proofs.Laws.FullVerdict.{Going, going-begins, set-in, going-ends, places, state-in, mark-in, rim-decides, rim-goes, loop-turn, decides, takes-in, going-on}
+use lib.ListN.{length}
+use mathlib.Core.Path.{sym}
+use Prim.Native.Nat.{_-_}
 use borrow.Author.Needs.{needs}
 use native.Mathlib.Omega.{arith}
 use Rattle.sitting.proofs.verdict_all.Statement.{statement}
 use Rattle.sitting.proofs.verdict_all.Tie as tie
 
 abbrev Inv-loop : tie.InvT-loop
-Inv-loop grid corners rings lengths states set heads₀ links₀ ends₀ marks₀ rows₀ table₀ r₀ at₀ e₀ l₀ heads links ends marks rows table r at e l = Going grid corners rings lengths states set l r at e heads links ends marks rows table
+Inv-loop grid corners rings lengths rims states set heads₀ links₀ ends₀ marks₀ rows₀ table₀ r₀ at₀ e₀ l₀ heads links ends marks rows table r at e l = Going grid corners rings lengths rims states set l r at e heads links ends marks rows table
 
 abbrev μ-loop : tie.MeasureT-loop
-μ-loop grid corners rings lengths states set heads₀ links₀ ends₀ marks₀ rows₀ table₀ r₀ at₀ e₀ l₀ heads links ends marks rows table r at e l = length lengths - l
+μ-loop grid corners rings lengths rims states set heads₀ links₀ ends₀ marks₀ rows₀ table₀ r₀ at₀ e₀ l₀ heads links ends marks rows table r at e l = length lengths - l
 
-slice-aggregate-chain-input : tie.Need-slice-aggregate-chain-input Inv-loop μ-loop
-slice-aggregate-chain-input c = search needs
+-- where a turn begins and where its loop was judged, and what lies behind each
+abbrev Turn : Type 0
+Turn = tie.In-loop Inv-loop μ-loop
 
-slice-aggregate-chain-input-2 : tie.Need-slice-aggregate-chain-input-2 Inv-loop μ-loop
-slice-aggregate-chain-input-2 c = search needs
+abbrev Judged : Type 0
+Judged = tie.After-judge-loop Inv-loop μ-loop
 
-chain-input-requires : tie.Need-chain-input-requires Inv-loop μ-loop
-chain-input-requires c κs = input-room _ (c .before .before .before .before .before .before .before .before .pre .corners)
+abbrev entry : Turn → tie.Start Inv-loop μ-loop
+entry t = search
 
-loop-holds : tie.Need-loop-holds Inv-loop μ-loop
-loop-holds c = going-begins _ _ _ _ _ _ (c .before .before .before .before .before .before .before .before .before .before .before .pre) _ _ _ _ (c .before .before .chain-input .kept .1 .1 .0) (c .before .before .chain-input .kept .1 .1 .1 .0) refl (c .before .before .chain-input .ensures)
+abbrev turn : Judged → Turn
+turn j = search
 
-mul-end : tie.Need-mul-end Inv-loop μ-loop
-mul-end c = search needs
+abbrev other : Judged → tie.Else1 Inv-loop μ-loop
+other j = search
 
-shared-slice-read-end : tie.Need-shared-slice-read-end Inv-loop μ-loop
-shared-slice-read-end c = search needs
-
-cast-end : tie.Need-cast-end Inv-loop μ-loop
-cast-end c = omega (arith, c .shared-slice-known6 .given (c .before .before .loop .l))
-
-add-end : tie.Need-add-end Inv-loop μ-loop
-add-end c = let h = places _ _ _ _ _ _ (c .before .before .before .before .before .before .before .before .before .before .before .before .before .before .pre) _ _ _ _ _ _ _ _ _ _ (c .before .before .loop .inv) (c .before .loop-test .taken) in omega (arith, h .ring-in, h .rings-few)
-
-mul-judge-loop : tie.Need-mul-judge-loop Inv-loop μ-loop
-mul-judge-loop c = let h = places _ _ _ _ _ _ (c .before .before .before .before .before .before .before .before .before .before .before .before .before .before .pre) _ _ _ _ _ _ _ _ _ _ (c .before .before .loop .inv) (c .before .loop-test .taken) in omega (arith, h .ring-in, h .rings-few)
-
-sub-judge-loop : tie.Need-sub-judge-loop Inv-loop μ-loop
-sub-judge-loop c = search needs
-
-part-judge-loop-start : tie.Need-part-judge-loop-start Inv-loop μ-loop
-part-judge-loop-start c = search needs
-
-part-judge-loop-end : tie.Need-part-judge-loop-end Inv-loop μ-loop
-part-judge-loop-end c = places _ _ _ _ _ _ (c .before .before .before .before .before .before .before .before .before .before .before .before .before .before .pre) _ _ _ _ _ _ _ _ _ _ (c .before .before .loop .inv) (c .before .loop-test .taken) .ring-in
-
-mul-judge-loop-2 : tie.Need-mul-judge-loop-2 Inv-loop μ-loop
-mul-judge-loop-2 c = let h = places _ _ _ _ _ _ (c .before .before .before .before .before .before .before .before .before .before .before .before .before .before .before .pre) _ _ _ _ _ _ _ _ _ _ (c .before .before .before .loop .inv) (c .before .before .loop-test .taken) in omega (arith, h .loop-in)
-
-shared-slice-read-judge-loop : tie.Need-shared-slice-read-judge-loop Inv-loop μ-loop
-shared-slice-read-judge-loop c = state-in _ _ _ _ _ _ (c .before .before .before .before .before .before .before .before .before .before .before .before .before .before .before .before .pre) _ _ _ _ _ _ _ _ _ _ (c .before .before .before .before .loop .inv) (c .before .before .before .loop-test .taken)
-
-slice-aggregate-judge-loop : tie.Need-slice-aggregate-judge-loop Inv-loop μ-loop
-slice-aggregate-judge-loop c = sym (c .before .before .before .before .before .before .loop .inv .standing .links-long)
-
-slice-aggregate-judge-loop-2 : tie.Need-slice-aggregate-judge-loop-2 Inv-loop μ-loop
-slice-aggregate-judge-loop-2 c = sym (c .before .before .before .before .before .before .before .loop .inv .standing .ends-long)
-
-add-judge-loop : tie.Need-add-judge-loop Inv-loop μ-loop
-add-judge-loop c = let h = places _ _ _ _ _ _ (c .before .before .before .before .before .before .before .before .before .before .before .before .before .before .before .before .before .before .before .before .pre) _ _ _ _ _ _ _ _ _ _ (c .before .before .before .before .before .before .before .before .loop .inv) (c .before .before .before .before .before .before .before .loop-test .taken) in omega (arith, h .ring-in, h .rings-few)
-
-cast-judge-loop : tie.Need-cast-judge-loop Inv-loop μ-loop
-cast-judge-loop c = let h = places _ _ _ _ _ _ (c .before .before .before .before .before .before .before .before .before .before .before .before .before .before .before .before .before .before .before .before .pre) _ _ _ _ _ _ _ _ _ _ (c .before .before .before .before .before .before .before .before .loop .inv) (c .before .before .before .before .before .before .before .loop-test .taken) in omega (arith, h .ring-in, h .rings-few)
-
-slice-aggregate-judge-loop-3 : tie.Need-slice-aggregate-judge-loop-3 Inv-loop μ-loop
-slice-aggregate-judge-loop-3 c = sym (c .before .before .before .before .before .before .before .before .before .before .loop .inv .standing .bench .table-long)
-
-judge-loop-requires : tie.Need-judge-loop-requires Inv-loop μ-loop
-judge-loop-requires c κs = (loop-turn _ _ _ _ _ _ (c .before .before .before .before .before .before .before .before .before .before .before .before .before .before .before .before .before .before .before .before .before .before .pre) _ _ _ _ _ _ _ _ _ _ (c .before .before .before .before .before .before .before .before .before .before .loop .inv) (c .before .before .before .before .before .before .before .before .before .loop-test .taken), set-in _ _ _ _ _ _ (c .before .before .before .before .before .before .before .before .before .before .before .before .before .before .before .before .before .before .before .before .before .before .pre) _ _ _ _ _ _ _ _ _ _ (c .before .before .before .before .before .before .before .before .before .before .loop .inv))
-
-enum-told : tie.Need-enum-told Inv-loop μ-loop
-enum-told c = search needs
-
-returns : tie.Need-returns Inv-loop μ-loop
-returns c = decides _ _ _ _ _ _ (c .before .before .before .before .before .before .before .before .before .before .before .before .before .before .before .before .before .before .before .before .before .before .before .before .before .before .before .pre) _ _ _ _ _ _ _ _ _ _ (c .before .before .before .before .before .before .before .before .before .before .before .before .before .before .before .loop .inv) (c .before .before .before .before .before .before .before .before .before .before .before .before .before .before .loop-test .taken) _ _ _ _ _ _ _ _ (c .before .before .before .before .judge-loop .ensures) (not-done _ (c .match .keys2))
-
-sub-taken : tie.Need-sub-taken Inv-loop μ-loop
-sub-taken c = search needs
-
-mul-taken : tie.Need-mul-taken Inv-loop μ-loop
-mul-taken c = let h = places _ _ _ _ _ _ (c .before .before .before .before .before .before .before .before .before .before .before .before .before .before .before .before .before .before .before .before .before .before .before .before .before .before .before .before .pre) _ _ _ _ _ _ _ _ _ _ (c .before .before .before .before .before .before .before .before .before .before .before .before .before .before .before .before .loop .inv) (c .before .before .before .before .before .before .before .before .before .before .before .before .before .before .before .loop-test .taken) in omega (arith, h .loop-in)
-
-shared-slice-read-taken : tie.Need-shared-slice-read-taken Inv-loop μ-loop
-shared-slice-read-taken c = state-in _ _ _ _ _ _ (c .before .before .before .before .before .before .before .before .before .before .before .before .before .before .before .before .before .before .before .before .before .before .before .before .before .before .before .before .before .pre) _ _ _ _ _ _ _ _ _ _ (c .before .before .before .before .before .before .before .before .before .before .before .before .before .before .before .before .before .loop .inv) (c .before .before .before .before .before .before .before .before .before .before .before .before .before .before .before .before .loop-test .taken)
-
-taken-requires : tie.Need-taken-requires Inv-loop μ-loop
-taken-requires c κs = let h = places _ _ _ _ _ _ (c .before .before .before .before .before .before .before .before .before .before .before .before .before .before .before .before .before .before .before .before .before .before .before .before .before .before .before .before .before .pre) _ _ _ _ _ _ _ _ _ _ (c .before .before .before .before .before .before .before .before .before .before .before .before .before .before .before .before .before .loop .inv) (c .before .before .before .before .before .before .before .before .before .before .before .before .before .before .before .before .loop-test .taken) in (omega (arith, h .three), omega (arith, h .ring-in, h .rings-few))
-
-add-at : tie.Need-add-at Inv-loop μ-loop
-add-at c = let h = takes-in _ _ _ _ _ _ (c .before .before .before .before .before .before .before .before .before .before .before .before .before .before .before .before .before .before .before .before .before .before .before .before .before .before .before .before .before .before .pre) _ _ _ _ _ _ _ _ _ _ (c .before .before .before .before .before .before .before .before .before .before .before .before .before .before .before .before .before .before .loop .inv) (c .before .before .before .before .before .before .before .before .before .before .before .before .before .before .before .before .before .loop-test .taken) _ _ _ _ _ _ _ _ (c .before .before .before .before .before .before .before .judge-loop .ensures) _ (c .before .before .enum-told .given .1) (c .taken .ensures) in search (needs, h, c .before .before .before .before .before .before .before .before .before .before .before .before .before .before .before .before .before .before .before .before .before .before .before .before .before .before .before .before .before .before .good)
-
-add-l : tie.Need-add-l Inv-loop μ-loop
-add-l c = let h = places _ _ _ _ _ _ (c .before .before .before .before .before .before .before .before .before .before .before .before .before .before .before .before .before .before .before .before .before .before .before .before .before .before .before .before .before .before .pre) _ _ _ _ _ _ _ _ _ _ (c .before .before .before .before .before .before .before .before .before .before .before .before .before .before .before .before .before .before .loop .inv) (c .before .before .before .before .before .before .before .before .before .before .before .before .before .before .before .before .before .loop-test .taken) in omega (arith, h .loop-in)
-
-loop-less : tie.Need-loop-less Inv-loop μ-loop
-loop-less c = omega (arith, c .before .before .before .before .before .before .before .before .before .before .before .before .before .before .before .before .before .loop-test .taken)
-
-loop-again : tie.Need-loop-again Inv-loop μ-loop
-loop-again c = going-on _ _ _ _ _ _ (c .before .before .before .before .before .before .before .before .before .before .before .before .before .before .before .before .before .before .before .before .before .before .before .before .before .before .before .before .before .before .pre) _ _ _ _ _ _ _ _ _ _ (c .before .before .before .before .before .before .before .before .before .before .before .before .before .before .before .before .before .before .loop .inv) (c .before .before .before .before .before .before .before .before .before .before .before .before .before .before .before .before .before .loop-test .taken) _ _ _ _ _ _ _ _ (c .before .before .before .before .before .before .before .judge-loop .ensures) _ (c .before .before .enum-told .given .1) (c .taken .ensures) (c .before .before .before .before .before .before .before .judge-loop .kept .1 .1 .1 .1 .1 .1 .1 .0) (c .before .before .before .before .before .before .before .judge-loop .kept .1 .1 .1 .1 .1 .1 .1 .1 .0)
-
-left-over-requires : tie.Need-left-over-requires Inv-loop μ-loop
-left-over-requires c κs = set-in _ _ _ _ _ _ (c .before .before .before .before .before .before .before .before .before .before .before .before .before .pre) _ _ _ _ _ _ _ _ _ _ (c .before .loop .inv)
+here : (t : Turn) → RingPlace (entry t .args .rings .now) (entry t .args .lengths .now) (t .before .loop .l) (t .before .loop .r)
+here t = places (entry t .pre) (t .before .loop .inv) (t .loop-test .taken)
 
 returns-2 : tie.Need-returns-2 Inv-loop μ-loop
-returns-2 c = going-ends _ _ _ _ _ _ (c .before .before .before .before .before .before .before .before .before .before .before .before .before .before .pre) _ _ _ _ _ _ _ _ _ _ (c .before .before .loop .inv) _ (c .before .loop-test .left) (c .left-over .ensures)
+returns-2 c = let j : Judged = search in let t = turn j in decides (entry t .pre) (t .before .loop .inv) (t .loop-test .taken) (other j .if1 .left) (j .judge-loop .ensures) (not-done _ (c .match .keys2))
+
+add-at : tie.Need-add-at Inv-loop μ-loop
+add-at c =
+    let j : Judged = search in
+    let t = turn j in
+    let h = takes-in (entry t .pre) (t .before .loop .inv) (t .loop-test .taken) (other j .if1 .left) (j .judge-loop .ensures) (search) (c .taken .ensures) in
+    search (needs, h, entry t .good)
+
+loop-again-2 : tie.Need-loop-again-2 Inv-loop μ-loop
+loop-again-2 c = let j : Judged = search in let t = turn j in going-on (entry t .pre) (t .before .loop .inv) (t .loop-test .taken) (other j .if1 .left) (j .judge-loop .ensures) (search) (c .taken .ensures) (search (j .judge-loop .kept)) (search (j .judge-loop .kept))
 
 pub verdict-all-spec : {M : Type 1} → statement M
 verdict-all-spec =
     tie.close
-    (tie.spec
-    Inv-loop
-    μ-loop
-    slice-aggregate-chain-input
-    slice-aggregate-chain-input-2
-    chain-input-requires
-    loop-holds
-    mul-end
-    shared-slice-read-end
-    cast-end
-    add-end
-    mul-judge-loop
-    sub-judge-loop
-    part-judge-loop-start
-    part-judge-loop-end
-    mul-judge-loop-2
-    shared-slice-read-judge-loop
-    slice-aggregate-judge-loop
-    slice-aggregate-judge-loop-2
-    add-judge-loop
-    cast-judge-loop
-    slice-aggregate-judge-loop-3
-    judge-loop-requires
-    enum-told
-    returns
-    sub-taken
-    mul-taken
-    shared-slice-read-taken
-    taken-requires
+    (tie.spec Inv-loop μ-loop
+    (λ c. search needs)
+    (λ c. search needs)
+    (λ c κs. search input-room)
+    (λ c. let s : tie.Start Inv-loop μ-loop = search in search (going-begins, s .pre, c .before .before .chain-input))
+    (λ c. search needs)
+    (λ c. search needs)
+    (λ c. omega (arith, here (search)))
+    (λ c. omega (arith, here (search)))
+    (λ c. omega (arith, here (search)))
+    (λ c. let t : Turn = search in mark-in (entry t .pre) (t .before .loop .inv) (t .loop-test .taken))
+    (λ c. omega (arith, here (search)))
+    (λ c. let t : Turn = search in state-in (entry t .pre) (t .before .loop .inv) (t .loop-test .taken))
+    (λ c. let t : Turn = search in rim-decides (entry t .pre) (t .before .loop .inv) (t .loop-test .taken) (search) (c .if2 .taken))
+    (λ c. omega (arith, here (search)))
+    (λ c. let t : Turn = search in omega (arith, t .loop-test))
+    (λ c. let t : Turn = search in rim-goes (entry t .pre) (t .before .loop .inv) (t .loop-test .taken) (search) (c .if2 .left))
+    (λ c. omega (arith, here (search)))
+    (λ c. search needs)
+    (λ c. search needs)
+    (λ c. here (search) .ring-in)
+    (λ c. omega (arith, here (search)))
+    (λ c. let t : Turn = search in state-in (entry t .pre) (t .before .loop .inv) (t .loop-test .taken))
+    (λ c. let t : Turn = search in sym (t .before .loop .inv .standing .links-long))
+    (λ c. let t : Turn = search in sym (t .before .loop .inv .standing .ends-long))
+    (λ c. omega (arith, here (search)))
+    (λ c. omega (arith, here (search)))
+    (λ c. let t : Turn = search in sym (t .before .loop .inv .standing .bench .table-long))
+    (λ c κs. let t : Turn = search in (loop-turn (entry t .pre) (t .before .loop .inv) (t .loop-test .taken), set-in (entry t .pre) (t .before .loop .inv)))
+    (λ c. search needs)
+    returns-2
+    (λ c. search needs)
+    (λ c. let j : Judged = search in omega (arith, here (turn j)))
+    (λ c. let j : Judged = search in let t = turn j in state-in (entry t .pre) (t .before .loop .inv) (t .loop-test .taken))
+    (λ c κs. let j : Judged = search in let h = here (turn j) in (omega (arith, h), omega (arith, h)))
     add-at
-    add-l
-    loop-less
-    loop-again
-    left-over-requires
-    returns-2)
+    (λ c. let j : Judged = search in omega (arith, here (turn j)))
+    (λ c. let j : Judged = search in let t = turn j in omega (arith, t .loop-test))
+    loop-again-2
+    (λ c κs. let s : tie.Start Inv-loop μ-loop = search in search (set-in, s .pre))
+    (λ c. let s : tie.Start Inv-loop μ-loop = search in search (going-ends, s .pre)))

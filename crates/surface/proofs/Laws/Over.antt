@@ -1,10 +1,12 @@
--- What is laid over a buffer's start: one more item goes behind the last, laying the same again changes nothing, and it is read back from there.
+-- What is laid over a buffer's start: one more item goes behind the last, laying as much again hides it, it is read back from there, and what lies
+-- behind it is as it was.
 use mathlib.Core.Path.{_≡_, refl, sym, ap, _∙_}
 use mathlib.Core.List.{List, [], _∷_, _++_, append-assoc, append-nil}
 use Prim.Native.Nat.{ℕ, suc, _+_, _<_, _≤_}
+use native.Mathlib.Nat.{add-zero}
 use native.Mathlib.Omega.{arith}
-use lib.ListN.{length, getD, take, drop, set, length-append}
-use lib.Seq.{drop-cons, set-at, drop-append-add, drop-drop, take-append-seam}
+use lib.ListN.{length, getD, take, drop, set, length-append, length-drop, List·getD-append}
+use lib.Seq.{drop-cons, set-at, drop-append-add, drop-drop, take-append-seam, getD-append-add, getD-drop}
 use Rattle.surface.specs.Buffers.{over}
 
 module _ {A : Type 0} where
@@ -42,3 +44,29 @@ module _ {A : Type 0} where
   front-in a w l n e f =
       let m : length l ≡ length a + length (drop (length a) w) = ap length f ∙ length-append a (drop (length a) w) in
       omega arith
+
+  pub over-long : (a w : List A) → length a ≤ length w → length (over a w) ≡ length w
+  unfolding over
+  over-long a w h = omega (arith, length-append a (drop (length a) w), length-drop (length a) w)
+
+  -- as much laid over it again hides it
+  pub over-again : (a b w : List A) → length a ≡ length b → over a (over b w) ≡ over a w
+  unfolding over
+  over-again a b w e =
+      ap (λ (n : ℕ). a ++ drop n (b ++ drop (length b) w)) (e ∙ sym (add-zero (length b)))
+      ∙ ap (λ (x : List A). a ++ x) (drop-append-add b (drop (length b) w) 0)
+      ∙ ap (λ (n : ℕ). a ++ drop n w) (sym e)
+
+  -- an item of it, and the first one behind it
+  pub front-at : (a w : List A) (i : ℕ) (d : A) → i < length a → getD (over a w) i d ≡ getD a i d
+  unfolding over
+  front-at a w i d h = List·getD-append a (drop (length a) w) d i h
+
+  pub behind-at : (a w : List A) (n : ℕ) (d : A) → n ≡ length a → getD (over a w) n d ≡ getD w n d
+  unfolding over
+  behind-at a w n d e =
+      let z : n ≡ length a + 0 = e ∙ sym (add-zero (length a)) in
+      ap (λ (k : ℕ). getD (a ++ drop (length a) w) k d) z
+      ∙ getD-append-add a (drop (length a) w) 0 d
+      ∙ getD-drop (length a) w 0 d
+      ∙ ap (λ (k : ℕ). getD w k d) (sym z)

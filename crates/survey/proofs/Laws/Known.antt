@@ -68,8 +68,12 @@ module _ {words corners table : List ℕ} {grid : List ℤ} {rings lengths lent 
   pub corner-inside : (i : ℕ) → i < length corners → getD corners i 0 < limits.points
   corner-inside i h = omega (arith, k .woven .named i h, k .fits .few-words)
 
+  -- room for the loops of any surface is room for those of this one
+  pub enough : {n : ℕ} → limits.triangles ≤ n → length corners / 3 ≤ n
+  enough h = omega (arith, k .fits .few-corners)
+
   -- the finder can list the loops, in the lent buffers or apart from them
-  pub ready : (found sizes firsts : List ℕ) → length corners ≤ length table → length corners ≤ length found → length corners / 3 ≤ length sizes → limits.triangles ≤ length firsts
+  pub ready : (found sizes firsts : List ℕ) → length corners ≤ length table → length corners ≤ length found → length corners / 3 ≤ length sizes → length corners / 3 ≤ length firsts
       → Ready corners table found sizes firsts
   ready found sizes firsts t r l f = record {
     sound = k .woven .sound;
@@ -79,7 +83,7 @@ module _ {words corners table : List ℕ} {grid : List ℤ} {rings lengths lent 
     table-long = t;
     rings-long = r;
     lengths-long = l;
-    firsts-long = omega (arith, k .fits .few-corners);
+    firsts-long = f;
   }
 
   pub lent-long : (path places : List ℕ) → length corners ≤ length path → length words / 3 ≤ length places → Lent corners path places

@@ -8,7 +8,7 @@ use Rattle.answers.specs.declared.Answer.the-variants.{Done}
 use Rattle.surface.specs.Refusals.{countRefusal}
 use Rattle.surface.proofs.Laws.Deciding.{counts-pass}
 use Rattle.survey.specs.Outcome.{Buffers, buffers}
-use Rattle.survey.proofs.Laws.Known.{Known, known, grid-ready, ready}
+use Rattle.survey.proofs.Laws.Known.{Known, known, enough, grid-ready, ready}
 use Rattle.survey.proofs.Laws.Surveying.{counts-refuse, content-refuse, done-is}
 use borrow.Author.Needs.{needs}
 use Rattle.survey.proofs.survey.Statement.{statement}
@@ -68,7 +68,7 @@ slice-aggregate-list-loops-2 : tie.Need-slice-aggregate-list-loops-2
 slice-aggregate-list-loops-2 c = search needs
 
 list-loops-requires : tie.Need-list-loops-requires
-list-loops-requires c κs = let k = known-here (c .before .before .before .before .before .before .before) in ready k _ _ _ (le-trans (k .fits .few-corners) (search needs)) (k .rings-long) (k .lengths-long) (lit≤ tt)
+list-loops-requires c κs = let k = known-here (c .before .before .before .before .before .before .before) in ready k _ _ _ (le-trans (k .fits .few-corners) (search needs)) (k .rings-long) (k .lengths-long) (enough k (lit≤ tt))
 
 same-length : tie.Need-same-length
 same-length c = search needs

@@ -4,7 +4,8 @@ use Prim.Native.Nat.{ℕ, _/_, _≤_}
 use lib.ListN.{length}
 use Rattle.rounds.specs.Workings.Scratch.{Scratch}
 
-pub record ListingRoom (words corners turns path places rings lengths : List ℕ) : Type 0 where
+pub record ListingRoom (words corners turns path places rings lengths marks : List ℕ) : Type 0 where
   pub scratch : Scratch words corners turns path places
   pub rings-long : length corners ≤ length rings
   pub lengths-long : length corners / 3 ≤ length lengths
+  pub marks-long : length corners / 3 ≤ length marks

@@ -1,10 +1,10 @@
 -- What the loops of a right set take of it: each part fills its loop, all parts one after the other are the set, and a part is empty exactly
 -- where the loop is declared long or open.
 use mathlib.Core.Path.{_≡_, refl, sym, ap, _∙_, subst}
-use mathlib.Core.Bool.{Bool, cond}
+use mathlib.Core.Bool.{Bool, cond, true, false}
 use mathlib.Core.Logic.{_⊎_, inl, inr, ⊎-elim}
 use mathlib.Core.List.{List, [], _∷_, _++_, flatten}
-use Prim.Native.Nat.{ℕ, zero, suc, _<_, _≤_}
+use Prim.Native.Nat.{ℕ, zero, suc, _<_, _≤_, zero-le}
 use native.Mathlib.Nat.{not-suc-le-zero}
 use native.Mathlib.Omega.{arith}
 use lib.IntN.{ℤ}
@@ -12,7 +12,7 @@ use lib.ListN.{length, getD, take, drop, take-append-drop}
 use lib.Seq.{length-take-le}
 use borrow.Author.Tests.{eq-eqb, ne-eqb}
 use Rattle.closing.specs.Filling.{FillsRing, nothing, cover, Filled}
-use Rattle.verdicts.specs.Faults.{share, Right, patched, long, open-left}
+use Rattle.verdicts.specs.Faults.{share, Right, patched, long, open-left, RightIf}
 use Rattle.verdicts.specs.Verdicts.{taken, AllRight, parts}
 use Rattle.verdicts.proofs.Laws.Once.{RingsApart, rings-rest}
 
@@ -55,52 +55,84 @@ right-fills grid input laid ring state set (patched e s c t a l) =
 right-fills grid input laid ring state set (long e s) = nothing (part-none ring state set (λ f. omega arith))
 right-fills grid input laid ring state set (open-left e s n) = nothing (part-none ring state set (λ f. omega arith))
 
+-- a rim takes nothing
+pub takes-if : (grid : List ℤ) (input laid : List ℕ) (k : Bool) (ring : List ℕ) (state : ℕ) (set : List ℕ) → RightIf grid input laid k ring state set → taken ring state ≤ length set
+takes-if grid input laid true ring state set w = subst (λ (s : ℕ). taken ring s ≤ length set) (sym w) zero-le
+takes-if grid input laid false ring state set w = right-takes grid input laid ring state set w
+
+pub right-fills-if : (grid : List ℤ) (input laid : List ℕ) (k : Bool) (ring : List ℕ) (state : ℕ) (set : List ℕ) → RightIf grid input laid k ring state set
+    → FillsRing input laid ring (take (taken ring state) set)
+right-fills-if grid input laid true ring state set e = nothing (part-none ring state set (λ f. omega arith))
+right-fills-if grid input laid false ring state set r = right-fills grid input laid ring state set r
+
+-- declared open, long or a rim
+abbrev pub OpenState : ℕ → Type 0
+OpenState s = (s ≡ 2) ⊎ ((s ≡ 3) ⊎ (s ≡ 4))
+
+right-empty-if : (grid : List ℤ) (input laid : List ℕ) (k : Bool) (ring : List ℕ) (state : ℕ) (set : List ℕ) → 3 ≤ length ring → RightIf grid input laid k ring state set
+    → take (taken ring state) set ≡ [] → OpenState state
+right-empty-if grid input laid true ring state set t e z = inr (inr e)
+right-empty-if grid input laid false ring state set t r z = ⊎-elim (λ (x : state ≡ 2). inl x) (λ (x : state ≡ 3). inr (inl x)) (right-empty grid input laid ring state set t r z)
+
+not-open-one : (s : ℕ) → OpenState s → s ≡ 1 → ⊥
+not-open-one s (inl e) f = omega arith
+not-open-one s (inr (inl e)) f = omega arith
+not-open-one s (inr (inr e)) f = omega arith
+
 -- ---- all loops
 
-pub right-filled : (grid : List ℤ) (input laid : List ℕ) (rings : List (List ℕ)) (states set : List ℕ)
-    → AllRight grid input laid rings states set → Filled input laid rings (parts rings states set)
-right-filled grid input laid [] [] set h = tt
-right-filled grid input laid [] (s ∷ states) set h = absurd h
-right-filled grid input laid (r ∷ rings) [] set h = absurd h
-right-filled grid input laid (r ∷ rings) (s ∷ states) set h =
-    let k = taken r s in
-    (right-fills grid input laid r s set (h .0), right-filled grid input (laid ++ take k set) rings states (drop k set) (h .1))
+pub right-filled : (grid : List ℤ) (input laid : List ℕ) (rims : List Bool) (rings : List (List ℕ)) (states set : List ℕ)
+    → AllRight grid input laid rims rings states set → Filled input laid rings (parts rings states set)
+right-filled grid input laid [] [] [] set h = tt
+right-filled grid input laid [] [] (s ∷ states) set h = absurd h
+right-filled grid input laid [] (r ∷ rings) states set h = absurd h
+right-filled grid input laid (k ∷ rims) [] states set h = absurd h
+right-filled grid input laid (k ∷ rims) (r ∷ rings) [] set h = absurd h
+right-filled grid input laid (k ∷ rims) (r ∷ rings) (s ∷ states) set h =
+    let n = taken r s in
+    (right-fills-if grid input laid k r s set (h .0), right-filled grid input (laid ++ take n set) rims rings states (drop n set) (h .1))
 
-pub parts-length : (grid : List ℤ) (input laid : List ℕ) (rings : List (List ℕ)) (states set : List ℕ)
-    → AllRight grid input laid rings states set → length (parts rings states set) ≡ length rings
-parts-length grid input laid [] [] set h = refl
-parts-length grid input laid [] (s ∷ states) set h = absurd h
-parts-length grid input laid (r ∷ rings) [] set h = absurd h
-parts-length grid input laid (r ∷ rings) (s ∷ states) set h =
-    let k = taken r s in
-    ap suc (parts-length grid input (laid ++ take k set) rings states (drop k set) (h .1))
+pub parts-length : (grid : List ℤ) (input laid : List ℕ) (rims : List Bool) (rings : List (List ℕ)) (states set : List ℕ)
+    → AllRight grid input laid rims rings states set → length (parts rings states set) ≡ length rings
+parts-length grid input laid [] [] [] set h = refl
+parts-length grid input laid [] [] (s ∷ states) set h = absurd h
+parts-length grid input laid [] (r ∷ rings) states set h = absurd h
+parts-length grid input laid (k ∷ rims) [] states set h = absurd h
+parts-length grid input laid (k ∷ rims) (r ∷ rings) [] set h = absurd h
+parts-length grid input laid (k ∷ rims) (r ∷ rings) (s ∷ states) set h =
+    let n = taken r s in
+    ap suc (parts-length grid input (laid ++ take n set) rims rings states (drop n set) (h .1))
 
-pub parts-all : (grid : List ℤ) (input laid : List ℕ) (rings : List (List ℕ)) (states set : List ℕ)
-    → AllRight grid input laid rings states set → flatten (parts rings states set) ≡ set
+pub parts-all : (grid : List ℤ) (input laid : List ℕ) (rims : List Bool) (rings : List (List ℕ)) (states set : List ℕ)
+    → AllRight grid input laid rims rings states set → flatten (parts rings states set) ≡ set
 unfolding flatten
-parts-all grid input laid [] [] set h = sym h
-parts-all grid input laid [] (s ∷ states) set h = absurd h
-parts-all grid input laid (r ∷ rings) [] set h = absurd h
-parts-all grid input laid (r ∷ rings) (s ∷ states) set h =
-    let k = taken r s in
-    ap (λ (l : List ℕ). take k set ++ l) (parts-all grid input (laid ++ take k set) rings states (drop k set) (h .1))
-    ∙ take-append-drop k set
+parts-all grid input laid [] [] [] set h = sym h
+parts-all grid input laid [] [] (s ∷ states) set h = absurd h
+parts-all grid input laid [] (r ∷ rings) states set h = absurd h
+parts-all grid input laid (k ∷ rims) [] states set h = absurd h
+parts-all grid input laid (k ∷ rims) (r ∷ rings) [] set h = absurd h
+parts-all grid input laid (k ∷ rims) (r ∷ rings) (s ∷ states) set h =
+    let n = taken r s in
+    ap (λ (l : List ℕ). take n set ++ l) (parts-all grid input (laid ++ take n set) rims rings states (drop n set) (h .1))
+    ∙ take-append-drop n set
 
-pub part-empty : (grid : List ℤ) (input laid : List ℕ) (rings : List (List ℕ)) (states set : List ℕ)
-    → AllRight grid input laid rings states set → RingsApart rings → (l : ℕ) → l < length rings
-    → getD (parts rings states set) l [] ≡ [] → (getD states l 0 ≡ 2) ⊎ (getD states l 0 ≡ 3)
-part-empty grid input laid [] [] set h a l s z = absurd (not-suc-le-zero s)
-part-empty grid input laid [] (x ∷ states) set h a l s z = absurd h
-part-empty grid input laid (r ∷ rings) [] set h a l s z = absurd h
-part-empty grid input laid (r ∷ rings) (x ∷ states) set h a zero s z = right-empty grid input laid r x set (a .three 0 s) (h .0) z
-part-empty grid input laid (r ∷ rings) (x ∷ states) set h a (suc l) s z =
-    let k = taken r x in
-    part-empty grid input (laid ++ take k set) rings states (drop k set) (h .1) (rings-rest r rings a) l (omega arith) z
+pub part-empty : (grid : List ℤ) (input laid : List ℕ) (rims : List Bool) (rings : List (List ℕ)) (states set : List ℕ)
+    → AllRight grid input laid rims rings states set → RingsApart rings → (l : ℕ) → l < length rings
+    → getD (parts rings states set) l [] ≡ [] → OpenState (getD states l 0)
+part-empty grid input laid [] [] [] set h a l s z = absurd (not-suc-le-zero s)
+part-empty grid input laid [] [] (x ∷ states) set h a l s z = absurd h
+part-empty grid input laid [] (r ∷ rings) states set h a l s z = absurd h
+part-empty grid input laid (k ∷ rims) [] states set h a l s z = absurd h
+part-empty grid input laid (k ∷ rims) (r ∷ rings) [] set h a l s z = absurd h
+part-empty grid input laid (k ∷ rims) (r ∷ rings) (x ∷ states) set h a zero s z = right-empty-if grid input laid k r x set (a .three 0 s) (h .0) z
+part-empty grid input laid (k ∷ rims) (r ∷ rings) (x ∷ states) set h a (suc l) s z =
+    let n = taken r x in
+    part-empty grid input (laid ++ take n set) rims rings states (drop n set) (h .1) (rings-rest r rings a) l (omega arith) z
 
 -- the other way round
-pub empty-part : (rings : List (List ℕ)) (states set : List ℕ) (l : ℕ) → (getD states l 0 ≡ 2) ⊎ (getD states l 0 ≡ 3)
+pub empty-part : (rings : List (List ℕ)) (states set : List ℕ) (l : ℕ) → OpenState (getD states l 0)
     → getD (parts rings states set) l [] ≡ []
 empty-part [] states set l h = refl
 empty-part (r ∷ rings) [] set l h = refl
-empty-part (r ∷ rings) (x ∷ states) set zero h = part-none r x set (not-one x h)
+empty-part (r ∷ rings) (x ∷ states) set zero h = part-none r x set (not-open-one x h)
 empty-part (r ∷ rings) (x ∷ states) set (suc l) h = empty-part rings states (drop (taken r x) set) l h

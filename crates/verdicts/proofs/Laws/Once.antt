@@ -1,7 +1,7 @@
 -- A set has one verdict at most. One loop has one fault at most, and none if it is right: a set is one cover at most, so the cover that has a
 -- barred diagonal is not the allowed one, and the one that has a lighter one is not the one that has none.
 use mathlib.Core.Path.{_≡_, refl, sym, ap, _∙_, subst}
-use mathlib.Core.Bool.{false, true≢false}
+use mathlib.Core.Bool.{false, true≢false, Bool, true}
 use mathlib.Core.Logic.{inl, inr}
 use mathlib.Core.List.{List, [], _∷_, _++_}
 use Prim.Native.Nat.{ℕ, suc, _+_, _-_, _<_, _≤_}
@@ -16,7 +16,7 @@ use Rattle.covers.specs.Covers.{Cover, Uses, vertexOf}
 use Rattle.covers.proofs.Laws.Closed.{Different, covered-once}
 use Rattle.run.specs.Here.{AllowedHere}
 use Rattle.run.proofs.Laws.Once.{no-longer}
-use Rattle.verdicts.specs.Faults.{share, IsCover, Lighter, Right, patched, long, open-left, WrongState, no-state, two-on-a-short, not-two-on-a-long, three-with-a-cover, BarredTaken, HeavyTaken, Fault, misdeclared, no-cover, cover-barred, too-heavy}
+use Rattle.verdicts.specs.Faults.{share, IsCover, Lighter, Right, patched, long, open-left, WrongState, no-state, two-on-a-short, not-two-on-a-long, three-with-a-cover, BarredTaken, HeavyTaken, Fault, misdeclared, no-cover, cover-barred, too-heavy, RightIf, FaultIf}
 use Rattle.verdicts.specs.Verdicts.{taken, Verdict}
 
 -- "Every loop has 3 or more edges and no vertex twice."
@@ -122,30 +122,55 @@ module _ (grid : List ℤ) (input laid : List ℕ) (l : ℕ) (ring : List ℕ) (
     right-no-fault a r (cover-barred e s n) = let p = right-patched grid input laid ring state set (s .is-one) r in barred-not-allowed ring set different input laid n (p .cover) (p .taken) (p .allowed)
     right-no-fault a r (too-heavy e s n) = let p = right-patched grid input laid ring state set (s .is-one) r in heavy-not-least ring set different grid input laid n (p .cover) (p .taken) (p .least)
 
+-- ---- rims or not
+
+module _ (grid : List ℤ) (input laid : List ℕ) (l : ℕ) where
+  pub fault-told-if : (k : Bool) (ring : List ℕ) (state : ℕ) (set : List ℕ) (a : Answer) → FaultIf grid input laid l k ring state set a → refusing a ≡ false
+  fault-told-if true ring state set a f = ap refusing (f .0)
+  fault-told-if false ring state set a f = fault-told grid input laid l ring state set a f
+
+  pub fault-said-if : (k : Bool) (ring : List ℕ) (state : ℕ) (set : List ℕ) (a : Answer) → FaultIf grid input laid l k ring state set a → a ≡ Done → ⊥
+  fault-said-if true ring state set a f e = omega (arith, ap numberOf (sym (f .0) ∙ e))
+  fault-said-if false ring state set a f e = fault-said grid input laid l ring state set a f e
+
+  pub fault-once-if : (k : Bool) (ring : List ℕ) (state : ℕ) (set : List ℕ) → Different (length ring) (vertexOf ring) → (a b : Answer)
+      → FaultIf grid input laid l k ring state set a → FaultIf grid input laid l k ring state set b → a ≡ b
+  fault-once-if true ring state set d a b f g = f .0 ∙ sym (g .0)
+  fault-once-if false ring state set d a b f g = fault-once grid input laid l ring state set d a b f g
+
+  pub right-no-fault-if : (k : Bool) (ring : List ℕ) (state : ℕ) (set : List ℕ) → Different (length ring) (vertexOf ring) → (a : Answer)
+      → RightIf grid input laid k ring state set → FaultIf grid input laid l k ring state set a → ⊥
+  right-no-fault-if true ring state set d a r f = f .1 r
+  right-no-fault-if false ring state set d a r f = right-no-fault grid input laid l ring state set d a r f
+
 -- ---- all loops
 
-pub verdict-once : (grid : List ℤ) (input laid : List ℕ) (l at : ℕ) (rings : List (List ℕ)) (states set : List ℕ) (a b : Answer)
-    → RingsApart rings → Verdict grid input laid l at rings states set a → Verdict grid input laid l at rings states set b → a ≡ b
-verdict-once grid input laid l at [] [] set a b h p q = p ∙ sym q
-verdict-once grid input laid l at [] (s ∷ states) set a b h p q = absurd p
-verdict-once grid input laid l at (r ∷ rings) [] set a b h p q = absurd p
-verdict-once grid input laid l at (r ∷ rings) (s ∷ states) set a b h (inl p) (inl q) =
-    fault-once grid input laid l r s set (h .different 0 (omega arith)) a b p q
-verdict-once grid input laid l at (r ∷ rings) (s ∷ states) set a b h (inl p) (inr q) =
-    absurd (right-no-fault grid input laid l r s set (h .different 0 (omega arith)) a (q .0) p)
-verdict-once grid input laid l at (r ∷ rings) (s ∷ states) set a b h (inr p) (inl q) =
-    absurd (right-no-fault grid input laid l r s set (h .different 0 (omega arith)) b (p .0) q)
-verdict-once grid input laid l at (r ∷ rings) (s ∷ states) set a b h (inr p) (inr q) =
-    let k = taken r s in
-    verdict-once grid input (laid ++ take k set) (suc l) (at + k) rings states (drop k set) a b (rings-rest r rings h) (p .1) (q .1)
+pub verdict-once : (grid : List ℤ) (input laid : List ℕ) (l at : ℕ) (rims : List Bool) (rings : List (List ℕ)) (states set : List ℕ) (a b : Answer)
+    → RingsApart rings → Verdict grid input laid l at rims rings states set a → Verdict grid input laid l at rims rings states set b → a ≡ b
+verdict-once grid input laid l at [] [] [] set a b h p q = p ∙ sym q
+verdict-once grid input laid l at [] [] (s ∷ states) set a b h p q = absurd p
+verdict-once grid input laid l at [] (r ∷ rings) states set a b h p q = absurd p
+verdict-once grid input laid l at (k ∷ rims) [] states set a b h p q = absurd p
+verdict-once grid input laid l at (k ∷ rims) (r ∷ rings) [] set a b h p q = absurd p
+verdict-once grid input laid l at (k ∷ rims) (r ∷ rings) (s ∷ states) set a b h (inl p) (inl q) =
+    fault-once-if grid input laid l k r s set (h .different 0 (omega arith)) a b p q
+verdict-once grid input laid l at (k ∷ rims) (r ∷ rings) (s ∷ states) set a b h (inl p) (inr q) =
+    absurd (right-no-fault-if grid input laid l k r s set (h .different 0 (omega arith)) a (q .0) p)
+verdict-once grid input laid l at (k ∷ rims) (r ∷ rings) (s ∷ states) set a b h (inr p) (inl q) =
+    absurd (right-no-fault-if grid input laid l k r s set (h .different 0 (omega arith)) b (p .0) q)
+verdict-once grid input laid l at (k ∷ rims) (r ∷ rings) (s ∷ states) set a b h (inr p) (inr q) =
+    let n = taken r s in
+    verdict-once grid input (laid ++ take n set) (suc l) (at + n) rims rings states (drop n set) a b (rings-rest r rings h) (p .1) (q .1)
 
 -- a verdict is no refusal
-pub verdict-told : (grid : List ℤ) (input laid : List ℕ) (l at : ℕ) (rings : List (List ℕ)) (states set : List ℕ) (a : Answer) → Verdict grid input laid l at rings states set a → refusing a ≡ false
-verdict-told grid input laid l at [] [] [] a e = ap refusing e
-verdict-told grid input laid l at [] [] (x ∷ set) a e = ap refusing e
-verdict-told grid input laid l at [] (s ∷ states) set a v = absurd v
-verdict-told grid input laid l at (r ∷ rings) [] set a v = absurd v
-verdict-told grid input laid l at (r ∷ rings) (s ∷ states) set a (inl f) = fault-told grid input laid l r s set a f
-verdict-told grid input laid l at (r ∷ rings) (s ∷ states) set a (inr v) =
-    let k = taken r s in
-    verdict-told grid input (laid ++ take k set) (suc l) (at + k) rings states (drop k set) a (v .1)
+pub verdict-told : (grid : List ℤ) (input laid : List ℕ) (l at : ℕ) (rims : List Bool) (rings : List (List ℕ)) (states set : List ℕ) (a : Answer) → Verdict grid input laid l at rims rings states set a → refusing a ≡ false
+verdict-told grid input laid l at [] [] [] [] a e = ap refusing e
+verdict-told grid input laid l at [] [] [] (x ∷ set) a e = ap refusing e
+verdict-told grid input laid l at [] [] (s ∷ states) set a v = absurd v
+verdict-told grid input laid l at [] (r ∷ rings) states set a v = absurd v
+verdict-told grid input laid l at (k ∷ rims) [] states set a v = absurd v
+verdict-told grid input laid l at (k ∷ rims) (r ∷ rings) [] set a v = absurd v
+verdict-told grid input laid l at (k ∷ rims) (r ∷ rings) (s ∷ states) set a (inl f) = fault-told-if grid input laid l k r s set a f
+verdict-told grid input laid l at (k ∷ rims) (r ∷ rings) (s ∷ states) set a (inr v) =
+    let n = taken r s in
+    verdict-told grid input (laid ++ take n set) (suc l) (at + n) rims rings states (drop n set) a (v .1)

@@ -1,0 +1,1 @@
+// Definitions and theorems only: which loop of a piece is its rim.
