@@ -1,4 +1,4 @@
-/* Wazelpunt for C: the exported functions of libarchive.a (made by `rt staticlib archive`, for x86-64).
+/* Wazelpunt for C: the exported functions of libwazelpunt.a (made by `rt staticlib wazelpunt`, for x86-64).
    Every function answers for every input; docs/PROMISES.md says what is promised of each. */
 #ifndef WAZELPUNT_H
 #define WAZELPUNT_H

@@ -9,9 +9,9 @@ import sys
 
 # The groups of promises, each with its roots: crate/File.name, or crate/File for all of a file.
 GROUPS = {
-    'entry-points': ['grid/Places.Places', 'survey/Outcome.surveyOf', 'patching/Outcome.Patches', 'trial/Outcome.Judges',
-                     'intake/Outcome.Reads', 'scribe/Outcome.writes', 'sets/Outcome.ReadsSet'],
-    'programs': ['lister/Lists.Prints', 'arbiter/Hears', 'copyist/Rewriting', 'roll/Pieces'],
+    'entry-points': ['base_types/Lent', 'grid_coordinate/Places.Places', 'survey_rules/Outcome.surveyOf', 'patch_surface/Outcome.Patches',
+                     'judge_surface/Outcome.Judges', 'text_read/Outcome.Reads', 'text_write/Outcome.writes', 'text_read_set/Outcome.ReadsSet'],
+    'programs': ['program_list/Lists.Prints', 'program_judge/Hears', 'program_rewrite/Rewriting', 'program_roll/Sections'],
     'demands': ['demands/Answers', 'demands/Loops', 'demands/Pieces', 'demands/Sets', 'demands/Closing', 'demands/Texts'],
 }
 

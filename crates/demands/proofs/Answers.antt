@@ -6,33 +6,33 @@ use mathlib.Core.List.{List, [], _∷_, _++_}
 use Prim.Native.Nat.{ℕ, _+_, _/_}
 use lib.Dec.{eqb}
 use lib.ListN.{length}
-use Rattle.answers.specs.Numbers.{refusing}
-use Rattle.answers.specs.declared.Answer.{Answer}
-use Rattle.answers.specs.declared.Answer.the-variants.{Done, Words, Corners, Buffer, Unnamed, TooFar, States}
-use Rattle.terms.specs.Counts.{threes}
-use Rattle.limits.specs.Limits as limits
-use Rattle.surface.specs.declared.Found.{Found}
-use Rattle.surface.specs.declared.Found.the-variants.{At, Nothing}
-use Rattle.surface.specs.Smallest.{least}
-use Rattle.surface.specs.Refusals.{tooFar, refuseAt, thenCheck, countRefusal, bufferRefusal, unnamedRefusal, cornerRefusal, wordRefusal, contentRefusal, refusal}
-use Rattle.surface.specs.Buffers.{over}
-use Rattle.surface.specs.Threes.{Three, flat}
-use Rattle.surface.proofs.Laws.Smallest.{least-at, least-never, least-sound, least-first, never-least}
-use Rattle.surface.proofs.Laws.Thens.{then-refused, then-next}
-use Rattle.loops.specs.Loops.{loops}
-use Rattle.survey.specs.Grid.{gridOf}
-use Rattle.survey.specs.Outcome as survey
-use Rattle.rims.specs.Rims.{rimList}
-use Rattle.run.specs.Run.{ringList}
-use Rattle.verdicts.proofs.Laws.Once.{verdict-told}
-use Rattle.patching.specs.Outcome as patcher
-use Rattle.trial.specs.Outcome.{JudgesCounted, JudgesIf, Judges}
-use Rattle.texts.specs.Text.{TextOf}
-use Rattle.sheet.specs.Sheet.{points, triangles, text}
-use Rattle.intake.specs.Outcome as intake
-use Rattle.sets.specs.Set as set
-use Rattle.sets.specs.Outcome as sets
-use Rattle.scribe.specs.Outcome.{writeRefusal, writes}
+use Rattle.base_answers.specs.Numbers.{refusing}
+use Rattle.base_answers.specs.declared.Answer.{Answer}
+use Rattle.base_answers.specs.declared.Answer.the-variants.{Done, Words, Corners, Buffer, Unnamed, TooFar, States}
+use Rattle.base_types.specs.Counts.{threes}
+use Rattle.base_limits.specs.Limits as limits
+use Rattle.surface_rules.specs.declared.Found.{Found}
+use Rattle.surface_rules.specs.declared.Found.the-variants.{At, Nothing}
+use Rattle.surface_rules.specs.Smallest.{least}
+use Rattle.surface_rules.specs.Refusals.{tooFar, refuseAt, thenCheck, countRefusal, bufferRefusal, unnamedRefusal, cornerRefusal, wordRefusal, contentRefusal, refusal}
+use Rattle.surface_rules.specs.Buffers.{over}
+use Rattle.surface_rules.specs.Threes.{Three, flat}
+use Rattle.surface_rules.proofs.Laws.Smallest.{least-at, least-never, least-sound, least-first, never-least}
+use Rattle.surface_rules.proofs.Laws.Thens.{then-refused, then-next}
+use Rattle.loop_rules.specs.Loops.{loops}
+use Rattle.survey_grid.specs.Grid.{gridOf}
+use Rattle.survey_rules.specs.Outcome as survey
+use Rattle.rim_rules.specs.Rims.{rimList}
+use Rattle.fill_fates.specs.Course.{ringList}
+use Rattle.judge_rules.proofs.Theorems.{verdict-told}
+use Rattle.patch_surface.specs.Outcome as patcher
+use Rattle.judge_surface.specs.Outcome.{JudgesCounted, JudgesIf, Judges}
+use Rattle.text_rules.specs.Text.{TextOf}
+use Rattle.text_sheet.specs.Sheet.{points, triangles, text}
+use Rattle.text_read.specs.Outcome as intake
+use Rattle.text_read_set.specs.Set as set
+use Rattle.text_read_set.specs.Outcome as sets
+use Rattle.text_write.specs.Outcome.{writeRefusal, writes}
 use Rattle.demands.specs.Answers.{Check, Due, wordCount, cornerCount, shortBuffer, unnamedCorner, pointTwice, edgeRepeated, noNumber, farAway, stateCount, table, Answered, AnswersDemand}
 
 -- ---- what a list of checks gives, as the entry points compute it
@@ -181,7 +181,7 @@ module _ (words corners : List ℕ) (b : patcher.Buffers) (o : patcher.Outcome) 
   patch-done h = go (subst (λ (t : Bool). patcher.PatchesIf t patchRefusal words corners b o) (ap refusing patch-is ∙ h) p)
     where
       go : patcher.PatchesIf false patchRefusal words corners b o → refusing (o .answer) ≡ false
-      go (fates, run, e) = ap (λ (x : patcher.Outcome). refusing (x .answer)) e
+      go (fates, course, e) = ap (λ (x : patcher.Outcome). refusing (x .answer)) e
 
   patching : Answered patchTable (λ a. patcher.refused a b) (λ x. x .answer) o
   patching = answered patchTable (table-refuses words corners (patcher.lent b) (patcher.needs words corners)) (λ a. patcher.refused a b) (λ x. x .answer) o (λ a. refl) patch-refused patch-done

@@ -4,12 +4,12 @@ use mathlib.Core.Logic.{inl, inr, ⊎-elim}
 use mathlib.Core.List.{List, [], map}
 use Prim.Native.Nat.{ℕ, _<_}
 use lib.ListN.{length, getD}
-use Rattle.surface.specs.Edges.{Sound}
-use Rattle.loops.specs.Loops.{loops, ring}
-use Rattle.loops.proofs.Laws.Places.{Place}
-use Rattle.closing.specs.Filling.{Filled}
-use Rattle.closing.proofs.Laws.Rings.{EdgeAgainst}
-use Rattle.closing.proofs.Theorems as theorems
+use Rattle.surface_rules.specs.Edges.{Sound}
+use Rattle.loop_rules.specs.Loops.{loops, ring}
+use Rattle.loop_rules.proofs.Laws.Places.{Place}
+use Rattle.fill_edges.specs.Filling.{Filled}
+use Rattle.fill_edges.proofs.Laws.Rings.{EdgeAgainst}
+use Rattle.fill_edges.proofs.Theorems as theorems
 use Rattle.demands.specs.Loops.{loopAt, StandsAt}
 use Rattle.demands.specs.Closing.{Against, ClosingDemand}
 use Rattle.demands.proofs.Kept.{place-of}

@@ -3,12 +3,12 @@ use mathlib.Core.Path.{_≡_, sym, _∙_}
 use mathlib.Core.List.{List, map}
 use Prim.Native.Nat.{ℕ}
 use lib.ListN.{length, length-map}
-use Rattle.surface.specs.Edges.{Sound, startOf}
-use Rattle.surface.proofs.Laws.Lists.{map-at}
-use Rattle.loops.specs.Loops.{loops}
-use Rattle.loops.proofs.Laws.Distinct.{Distinct}
-use Rattle.loops.proofs.Laws.Places.{Place}
-use Rattle.loops.proofs.Theorems as theorems
+use Rattle.surface_rules.specs.Edges.{Sound, startOf}
+use Rattle.surface_rules.proofs.Laws.Lists.{map-at}
+use Rattle.loop_rules.specs.Loops.{loops}
+use Rattle.loop_rules.proofs.Laws.Distinct.{Distinct}
+use Rattle.loop_rules.proofs.Laws.Places.{Place}
+use Rattle.loop_rules.proofs.Theorems as theorems
 use Rattle.demands.specs.Loops.{loopAt, StandsAt, LoopsDemand}
 
 abbrev pub place-of : (corners : List ℕ) (e l i : ℕ) → StandsAt corners e l i → Place (loops corners) e

@@ -5,3 +5,4 @@ pub mod Passable
 pub mod Sets
 pub mod Pieces
 pub mod Texts
+pub mod Theorems

@@ -8,9 +8,9 @@ use native.Mathlib.Omega.{arith}
 use lib.IntN.{ℤ}
 use lib.ListN.{length, getD, take, drop, length-drop}
 use lib.Seq.{take-add, drop-drop}
-use Rattle.verdicts.specs.Faults.{RightIf}
-use Rattle.verdicts.specs.Verdicts.{taken, AllRight}
-use Rattle.verdicts.proofs.Laws.Filled.{takes-if}
+use Rattle.judge_rules.specs.Faults.{RightIf}
+use Rattle.judge_rules.specs.Verdicts.{taken, AllRight}
+use Rattle.judge_rules.proofs.Laws.Filled.{takes-if}
 use Rattle.demands.specs.Sets.{begins}
 
 -- loop l is right, behind the corners `laid`

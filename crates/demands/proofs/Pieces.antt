@@ -5,12 +5,12 @@ use mathlib.Core.List.{List}
 use Prim.Native.Nat.{ℕ}
 use native.Mathlib.Omega.{arith}
 use lib.IntN.{ℤ}
-use Rattle.surface.specs.Edges.{Sound}
-use Rattle.loops.proofs.Theorems as facts
-use Rattle.pieces.specs.Pieces.{itself}
-use Rattle.pieces.proofs.Laws.Joining.{join-back, join-on, join-one}
-use Rattle.pieces.proofs.Theorems as pieces
-use Rattle.rims.proofs.Theorems as rims
+use Rattle.surface_rules.specs.Edges.{Sound}
+use Rattle.loop_rules.proofs.Theorems as facts
+use Rattle.rim_pieces.specs.Pieces.{itself}
+use Rattle.rim_pieces.proofs.Laws.Joining.{join-back, join-on, join-one}
+use Rattle.rim_pieces.proofs.Theorems as pieces
+use Rattle.rim_rules.proofs.Theorems as rims
 use Rattle.demands.specs.Pieces.{GroupsDemand, PiecesDemand}
 
 pub groups-demand : (corners : List ℕ) → GroupsDemand corners

@@ -8,34 +8,34 @@ use borrow.Author.Tests.{eqb-true, eqb-false}
 use lib.Dec.{eqb}
 use lib.IntN.{ℤ}
 use lib.ListN.{length, getD, take, drop, length-map}
-use Rattle.answers.specs.Numbers.{refusing, numberOf}
-use Rattle.answers.specs.declared.Answer.{Answer}
-use Rattle.answers.specs.declared.Answer.the-variants.{Done, States}
-use Rattle.surface.specs.Edges.{Sound}
-use Rattle.surface.specs.Refusals.{refusal}
-use Rattle.surface.proofs.Laws.Lists.{map-at}
-use Rattle.surface.proofs.Laws.Over.{start-of}
-use Rattle.surface.proofs.Laws.Sound.{Passed, passed, passes, passed-sound}
-use Rattle.loops.specs.Loops.{loops, ring}
-use Rattle.loops.proofs.Theorems.{vertices-in-all, vertices-few}
-use Rattle.pieces.specs.Smallest.{numbersBelow}
-use Rattle.pieces.proofs.Laws.Uniting.{numbers-length, numbers-at}
-use Rattle.survey.specs.Grid.{gridOf}
-use Rattle.survey.specs.Outcome as survey
-use Rattle.rims.specs.Rims.{isRim, rimList}
-use Rattle.run.specs.Fates.{Fate}
-use Rattle.run.specs.Run.{Run, ringList, statesOf, laidBy}
-use Rattle.run.proofs.Laws.Grows.{run-length}
-use Rattle.run.proofs.Laws.Lengths.{laid-length, states-length}
-use Rattle.verdicts.specs.Faults.{patched, long, open-left, RightIf}
-use Rattle.verdicts.specs.Verdicts.{Verdict, AllRight}
-use Rattle.verdicts.proofs.Laws.Once.{verdict-once}
-use Rattle.verdicts.proofs.Laws.Passes.{passes-right, right-passes}
-use Rattle.verdicts.proofs.Laws.Patched.{run-right}
-use Rattle.verdicts.proofs.Laws.Filled.{right-filled, parts-all, part-empty, empty-part}
-use Rattle.patching.specs.Outcome as patcher
-use Rattle.trial.specs.Outcome.{JudgesCounted, JudgesIf, Judges}
-use Rattle.trial.proofs.Laws.Apart.{rings-apart}
+use Rattle.base_answers.specs.Numbers.{refusing, numberOf}
+use Rattle.base_answers.specs.declared.Answer.{Answer}
+use Rattle.base_answers.specs.declared.Answer.the-variants.{Done, States}
+use Rattle.surface_rules.specs.Edges.{Sound}
+use Rattle.surface_rules.specs.Refusals.{refusal}
+use Rattle.surface_rules.proofs.Laws.Lists.{map-at}
+use Rattle.surface_rules.proofs.Laws.Over.{start-of}
+use Rattle.surface_rules.proofs.Laws.Sound.{Passed, passed, passes, passed-sound}
+use Rattle.loop_rules.specs.Loops.{loops, ring}
+use Rattle.loop_rules.proofs.Theorems.{vertices-in-all, vertices-few}
+use Rattle.rim_pieces.specs.Computed.{numbersBelow}
+use Rattle.rim_pieces.proofs.Laws.Uniting.{numbers-length, numbers-at}
+use Rattle.survey_grid.specs.Grid.{gridOf}
+use Rattle.survey_rules.specs.Outcome as survey
+use Rattle.rim_rules.specs.Rims.{isRim, rimList}
+use Rattle.fill_fates.specs.Fates.{Fate}
+use Rattle.fill_fates.specs.Course.{Course, ringList, statesOf, laidBy}
+use Rattle.fill_fates.proofs.Laws.Grows.{course-length}
+use Rattle.fill_fates.proofs.Laws.Lengths.{laid-length, states-length}
+use Rattle.judge_rules.specs.Faults.{patched, long, open-left, RightIf}
+use Rattle.judge_rules.specs.Verdicts.{Verdict, AllRight}
+use Rattle.judge_rules.proofs.Theorems.{verdict-once}
+use Rattle.judge_rules.proofs.Laws.Passes.{passes-right, right-passes}
+use Rattle.judge_rules.proofs.Laws.Patched.{course-right}
+use Rattle.judge_rules.proofs.Laws.Filled.{right-filled, parts-all, part-empty, empty-part}
+use Rattle.patch_surface.specs.Outcome as patcher
+use Rattle.judge_surface.specs.Outcome.{JudgesCounted, JudgesIf, Judges}
+use Rattle.judge_surface.proofs.Laws.Apart.{rings-apart}
 use Rattle.demands.specs.Sets.{begins, Passable, Closes, CheckerDemand, statesLeft, setLeft, PatcherDemand}
 use Rattle.demands.proofs.Closing.{closing-demand}
 use Rattle.demands.proofs.Passable.{right-each, right-none-left, each-right}
@@ -148,9 +148,9 @@ module _ (words corners : List ℕ) (b : patcher.Buffers) (o : patcher.Outcome) 
   abbrev refuses : Answer
   refuses = refusal words corners (patcher.lent b) (patcher.needs words corners)
 
-  done-demand : refusing refuses ≡ false → (fates : List Fate) → Run (gridOf words) corners [] (rimList (gridOf words) corners) (ringList corners) fates → o ≡ patcher.done words corners fates b
+  done-demand : refusing refuses ≡ false → (fates : List Fate) → Course (gridOf words) corners [] (rimList (gridOf words) corners) (ringList corners) fates → o ≡ patcher.done words corners fates b
       → PatcherDemand words corners o
-  done-demand r fates run e = record {
+  done-demand r fates course e = record {
     fits = fit;
     passes = λ c p l j.
         checker-demand words corners (statesLeft o) (setLeft o) c p j .passed-always
@@ -166,7 +166,7 @@ module _ (words corners : List ℕ) (b : patcher.Buffers) (o : patcher.Outcome) 
       sound = passed-sound words corners (patcher.lent b) (patcher.needs words corners) table
 
       fated : length (statesOf fates) ≡ length (loops corners)
-      fated = states-length fates ∙ run-length (gridOf words) corners [] (rimList (gridOf words) corners) (ringList corners) fates run ∙ many corners sound
+      fated = states-length fates ∙ course-length (gridOf words) corners [] (rimList (gridOf words) corners) (ringList corners) fates course ∙ many corners sound
 
       states : statesLeft o ≡ statesOf fates
       states = ap statesLeft e ∙ start-of (statesOf fates) (b .states) (length (loops corners)) (sym fated)
@@ -176,12 +176,12 @@ module _ (words corners : List ℕ) (b : patcher.Buffers) (o : patcher.Outcome) 
 
       right : AllRight (gridOf words) corners [] (rimList (gridOf words) corners) (ringList corners) (statesLeft o) (setLeft o)
       right = subst (λ (x : List ℕ). AllRight (gridOf words) corners [] (rimList (gridOf words) corners) (ringList corners) x (setLeft o)) (sym states)
-          (subst (λ (x : List ℕ). AllRight (gridOf words) corners [] (rimList (gridOf words) corners) (ringList corners) (statesOf fates) x) (sym set) (run-right (gridOf words) corners [] (rimList (gridOf words) corners) (ringList corners) fates run))
+          (subst (λ (x : List ℕ). AllRight (gridOf words) corners [] (rimList (gridOf words) corners) (ringList corners) (statesOf fates) x) (sym set) (course-right (gridOf words) corners [] (rimList (gridOf words) corners) (ringList corners) fates course))
 
       fit : o .corners ≤ 3 * length corners
       fit =
           let a : o .corners ≡ length (laidBy (ringList corners) fates) = ap (λ (x : patcher.Outcome). x .corners) e in
-          let c : length (laidBy (ringList corners) fates) ≤ 3 * length (flatten (ringList corners)) = laid-length (gridOf words) corners [] (rimList (gridOf words) corners) (ringList corners) fates run in
+          let c : length (laidBy (ringList corners) fates) ≤ 3 * length (flatten (ringList corners)) = laid-length (gridOf words) corners [] (rimList (gridOf words) corners) (ringList corners) fates course in
           omega (arith, vertices-in-all corners sound, vertices-few corners sound)
 
   pub patcher-demand : patcher.Patches words corners b o → refusing (o .answer) ≡ false → PatcherDemand words corners o
@@ -189,4 +189,4 @@ module _ (words corners : List ℕ) (b : patcher.Buffers) (o : patcher.Outcome) 
     where
       go : (t : Bool) → refusing refuses ≡ t → patcher.PatchesIf t refuses words corners b o → PatcherDemand words corners o
       go true r e = absurd (true≢false (sym r ∙ ap refusing (sym (ap (λ (x : patcher.Outcome). x .answer) e)) ∙ n))
-      go false r (fates, run, e) = done-demand r fates run e
+      go false r (fates, course, e) = done-demand r fates course e

@@ -6,29 +6,29 @@ use mathlib.Core.List.{List, [], _∷_}
 use Prim.Native.Nat.{ℕ, _+_, _/_, _≤_}
 use native.Mathlib.Omega.{arith}
 use lib.ListN.{length, take}
-use Rattle.answers.specs.Numbers.{refusing}
-use Rattle.answers.specs.declared.Answer.{Answer}
-use Rattle.answers.specs.declared.Answer.the-variants.{Done, Buffer, Unnamed, Line}
-use Rattle.limits.specs.Limits as limits
-use Rattle.surface.specs.declared.Found.{Found}
-use Rattle.surface.specs.declared.Found.the-variants.{At, Nothing}
-use Rattle.surface.specs.Smallest.{least}
-use Rattle.surface.specs.Refusals.{short, unnamed, refuseAt, thenCheck, bufferRefusal, unnamedRefusal}
-use Rattle.surface.specs.Threes.{threes, flat}
-use Rattle.surface.proofs.Laws.Thens.{Fitting, counts-fit, two-long}
-use Rattle.surface.proofs.Laws.Over.{start-of}
-use Rattle.surface.proofs.Laws.Sound.{next-of}
-use Rattle.surface.proofs.Laws.Threes.{flat-threes}
-use Rattle.texts.specs.Fault.{Fault}
-use Rattle.texts.proofs.Theorems.{Known}
-use Rattle.texts.proofs.Laws.Cut.{fault-whole}
-use Rattle.sheet.specs.Sheet.{points, triangles}
-use Rattle.sheet.proofs.Laws.Texts.{text-once, text-or-fault}
-use Rattle.sheet.proofs.Theorems.{longest, longest-met}
-use Rattle.intake.specs.Outcome.{ReadOutcome, Reads, deliver}
-use Rattle.scribe.specs.Outcome.{writes}
-use Rattle.scribe.proofs.Laws.Again.{written-whole}
-use Rattle.scribe.proofs.Theorems.{written-text, checks}
+use Rattle.base_answers.specs.Numbers.{refusing}
+use Rattle.base_answers.specs.declared.Answer.{Answer}
+use Rattle.base_answers.specs.declared.Answer.the-variants.{Done, Buffer, Unnamed, Line}
+use Rattle.base_limits.specs.Limits as limits
+use Rattle.surface_rules.specs.declared.Found.{Found}
+use Rattle.surface_rules.specs.declared.Found.the-variants.{At, Nothing}
+use Rattle.surface_rules.specs.Smallest.{least}
+use Rattle.surface_rules.specs.Refusals.{short, unnamed, refuseAt, thenCheck, bufferRefusal, unnamedRefusal}
+use Rattle.surface_rules.specs.Threes.{threes, flat}
+use Rattle.surface_rules.proofs.Laws.Thens.{Fitting, counts-fit, two-long}
+use Rattle.surface_rules.proofs.Laws.Over.{start-of}
+use Rattle.surface_rules.proofs.Laws.Sound.{next-of}
+use Rattle.surface_rules.proofs.Laws.Threes.{flat-threes}
+use Rattle.text_rules.specs.Fault.{Fault}
+use Rattle.text_rules.proofs.Theorems.{Known}
+use Rattle.text_rules.proofs.Laws.Cut.{fault-whole}
+use Rattle.text_sheet.specs.Sheet.{points, triangles}
+use Rattle.text_sheet.proofs.Laws.Texts.{text-once, text-or-fault}
+use Rattle.text_sheet.proofs.Theorems.{longest, longest-met}
+use Rattle.text_read.specs.Outcome.{ReadOutcome, Reads, deliver}
+use Rattle.text_write.specs.Outcome.{writes}
+use Rattle.text_write.proofs.Laws.Again.{written-whole}
+use Rattle.text_write.proofs.Theorems.{written-text, checks}
 use Rattle.demands.specs.Texts.{Words, readAll, wroteAll, TextsDemand}
 
 -- ---- handing over

@@ -7,25 +7,25 @@ use mathlib.Core.List.{List, [], _∷_, _++_}
 use Prim.Native.Nat.{ℕ, _+_, _/_, _<_}
 use lib.Dec.{eqb}
 use lib.ListN.{length}
-use Rattle.answers.specs.Numbers.{refusing}
-use Rattle.answers.specs.declared.Answer.{Answer}
-use Rattle.answers.specs.declared.Answer.the-variants.{Words, Corners, Buffer, Unnamed, Twice, Repeated, NotFinite, TooFar, States, Line}
-use Rattle.terms.specs.Counts.{threes}
-use Rattle.limits.specs.Limits as limits
-use Rattle.surface.specs.Edges.{twice, repeats}
-use Rattle.surface.specs.Refusals.{short, unnamed, notFinite, tooFar}
-use Rattle.surface.specs.Threes.{Three, flat}
-use Rattle.loops.specs.Loops.{loops}
-use Rattle.survey.specs.Outcome as survey
-use Rattle.patching.specs.Outcome as patcher
-use Rattle.trial.specs.Outcome.{Judges}
-use Rattle.texts.specs.Text.{TextOf}
-use Rattle.texts.specs.Fault.{Fault}
-use Rattle.sheet.specs.Sheet.{points, triangles, text}
-use Rattle.intake.specs.Outcome as intake
-use Rattle.sets.specs.Set as set
-use Rattle.sets.specs.Outcome as sets
-use Rattle.scribe.specs.Outcome.{writes}
+use Rattle.base_answers.specs.Numbers.{refusing}
+use Rattle.base_answers.specs.declared.Answer.{Answer}
+use Rattle.base_answers.specs.declared.Answer.the-variants.{Words, Corners, Buffer, Unnamed, Twice, Repeated, NotFinite, TooFar, States, Line}
+use Rattle.base_types.specs.Counts.{threes}
+use Rattle.base_limits.specs.Limits as limits
+use Rattle.surface_rules.specs.Edges.{twice, repeats}
+use Rattle.surface_rules.specs.Refusals.{short, unnamed, notFinite, tooFar}
+use Rattle.surface_rules.specs.Threes.{Three, flat}
+use Rattle.loop_rules.specs.Loops.{loops}
+use Rattle.survey_rules.specs.Outcome as survey
+use Rattle.patch_surface.specs.Outcome as patcher
+use Rattle.judge_surface.specs.Outcome.{Judges}
+use Rattle.text_rules.specs.Text.{TextOf}
+use Rattle.text_rules.specs.Fault.{Fault}
+use Rattle.text_sheet.specs.Sheet.{points, triangles, text}
+use Rattle.text_read.specs.Outcome as intake
+use Rattle.text_read_set.specs.Set as set
+use Rattle.text_read_set.specs.Outcome as sets
+use Rattle.text_write.specs.Outcome.{writes}
 
 -- ---- the table
 

@@ -6,8 +6,8 @@ use mathlib.Core.Logic.{_⊎_}
 use mathlib.Core.List.{List, [], _++_, flatten}
 use Prim.Native.Nat.{ℕ, _<_}
 use lib.ListN.{length, getD}
-use Rattle.surface.specs.Edges.{isOpen, startOf, endOf}
-use Rattle.bars.specs.Bars.{edge, between}
+use Rattle.surface_rules.specs.Edges.{isOpen, startOf, endOf}
+use Rattle.cover_bars.specs.Bars.{edge, between}
 use Rattle.demands.specs.Loops.{StandsAt}
 
 -- the surface and the patches of its loops, one after the other

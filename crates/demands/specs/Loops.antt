@@ -4,9 +4,9 @@ use mathlib.Core.Bool.{true}
 use mathlib.Core.List.{List, []}
 use Prim.Native.Nat.{ℕ, _*_, _<_, _≤_}
 use lib.ListN.{length, getD}
-use Rattle.surface.specs.Edges.{isOpen, startOf, endOf}
-use Rattle.loops.specs.Next.{next}
-use Rattle.loops.specs.Loops.{loops}
+use Rattle.surface_rules.specs.Edges.{isOpen, startOf, endOf}
+use Rattle.loop_rules.specs.Next.{next}
+use Rattle.loop_rules.specs.Loops.{loops}
 
 -- loop l of the surface, by its half-edges
 abbrev pub loopAt : List ℕ → ℕ → List ℕ

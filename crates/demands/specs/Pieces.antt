@@ -6,11 +6,11 @@ use mathlib.Core.List.{List}
 use Prim.Native.Nat.{ℕ, _/_, _<_}
 use lib.IntN.{ℤ}
 use lib.ListN.{length, getD}
-use Rattle.surface.specs.Edges.{isOpen}
-use Rattle.loops.specs.Loops.{loops}
-use Rattle.pieces.specs.Pieces.{triangleCount, Shares, Joined, Numbered}
-use Rattle.pieces.specs.Smallest.{pieceOf, pieceNumbers}
-use Rattle.rims.specs.Rims.{loopAt, runAt, pieceAt, isRim}
+use Rattle.surface_rules.specs.Edges.{isOpen}
+use Rattle.loop_rules.specs.Loops.{loops}
+use Rattle.rim_pieces.specs.Pieces.{triangleCount, Shares, Joined, Numbered}
+use Rattle.rim_pieces.specs.Computed.{pieceOf, pieceNumbers}
+use Rattle.rim_rules.specs.Rims.{loopAt, runAt, pieceAt, isRim}
 
 -- "groups of triangles joined through shared edges": to be joined is the least equivalence under which triangles that share an edge are together
 pub record GroupsDemand (corners : List ℕ) : Type 1 where

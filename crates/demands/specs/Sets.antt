@@ -6,18 +6,19 @@ use mathlib.Core.List.{List, [], _∷_, flatten}
 use Prim.Native.Nat.{ℕ, zero, suc, _+_, _*_, _<_, _≤_}
 use lib.IntN.{ℤ}
 use lib.ListN.{length, getD, take, drop}
-use Rattle.answers.specs.Numbers.{refusing}
-use Rattle.answers.specs.declared.Answer.the-variants.{Done}
-use Rattle.surface.specs.Refusals.{bufferRefusal, refusal}
-use Rattle.loops.specs.Loops.{loops}
-use Rattle.survey.specs.Grid.{gridOf}
-use Rattle.survey.specs.Outcome as survey
-use Rattle.rims.specs.Rims.{isRim}
-use Rattle.run.specs.Run.{ringList}
-use Rattle.verdicts.specs.Faults.{RightIf}
-use Rattle.verdicts.specs.Verdicts.{taken, parts}
-use Rattle.patching.specs.Outcome as patcher
-use Rattle.trial.specs.Outcome.{Judges}
+use Rattle.base_answers.specs.Numbers.{refusing}
+use Rattle.base_answers.specs.declared.Answer.the-variants.{Done}
+use Rattle.base_limits.specs.States as stated
+use Rattle.surface_rules.specs.Refusals.{bufferRefusal, refusal}
+use Rattle.loop_rules.specs.Loops.{loops}
+use Rattle.survey_grid.specs.Grid.{gridOf}
+use Rattle.survey_rules.specs.Outcome as survey
+use Rattle.rim_rules.specs.Rims.{isRim}
+use Rattle.fill_fates.specs.Course.{ringList}
+use Rattle.judge_rules.specs.Faults.{RightIf}
+use Rattle.judge_rules.specs.Verdicts.{taken, parts}
+use Rattle.patch_surface.specs.Outcome as patcher
+use Rattle.judge_surface.specs.Outcome.{Judges}
 use Rattle.demands.specs.Closing.{ClosingDemand, laidIn}
 
 -- ---- demand 3's condition
@@ -45,7 +46,7 @@ partsTaken corners states set = parts (ringList corners) states set
 
 -- "declared open or long", or a rim
 abbrev pub DeclaredOpen : ℕ → Type 0
-DeclaredOpen state = (state ≡ 2) ⊎ ((state ≡ 3) ⊎ (state ≡ 4))
+DeclaredOpen state = (state ≡ stated.long) ⊎ ((state ≡ stated.left-open) ⊎ (state ≡ stated.rim))
 
 pub record Closes (grid : List ℤ) (corners states set : List ℕ) : Type 0 where
   -- the loops take the whole set,
@@ -87,5 +88,5 @@ pub record PatcherDemand (words corners : List ℕ) (o : patcher.Outcome) : Type
   -- "Our own patcher's sets pass", whatever buffers the checker is lent, if they are long enough.
   pub passes : (b : survey.Buffers) (p : survey.Outcome) → bufferRefusal (survey.lent b) (survey.needs words corners) ≡ Done
       → Judges words corners (statesLeft o) (setLeft o) b p → p .answer ≡ Done
-  -- After the run:
+  -- After the course:
   pub closes : Closes (gridOf words) corners (statesLeft o) (setLeft o)

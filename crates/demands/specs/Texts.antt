@@ -3,15 +3,15 @@ use mathlib.Core.Path.{_≡_}
 use mathlib.Core.List.{List}
 use Prim.Native.Nat.{ℕ, suc, _^_, _<_, _≤_}
 use lib.ListN.{length, getD, take}
-use Rattle.answers.specs.declared.Answer.the-variants.{Done, Line}
-use Rattle.limits.specs.Limits as limits
-use Rattle.surface.specs.Buffers.{over}
-use Rattle.surface.specs.Threes.{Three}
-use Rattle.texts.specs.Text.{TextOf}
-use Rattle.texts.specs.Fault.{Fault}
-use Rattle.sheet.specs.Sheet.{points, triangles}
-use Rattle.intake.specs.Outcome.{ReadOutcome, Reads}
-use Rattle.scribe.specs.Outcome.{WriteOutcome, writes}
+use Rattle.base_answers.specs.declared.Answer.the-variants.{Done, Line}
+use Rattle.base_limits.specs.Limits as limits
+use Rattle.surface_rules.specs.Buffers.{over}
+use Rattle.surface_rules.specs.Threes.{Three}
+use Rattle.text_rules.specs.Text.{TextOf}
+use Rattle.text_rules.specs.Fault.{Fault}
+use Rattle.text_sheet.specs.Sheet.{points, triangles}
+use Rattle.text_read.specs.Outcome.{ReadOutcome, Reads}
+use Rattle.text_write.specs.Outcome.{WriteOutcome, writes}
 
 -- each word has 32 bits
 abbrev pub Words : List ℕ → Type 0

@@ -1,11 +1,12 @@
 // Reads a sheet text from standard input and a patch set from the file `patches`, judges the set, and prints the answer line.
+ghost use Rattle.base_types.specs.Lent.{left};
 ghost use Rattle.io.specs.Counts.{Counts};
-use answers::Answer;
+use base_answers::Answer;
+use base_types::PatchSet;
+use base_types::Surface;
 use libc::STDIN_FILENO;
 use libc::STDOUT_FILENO;
-use terms::PatchSet;
-use terms::Surface;
-use texts::Scan;
+use text_rules::Scan;
 
 // A byte more than the longest text of a set has, so that a longer one is seen to be longer; a sheet's text is shorter.
 const ROOM: usize = PatchSet::TEXT + 1;
@@ -16,16 +17,16 @@ fn main() {
     let mut words = [0u32; Surface::WORDS];
     let mut corners = [0u16; Surface::CORNERS];
     let n = io::read_full(STDIN_FILENO, &mut room);
-    let sheet: Scan = intake::take_in(&room[..n], &mut words, &mut corners);
+    let sheet: Scan = text_read::take_in(&room[..n], &mut words, &mut corners);
     let m = read_patches(&mut room);
-    let answer: Answer = arbiter::hear(sheet, &words, &corners, &room[..m]);
-    let bytes = report::put_answer(&mut room, answer);
+    let answer: Answer = program_judge::hear(sheet, &words, &corners, &room[..m]);
+    let bytes = program_lines::put_answer(&mut room, answer);
     io::write_all(STDOUT_FILENO, &room[..bytes]);
 }
 
 // Reads the file `patches`, which counts as empty where it is missing.
 fn read_patches(room: &mut [u8]) -> usize
-    ensures { λ r. ⌜ Counts r (now (room .exit)) ⌝ }
+    ensures { λ r. ⌜ Counts r (left room) ⌝ }
 {
     let file = os::open_read(b"patches");
     if file < 0 {

@@ -1,12 +1,12 @@
 // Reads a sheet text from standard input and prints its loops and their patches, or an answer line.
 ghost use Prim.Native.Nat.{_≤_};
 ghost use lib.ListN.{length};
-ghost use Rattle.roll.specs.Workings.Listed.{Listed};
-use answers::Answer;
+ghost use Rattle.program_roll.specs.Workings.Listed.{Listed};
+use base_answers::Answer;
+use base_types::PatchSet;
+use base_types::Surface;
 use libc::STDIN_FILENO;
 use libc::STDOUT_FILENO;
-use terms::PatchSet;
-use terms::Surface;
 
 // A byte more than the longest text has, so that a longer one is seen to be longer. What is printed takes the same room.
 const ROOM: usize = Surface::TEXT + 1;
@@ -28,7 +28,7 @@ fn list(room: &mut [u8], n: usize)
     let mut states = [0u16; Surface::TRIANGLES];
     let mut weights = [0u64; Surface::TRIANGLES];
     let mut patches = [0u16; PatchSet::CORNERS];
-    let listed = lister::list(
+    let listed = program_list::list(
         &room[..n],
         &mut grid,
         &mut rings,
@@ -50,7 +50,7 @@ fn list(room: &mut [u8], n: usize)
     );
 }
 
-// Prints the answer and the loops, piece by piece.
+// Prints the answer and the loops, section by section.
 fn print(
     room: &mut [u8],
     answer: Answer,
@@ -64,12 +64,21 @@ fn print(
     requires { do most ← ⟦ROOM⟧; ⌜ most ≤ length (now room) ⌝ }
     requires { ⌜ Listed (now rings) (now lengths) (now states) (now weights) (now patches) loops ⌝ }
 {
-    let mut mark = roll::begin(room, answer, loops);
+    let mut progress = program_roll::begin(room, answer, loops);
     let mut going = true;
     while going {
-        mark = roll::fill(room, mark, loops, rings, lengths, states, weights, patches);
-        let n = mark.bytes;
-        going = io::write_all(STDOUT_FILENO, &room[..n]) && mark.loops < loops;
-        mark.bytes = 0;
+        progress = program_roll::fill(
+            room,
+            progress,
+            loops,
+            rings,
+            lengths,
+            states,
+            weights,
+            patches,
+        );
+        let n = progress.bytes;
+        going = io::write_all(STDOUT_FILENO, &room[..n]) && progress.loops < loops;
+        progress.bytes = 0;
     }
 }

@@ -1,7 +1,7 @@
 // Reads a sheet text from standard input and prints it written again, or an answer line.
+use base_types::Surface;
 use libc::STDIN_FILENO;
 use libc::STDOUT_FILENO;
-use terms::Surface;
 
 // A byte more than the longest text has, so that a longer one is seen to be longer.
 const ROOM: usize = Surface::TEXT + 1;
@@ -9,6 +9,6 @@ const ROOM: usize = Surface::TEXT + 1;
 fn main() {
     let mut room = [0u8; ROOM];
     let n = io::read_full(STDIN_FILENO, &mut room);
-    let bytes = copyist::rewrite(&mut room, n);
+    let bytes = program_rewrite::rewrite(&mut room, n);
     io::write_all(STDOUT_FILENO, &room[..bytes]);
 }

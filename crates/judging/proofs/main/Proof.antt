@@ -3,7 +3,7 @@ use mathlib.Core.Path.{sym}
 use native.Mathlib.Omega.{arith}
 use lib.Seq.{length-take-le}
 use borrow.Author.Needs.{needs}
-use Rattle.sheet.proofs.Laws.Rooms.{long-words, long-corners}
+use Rattle.text_sheet.proofs.Laws.Rooms.{long-words, long-corners}
 use Rattle.judging.proofs.main.Statement.{statement}
 use Rattle.judging.proofs.main.Tie as tie
 

@@ -1,4 +1,4 @@
--- Printing piece by piece ends: each piece has a loop more, or it is the last.
+-- Printing section by section ends: each section has a loop more, or it is the last.
 use mathlib.Core.Path.{_≡_, refl}
 use mathlib.Core.Bool.{Bool, true, false, cond}
 use Prim.Native.Nat.{ℕ, _+_, _-_, _<_, _≤_}

@@ -2,10 +2,10 @@
 use borrow.Author.Needs.{needs}
 use lib.IntN.{pos}
 use lib.ListN.{replicate, take}
-use Rattle.limits.specs.Limits as limits
-use Rattle.surface.proofs.Laws.Lists.{as-long}
-use Rattle.patching.specs.Outcome.{Buffers, buffers, outcome}
-use Rattle.lister.proofs.Laws.Left.{LeftListed, lists-listed}
+use Rattle.base_limits.specs.Limits as limits
+use Rattle.surface_rules.proofs.Laws.Lists.{as-long}
+use Rattle.patch_surface.specs.Outcome.{Buffers, buffers, outcome}
+use Rattle.program_list.proofs.Laws.Left.{LeftListed, lists-listed}
 use Rattle.listing.proofs.list.Statement.{statement}
 use Rattle.listing.proofs.list.Tie as tie
 

@@ -1,11 +1,11 @@
--- `print`: from piece to piece there is room for the widest loop's lines, and what was put lies within the room.
+-- `print`: from section to section there is room for the widest loop's lines, and what was put lies within the room.
 use mathlib.Core.Path.{_≡_, refl, _∙_}
 use Prim.Native.Nat.{_+_, _≤_}
 use lib.ListN.{length}
-use Rattle.surface.proofs.Laws.Lists.{as-long}
-use Rattle.report.proofs.Laws.Widths.{widest}
-use Rattle.roll.specs.Workings.Roll.{Going}
-use Rattle.roll.proofs.Laws.Going.{going-begins, going-emptied, going-on, going-within, going-from, going-further}
+use Rattle.surface_rules.proofs.Laws.Lists.{as-long}
+use Rattle.program_lines.proofs.Laws.Widths.{widest}
+use Rattle.program_roll.specs.Workings.Roll.{Going}
+use Rattle.program_roll.proofs.Laws.Going.{going-begins, going-emptied, going-on, going-within, going-from, going-further}
 use Rattle.listing.proofs.Laws.Ends.{left, last-less, more-less}
 use borrow.Author.Needs.{needs}
 use native.Mathlib.Omega.{arith}
@@ -13,10 +13,10 @@ use Rattle.listing.proofs.print.Statement.{statement}
 use Rattle.listing.proofs.print.Tie as tie
 
 abbrev Inv-loop : tie.InvT-loop
-Inv-loop room₀ loops rings lengths states weights patches mark₀ going₀ room mark going = (length room ≡ length room₀) × (mark .bytes + widest ≤ length room) × Going rings lengths states weights patches loops mark
+Inv-loop room₀ loops rings lengths states weights patches mark₀ going₀ room progress going = (length room ≡ length room₀) × (progress .bytes + widest ≤ length room) × Going rings lengths states weights patches loops progress
 
 abbrev μ-loop : tie.MeasureT-loop
-μ-loop room₀ loops rings lengths states weights patches mark₀ going₀ room mark going = left loops (mark .loops) going
+μ-loop room₀ loops rings lengths states weights patches mark₀ going₀ room progress going = left loops (progress .loops) going
 
 begin-requires : tie.Need-begin-requires Inv-loop μ-loop
 begin-requires c κs = search needs

@@ -1,24 +1,24 @@
--- From the checks and the finder to what a survey answers and leaves.
+-- From the checks and the listing to what a survey answers and leaves.
 use mathlib.Core.Path.{_≡_}
 use mathlib.Core.Bool.{true}
 use mathlib.Core.List.{List, []}
 use Prim.Native.Nat.{ℕ}
 use lib.IntN.{ℤ}
 use lib.ListN.{length}
-use Rattle.answers.specs.Numbers.{refusing}
-use Rattle.answers.specs.declared.Answer.{Answer}
-use Rattle.answers.specs.declared.Answer.the-variants.{Done}
-use Rattle.surface.specs.Buffers.{over}
-use Rattle.surface.specs.Refusals.{countRefusal, refusal}
-use Rattle.surface.proofs.Laws.Deciding.{count-decides, content-decides}
-use Rattle.loops.specs.Loops.{loops}
-use Rattle.cutting.specs.Listing.{ListsLoops}
-use Rattle.cutting.specs.declared.Listed.{Listed}
-use Rattle.survey.specs.Grid.{gridOf}
-use Rattle.survey.specs.Workings.Checks.{Checked}
-use Rattle.survey.specs.Outcome.{Buffers, outcome, buffers, needs, lent, surveyOf}
-use Rattle.survey.specs.declared.Surveyed.{Surveyed}
-use Rattle.survey.proofs.Laws.Known.{Known}
+use Rattle.base_answers.specs.Numbers.{refusing}
+use Rattle.base_answers.specs.declared.Answer.{Answer}
+use Rattle.base_answers.specs.declared.Answer.the-variants.{Done}
+use Rattle.surface_rules.specs.Buffers.{over}
+use Rattle.surface_rules.specs.Refusals.{countRefusal, refusal}
+use Rattle.surface_rules.proofs.Laws.Deciding.{count-decides, content-decides}
+use Rattle.loop_rules.specs.Loops.{loops}
+use Rattle.loop_cut.specs.Listing.{ListsLoops}
+use Rattle.loop_cut.specs.declared.Listed.{Listed}
+use Rattle.survey_grid.specs.Grid.{gridOf}
+use Rattle.check_surface.specs.Workings.Checks.{Checked}
+use Rattle.survey_rules.specs.Outcome.{Buffers, outcome, buffers, needs, lent, surveyOf}
+use Rattle.survey_rules.specs.declared.Surveyed.{Surveyed}
+use Rattle.survey_rules.proofs.Laws.Known.{Known}
 
 -- a refusal as the code makes it
 abbrev pub Refuses : Surveyed → Answer → Type 0

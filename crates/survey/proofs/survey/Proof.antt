@@ -4,11 +4,12 @@ use mathlib.Core.List.{[]}
 use native.Mathlib.Nat.{le-trans}
 use lib.Dec.{lit≤}
 use lib.ListN.{length}
-use Rattle.answers.specs.declared.Answer.the-variants.{Done}
-use Rattle.surface.specs.Refusals.{countRefusal}
-use Rattle.surface.proofs.Laws.Deciding.{counts-pass}
-use Rattle.survey.specs.Outcome.{Buffers, buffers}
-use Rattle.survey.proofs.Laws.Known.{Known, known, enough, grid-ready, ready}
+use Rattle.base_answers.specs.declared.Answer.the-variants.{Done}
+use Rattle.surface_rules.specs.Refusals.{countRefusal}
+use Rattle.surface_rules.proofs.Laws.Thens.{counts-fit}
+use Rattle.surface_rules.proofs.Laws.Deciding.{counts-pass}
+use Rattle.survey_rules.specs.Outcome.{Buffers, buffers}
+use Rattle.survey_rules.proofs.Laws.Known.{Known, known, enough, grid-ready, ready}
 use Rattle.survey.proofs.Laws.Surveying.{counts-refuse, content-refuse, done-is}
 use borrow.Author.Needs.{needs}
 use Rattle.survey.proofs.survey.Statement.{statement}
@@ -47,7 +48,7 @@ slice-aggregate-check-3 : tie.Need-slice-aggregate-check-3
 slice-aggregate-check-3 c = search needs
 
 check-requires : tie.Need-check-requires
-check-requires c κs = record { counts = counts-here (c .before .before .before); long = lit≤ tt }
+check-requires c κs = let e = counts-here (c .before .before .before) in record { counts = e; long = le-trans (counts-fit _ _ e .few-corners) (lit≤ tt) }
 
 refuses-requires-2 : tie.Need-refuses-requires-2
 refuses-requires-2 c κs = search needs

@@ -1,0 +1,50 @@
+-- Figures of the scope that follow from the limits. They hold at these limits and at no others, so none can be moved unseen.
+use Prim.Native.Nat.{_-_, _*_, _/_}
+use mathlib.Core.Path.{_≡_, refl}
+use Rattle.base_limits.specs.States as state
+use Rattle.base_limits.specs.Limits.{points, triangles, words, corners, states, patches, set-corners, greatest, longest, sheet-text, set-text}
+
+-- three words a point and three corners a triangle
+pub words-are : words ≡ 3 * points
+words-are = refl
+
+pub corners-are : corners ≡ 3 * triangles
+corners-are = refl
+
+-- A patch set has room for a state of each loop, and for a triangle for each open edge.
+pub states-are : states ≡ triangles
+states-are = refl
+
+pub patches-are : patches ≡ corners
+patches-are = refl
+
+pub set-corners-are : set-corners ≡ 9 * triangles
+set-corners-are = refl
+
+-- The longest texts.
+pub longest-text : sheet-text ≡ 47131
+longest-text = refl
+
+pub longest-set : set-text ≡ 56347
+longest-set = refl
+
+-- The greatest weight that is promised: three components, each the difference of two products of differences.
+pub greatest-weight : 3 * (2 * (2 * greatest * (2 * greatest))) ≡ 25768230936
+greatest-weight = refl
+
+-- The pairs of positions in the longest loop that is patched.
+pub pairs : longest * (longest - 1) / 2 ≡ 2016
+pairs = refl
+
+-- The numbers of the states.
+pub patched-is : state.patched ≡ 1
+patched-is = refl
+
+pub long-is : state.long ≡ 2
+long-is = refl
+
+pub open-is : state.left-open ≡ 3
+open-is = refl
+
+pub rim-is : state.rim ≡ 4
+rim-is = refl

@@ -1,0 +1,50 @@
+-- The limits that the types of `base_types` state, for the definitions of every crate above. No number stands here.
+use Prim.Native.Nat.{ℕ, _+_, _*_}
+use Rattle.base_types.proofs.Surface.takes_points.⟦Self·POINTS⟧-asked.Lts as for-points
+use Rattle.base_types.proofs.Surface.takes_triangles.⟦Self·TRIANGLES⟧-asked.Lts as for-triangles
+use Rattle.base_types.proofs.Surface.takes_words.⟦Self·WORDS⟧-asked.Lts as for-words
+use Rattle.base_types.proofs.Surface.takes_corners.⟦Self·CORNERS⟧-asked.Lts as for-corners
+use Rattle.base_types.proofs.PatchSet.takes_states.⟦Self·STATES⟧-asked.Lts as for-states
+use Rattle.base_types.proofs.PatchSet.takes_triangles.⟦Self·TRIANGLES⟧-asked.Lts as for-patches
+use Rattle.base_types.proofs.PatchSet.takes_corners.⟦Self·CORNERS⟧-asked.Lts as for-set
+use Rattle.base_types.proofs.Grid.holds.⟦Self·GREATEST⟧-asked.Lts as for-grid
+use Rattle.base_types.proofs.Loop.is_long.⟦Self·LONGEST⟧-asked.Lts as for-loop
+
+-- how many points and triangles a surface has at most, and how many words and corners those have
+abbrev pub points : ℕ
+points = for-points.answer tt tt
+
+abbrev pub triangles : ℕ
+triangles = for-triangles.answer tt tt
+
+abbrev pub words : ℕ
+words = for-words.answer tt tt
+
+abbrev pub corners : ℕ
+corners = for-corners.answer tt tt
+
+-- how many states and triangles a patch set has at most, and how many corners those have
+abbrev pub states : ℕ
+states = for-states.answer tt tt
+
+abbrev pub patches : ℕ
+patches = for-patches.answer tt tt
+
+abbrev pub set-corners : ℕ
+set-corners = for-set.answer tt tt
+
+-- how far from 0 the grid reaches
+abbrev pub greatest : ℕ
+greatest = for-grid.answer tt tt
+
+-- how many edges a loop has at most that is not long
+abbrev pub longest : ℕ
+longest = for-loop.answer tt tt
+
+-- how many bytes the longest sheet text has and the longest text of a patch set: two counts of four digits, 29 bytes a point or 4 a state,
+-- and 17 a triangle with corners of four digits
+abbrev pub sheet-text : ℕ
+sheet-text = 12 + 29 * points + (15 + 17 * triangles)
+
+abbrev pub set-text : ℕ
+set-text = 12 + 4 * states + (15 + 17 * patches)

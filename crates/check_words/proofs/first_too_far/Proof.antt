@@ -1,0 +1,52 @@
+-- `first_too_far` looks from the start, and nothing is found before what it answers.
+use Prim.Native.Nat.{_≤_, _-_}
+use mathlib.Core.Path.{_≡_, sym, ap, _∙_}
+use lib.ListN.{length}
+use Rattle.surface_rules.specs.declared.Found.the-variants.{Nothing}
+use Rattle.surface_rules.specs.Smallest.{least}
+use Rattle.surface_rules.specs.Refusals.{tooFar}
+use Rattle.surface_rules.proofs.Laws.Smallest.{least-none, least-more, least-at}
+use borrow.Author.Needs.{needs}
+use Rattle.check_words.proofs.first_too_far.Statement.{statement}
+use Rattle.check_words.proofs.first_too_far.Tie as tie
+
+abbrev Inv-loop : tie.InvT-loop
+Inv-loop words i₀ i = (i ≤ length words) × (least (tooFar words) i ≡ Nothing)
+
+abbrev μ-loop : tie.MeasureT-loop
+μ-loop words i₀ i = length words - i
+
+loop-holds : tie.Need-loop-holds Inv-loop μ-loop
+loop-holds c = (search needs, least-none _)
+
+is-too-far-requires : tie.Need-is-too-far-requires Inv-loop μ-loop
+is-too-far-requires c κs = search needs
+
+returns : tie.Need-returns Inv-loop μ-loop
+returns c = sym (least-at _ _ _ (c .before .before .before .loop .inv .1) (sym (c .before .is-too-far .ensures) ∙ c .if1 .taken) (search needs))
+
+add-i : tie.Need-add-i Inv-loop μ-loop
+add-i c = search needs
+
+loop-less : tie.Need-loop-less Inv-loop μ-loop
+loop-less c = search needs
+
+loop-again : tie.Need-loop-again Inv-loop μ-loop
+loop-again c = (search needs, least-more _ _ (c .before .before .before .loop .inv .1) (sym (c .before .is-too-far .ensures) ∙ c .if1 .left))
+
+returns-2 : tie.Need-returns-2 Inv-loop μ-loop
+returns-2 c = sym (ap (least _) (search needs) ∙ c .before .loop .inv .1)
+
+pub first-too-far-spec : {M : Type 1} → statement M
+first-too-far-spec =
+    tie.close
+    (tie.spec
+    Inv-loop
+    μ-loop
+    loop-holds
+    is-too-far-requires
+    returns
+    add-i
+    loop-less
+    loop-again
+    returns-2)

@@ -1,0 +1,155 @@
+-- The loops that write a column or a row, place by place.
+use mathlib.Core.Path.{_≡_, refl, sym, ap, _∙_, subst}
+use mathlib.Core.Bool.{true, false}
+use mathlib.Core.List.{List}
+use Prim.Native.Nat.{ℕ, _+_, _-_, _*_, _/_, _≤_, _<_, zero-le}
+use native.Mathlib.Nat.{le-refl}
+use native.Mathlib.Omega.{arith}
+use lib.ListN.{length, set, length-set}
+use lib.Seq.{getD-set-same, getD-set-other}
+use borrow.Author.Count.{below-more}
+use lib.Ieee.{Float, nan, binary64, add, lt}
+use Rattle.base_limits.specs.Limits.{longest}
+use Rattle.cover_floats.specs.Workings.Whole.{sizeOf}
+use Rattle.cover_column.specs.Workings.Columns.{cell, lesserOf, Long, pairs, farFloat, noughtFloat, productOf, ProductsRoom, Multiplied, gapOf, byWay, WayRoom, RelaxRoom, Relaxed}
+
+pub lesser-first : (a b : Float) → lt a b ≡ true → a ≡ lesserOf a b
+unfolding lesserOf
+lesser-first a b e = rw e refl
+
+pub lesser-second : (a b : Float) → lt a b ≡ false → b ≡ lesserOf a b
+unfolding lesserOf
+lesser-second a b e = rw e refl
+
+-- one place more
+pub cells-more : (P : ℕ → Float → Type 0) (l : List Float) (i : ℕ) (v : Float) → i < length l → ((j : ℕ) → j < i → P j (cell l j)) → P i v
+    → (j : ℕ) → j < i + 1 → P j (cell (set l i v) j)
+cells-more P l i v h all here =
+    below-more (λ j. P j (cell (set l i v) j)) i
+    (λ j g. subst (P j) (sym (getD-set-other l i j v nan (λ e. absurd (omega arith)))) (all j g))
+    (subst (P i) (sym (getD-set-same l i v nan h)) here)
+
+-- ---- the products
+
+pub record Multiplying (k : ℕ) (px py pz : List Float) (i : ℕ) (xs ys zs column : List Float) : Type 0 where
+  pub x : (j : ℕ) → j < i → cell xs j ≡ productOf (cell py j) (cell pz j) (cell py k) (cell pz k)
+  pub y : (j : ℕ) → j < i → cell ys j ≡ productOf (cell pz j) (cell px j) (cell pz k) (cell px k)
+  pub z : (j : ℕ) → j < i → cell zs j ≡ productOf (cell px j) (cell py j) (cell px k) (cell py k)
+  pub unknown : (j : ℕ) → j < i → cell column j ≡ farFloat
+  pub most : i ≤ k
+  pub xs-long : Long xs
+  pub ys-long : Long ys
+  pub zs-long : Long zs
+  pub column-long : Long column
+
+module _ (k : ℕ) (px py pz : List Float) where
+  pub multiplying-begins : (xs ys zs column : List Float) → ProductsRoom k px py pz xs ys zs column → Multiplying k px py pz 0 xs ys zs column
+  multiplying-begins xs ys zs column r = record {
+    x = λ j h. absurd (omega arith);
+    y = λ j h. absurd (omega arith);
+    z = λ j h. absurd (omega arith);
+    unknown = λ j h. absurd (omega arith);
+    most = zero-le;
+    xs-long = r .xs-long;
+    ys-long = r .ys-long;
+    zs-long = r .zs-long;
+    column-long = r .column-long;
+  }
+
+  pub multiplying-more : (i : ℕ) (xs ys zs column : List Float) → i < k → k < longest → Multiplying k px py pz i xs ys zs column
+      → Multiplying k px py pz (i + 1)
+      (set xs i (productOf (cell py i) (cell pz i) (cell py k) (cell pz k)))
+      (set ys i (productOf (cell pz i) (cell px i) (cell pz k) (cell px k)))
+      (set zs i (productOf (cell px i) (cell py i) (cell px k) (cell py k)))
+      (set column i farFloat)
+  multiplying-more i xs ys zs column h s p =
+      let lx : length xs ≡ longest = p .xs-long in
+      let ly : length ys ≡ longest = p .ys-long in
+      let lz : length zs ≡ longest = p .zs-long in
+      let lc : length column ≡ longest = p .column-long in
+      record {
+        x = cells-more (λ j v. v ≡ productOf (cell py j) (cell pz j) (cell py k) (cell pz k)) xs i _ (omega arith) (p .x) refl;
+        y = cells-more (λ j v. v ≡ productOf (cell pz j) (cell px j) (cell pz k) (cell px k)) ys i _ (omega arith) (p .y) refl;
+        z = cells-more (λ j v. v ≡ productOf (cell px j) (cell py j) (cell px k) (cell py k)) zs i _ (omega arith) (p .z) refl;
+        unknown = cells-more (λ j v. v ≡ farFloat) column i _ (omega arith) (p .unknown) refl;
+        most = omega arith;
+        xs-long = length-set xs i _ ∙ p .xs-long;
+        ys-long = length-set ys i _ ∙ p .ys-long;
+        zs-long = length-set zs i _ ∙ p .zs-long;
+        column-long = length-set column i _ ∙ p .column-long;
+      }
+
+  pub multiplied : (i : ℕ) (xs ys zs column : List Float) → 0 < k → k < longest → i ≡ k → Multiplying k px py pz i xs ys zs column
+      → Multiplied k px py pz xs ys zs (set column (k - 1) noughtFloat)
+  multiplied i xs ys zs column h s e p =
+      let lc : length column ≡ longest = p .column-long in
+      record {
+        x = λ j g. p .x j (omega arith);
+        y = λ j g. p .y j (omega arith);
+        z = λ j g. p .z j (omega arith);
+        unknown = λ j g. getD-set-other column (k - 1) j noughtFloat nan (λ f. absurd (omega arith)) ∙ p .unknown j (omega arith);
+        side = getD-set-same column (k - 1) noughtFloat nan (omega arith);
+      }
+
+-- ---- the steps of a column
+
+module _ (table : List Float) (at m : ℕ) (v : Float) (xs ys zs : List Float) (i : ℕ) where
+  pub way-is : (a b c : Float) → a ≡ sizeOf (gapOf table (at + i) xs m i) → b ≡ sizeOf (gapOf table (pairs + at + i) ys m i)
+      → c ≡ sizeOf (gapOf table (2 * pairs + at + i) zs m i)
+      → add binary64 (add binary64 (add binary64 (add binary64 (cell table (3 * pairs + at + i)) v) a) b) c ≡ byWay table at m v xs ys zs i
+  unfolding byWay
+  way-is a b c e f g = rw (e, f, g)
+
+pub record Relaxing (table : List Float) (at m : ℕ) (v : Float) (xs ys zs column₀ : List Float) (i : ℕ) (column : List Float) : Type 0 where
+  pub done : (j : ℕ) → j < i → cell column j ≡ lesserOf (byWay table at m v xs ys zs j) (cell column₀ j)
+  pub most : i ≤ 2 * ((m + 1) / 2)
+  pub ahead : (j : ℕ) → i ≤ j → cell column j ≡ cell column₀ j
+  pub long : Long column
+
+-- an even number of places, of which only the last can be m
+pub end-most : (m i : ℕ) → i < 2 * ((m + 1) / 2) → i ≤ m
+end-most m i h = omega arith
+
+pub end-least : (m j : ℕ) → j < m → j < 2 * ((m + 1) / 2)
+end-least m j h = omega arith
+
+pub way-room : (table : List Float) (at m : ℕ) (xs ys zs column : List Float) → RelaxRoom table at m xs ys zs column → (i : ℕ) → i < 2 * ((m + 1) / 2) → WayRoom table at m xs ys zs i
+way-room table at m xs ys zs column r i h =
+    let l : i ≤ m = end-most m i h in
+    let a : at + m < pairs = r .inside in
+    let b : m < longest = r .short in
+    record {
+      inside = omega arith;
+      low = omega arith;
+      short = r .short;
+      table-long = r .table-long;
+      xs-long = r .xs-long;
+      ys-long = r .ys-long;
+      zs-long = r .zs-long;
+      sizable = r .sizable i l;
+    }
+
+module _ (table : List Float) (at m : ℕ) (v : Float) (xs ys zs column₀ : List Float) (r : RelaxRoom table at m xs ys zs column₀) where
+  pub relaxing-begins : Relaxing table at m v xs ys zs column₀ 0 column₀
+  relaxing-begins = record { most = zero-le; done = λ j h. absurd (omega arith); ahead = λ j h. refl; long = r .column-long }
+
+  pub relaxing-in : (i : ℕ) (column : List Float) → i < 2 * ((m + 1) / 2) → Relaxing table at m v xs ys zs column₀ i column → i < length column
+  relaxing-in i column h p =
+      let l : i ≤ m = end-most m i h in
+      let b : m < longest = r .short in
+      let c : length column ≡ longest = p .long in
+      omega arith
+
+  pub relaxing-more : (i : ℕ) (column : List Float) (s w : Float) → i < 2 * ((m + 1) / 2) → Relaxing table at m v xs ys zs column₀ i column
+      → s ≡ byWay table at m v xs ys zs i → w ≡ lesserOf s (cell column i) → Relaxing table at m v xs ys zs column₀ (i + 1) (set column i w)
+  relaxing-more i column s w h p e f = record {
+    done =
+        cells-more (λ j u. u ≡ lesserOf (byWay table at m v xs ys zs j) (cell column₀ j)) column i w (relaxing-in i column h p) (p .done)
+        (f ∙ ap (λ (x : Float). lesserOf x (cell column i)) e ∙ ap (λ (x : Float). lesserOf (byWay table at m v xs ys zs i) x) (p .ahead i (le-refl i)));
+    most = omega arith;
+    ahead = λ j g. getD-set-other column i j w nan (λ q. absurd (omega arith)) ∙ p .ahead j (omega arith);
+    long = length-set column i w ∙ p .long;
+  }
+
+  pub relaxed : (i : ℕ) (column : List Float) → i ≡ 2 * ((m + 1) / 2) → Relaxing table at m v xs ys zs column₀ i column → Relaxed table at m v xs ys zs column₀ column
+  relaxed i column e p j h = p .done j (subst (λ (x : ℕ). j < x) (sym e) (end-least m j h))

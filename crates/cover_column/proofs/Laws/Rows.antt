@@ -1,0 +1,44 @@
+-- Where the rows of the table begin: one after the other, each as long as its number, so that no two stretches share a place.
+use mathlib.Core.Path.{_≡_, refl, ap, _∙_, subst}
+use mathlib.Core.Logic.{_⊎_, inl, inr}
+use Prim.Native.Nat.{ℕ, zero, suc, _+_, _-_, _*_, _/_, _≤_, _<_, zero-le}
+use native.Mathlib.Nat.{suc-mul, mul-suc, mul-le-mul, add-mul-div-right, eq-or-lt-of-le, le-of-suc-le-suc, zero-lt-suc}
+use native.Mathlib.Omega.{arith}
+use Rattle.base_limits.specs.Limits.{longest}
+use Rattle.cover_column.specs.Workings.Columns.{row, pairs}
+
+-- a number is no greater than its square
+pub at-most-square : (k : ℕ) → k ≤ k * k
+at-most-square zero = zero-le
+at-most-square (suc k) = let e : suc k * suc k ≡ k * suc k + suc k = suc-mul k (suc k) in omega arith
+
+pub square-most : (k : ℕ) → k ≤ longest → k * k ≤ longest * longest
+square-most k h = mul-le-mul h h
+
+-- row k + 1 begins where row k ends
+pub row-next : (k : ℕ) → row (suc k) ≡ row k + k
+unfolding row
+row-next k = ap (λ (x : ℕ). x / 2) grown ∙ add-mul-div-right (k * k - k) k (zero-lt-suc 1)
+  where
+    grown : suc k * suc k - suc k ≡ k * k - k + k * 2
+    grown =
+        let e : suc k * suc k ≡ k * suc k + suc k = suc-mul k (suc k) in
+        let f : k * suc k ≡ k * k + k = mul-suc k k in
+        let g : k ≤ k * k = at-most-square k in
+        omega arith
+
+pub row-more : (j k : ℕ) → j < k → row j + j ≤ row k
+row-more j zero h = absurd (omega arith)
+row-more j (suc k) h = go (eq-or-lt-of-le (le-of-suc-le-suc h)) (row-more j k)
+  where
+    go : (j ≡ k) ⊎ (j < k) → (j < k → row j + j ≤ row k) → row j + j ≤ row (suc k)
+    go (inl e) r = let f : row (suc k) ≡ row k + k = row-next k in rw e (omega arith)
+    go (inr l) r = let f : row (suc k) ≡ row k + k = row-next k in let g : row j + j ≤ row k = r l in omega arith
+
+row-all : row longest ≡ pairs
+unfolding row
+row-all = refl
+
+-- a stretch's place lies within a part
+pub row-inside : (k : ℕ) → k < longest → row k + k ≤ pairs
+row-inside k h = subst (λ (x : ℕ). row k + k ≤ x) row-all (row-more k longest h)

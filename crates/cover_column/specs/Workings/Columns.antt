@@ -1,0 +1,135 @@
+-- What the code computes, float by float.
+use mathlib.Core.Path.{_≡_}
+use mathlib.Core.Bool.{cond}
+use mathlib.Core.List.{List}
+use Prim.Native.Nat.{ℕ, suc, _+_, _*_, _-_, _/_, _<_, _≤_}
+use lib.ListN.{length, getD}
+use lib.IntN.{ℤ}
+use lib.Ieee.{Float, nan, binary64, ofBits, add, sub, mul, lt}
+use Rattle.base_limits.specs.Limits as limits
+use Rattle.cover_floats.specs.Workings.Whole.{Whole, sizeOf}
+
+-- element i of an array of floats
+abbrev pub cell : List Float → ℕ → Float
+cell floats i = getD floats i nan
+
+-- the floats that stand for "no allowed cover" and for no weight
+abbrev pub farFloat : Float
+farFloat = ofBits binary64 0x4310_0000_0000_0000
+
+abbrev pub noughtFloat : Float
+noughtFloat = ofBits binary64 0
+
+-- the lesser of the two
+unfoldable pub lesserOf : Float → Float → Float
+lesserOf a b = cond (lt a b) a b
+
+-- an array for the positions of a loop
+abbrev pub Long : List Float → Type 0
+Long floats = length floats ≡ limits.longest
+
+-- ---- places of the table
+
+-- where row k begins, that of the stretches i..k
+unfoldable pub row : ℕ → ℕ
+row k = (k * k - k) / 2
+
+-- how many stretches a loop has at most: each of the table's four parts has a place for every one
+abbrev pub pairs : ℕ
+pairs = limits.longest * (limits.longest - 1) / 2
+
+abbrev pub Table : List Float → Type 0
+Table table = length table ≡ 4 * pairs
+
+-- ---- the products of a column
+
+unfoldable pub productOf : Float → Float → Float → Float → Float
+productOf a b c d = sub binary64 (mul binary64 a d) (mul binary64 b c)
+
+pub record ProductsRoom (k : ℕ) (px py pz xs ys zs column : List Float) : Type 0 where
+  pub some : 0 < k
+  pub short : k < limits.longest
+  pub px-long : Long px
+  pub py-long : Long py
+  pub pz-long : Long pz
+  pub xs-long : Long xs
+  pub ys-long : Long ys
+  pub zs-long : Long zs
+  pub column-long : Long column
+
+-- the products of k with each position before it, and of the stretches ..k only the side has a weight yet
+pub record Multiplied (k : ℕ) (px py pz xs ys zs column : List Float) : Type 0 where
+  pub x : (i : ℕ) → i < k → cell xs i ≡ productOf (cell py i) (cell pz i) (cell py k) (cell pz k)
+  pub y : (i : ℕ) → i < k → cell ys i ≡ productOf (cell pz i) (cell px i) (cell pz k) (cell px k)
+  pub z : (i : ℕ) → i < k → cell zs i ≡ productOf (cell px i) (cell py i) (cell px k) (cell py k)
+  pub unknown : (i : ℕ) → suc i < k → cell column i ≡ farFloat
+  pub side : cell column (k - 1) ≡ noughtFloat
+
+pub record CopyRoom (k : ℕ) (xs ys zs table : List Float) : Type 0 where
+  pub some : 0 < k
+  pub short : k < limits.longest
+  pub xs-long : Long xs
+  pub ys-long : Long ys
+  pub zs-long : Long zs
+  pub table-long : Table table
+
+-- row k of the first three parts has the products; the rows below it and the fourth part are as they were
+pub record Copied (k : ℕ) (xs ys zs table table′ : List Float) : Type 0 where
+  pub x : (i : ℕ) → i < k → cell table′ (row k + i) ≡ cell xs i
+  pub y : (i : ℕ) → i < k → cell table′ (pairs + row k + i) ≡ cell ys i
+  pub z : (i : ℕ) → i < k → cell table′ (2 * pairs + row k + i) ≡ cell zs i
+  pub x-below : (q : ℕ) → q < row k → cell table′ q ≡ cell table q
+  pub y-below : (q : ℕ) → q < row k → cell table′ (pairs + q) ≡ cell table (pairs + q)
+  pub z-below : (q : ℕ) → q < row k → cell table′ (2 * pairs + q) ≡ cell table (2 * pairs + q)
+  pub weights : (q : ℕ) → q < pairs → cell table′ (3 * pairs + q) ≡ cell table (3 * pairs + q)
+
+-- ---- a step of the column
+
+-- the product that the table has at a place, less the column's with i and with that with m
+abbrev pub gapOf : List Float → ℕ → List Float → ℕ → ℕ → Float
+gapOf table place column m i = add binary64 (sub binary64 (cell table place) (cell column i)) (cell column m)
+
+-- what i..k weighs by way of m, where row m begins at `at` and m..k weighs v
+unfoldable pub byWay : List Float → ℕ → ℕ → Float → List Float → List Float → List Float → ℕ → Float
+byWay table at m v xs ys zs i =
+    add binary64
+    (add binary64
+    (add binary64
+    (add binary64 (cell table (3 * pairs + at + i)) v)
+    (sizeOf (gapOf table (at + i) xs m i)))
+    (sizeOf (gapOf table (pairs + at + i) ys m i)))
+    (sizeOf (gapOf table (2 * pairs + at + i) zs m i))
+
+-- what the step takes the size of are whole numbers
+pub record Sizable (table : List Float) (at m : ℕ) (xs ys zs : List Float) (i : ℕ) : Type 0 where
+  pub x : ℤ
+  pub y : ℤ
+  pub z : ℤ
+  pub x-whole : Whole (gapOf table (at + i) xs m i) x
+  pub y-whole : Whole (gapOf table (pairs + at + i) ys m i) y
+  pub z-whole : Whole (gapOf table (2 * pairs + at + i) zs m i) z
+
+pub record WayRoom (table : List Float) (at m : ℕ) (xs ys zs : List Float) (i : ℕ) : Type 0 where
+  pub inside : at + i < pairs
+  pub low : i < limits.longest
+  pub short : m < limits.longest
+  pub table-long : Table table
+  pub xs-long : Long xs
+  pub ys-long : Long ys
+  pub zs-long : Long zs
+  pub sizable : Sizable table at m xs ys zs i
+
+pub record RelaxRoom (table : List Float) (at m : ℕ) (xs ys zs column : List Float) : Type 0 where
+  pub inside : at + m < pairs
+  pub short : m < limits.longest
+  pub table-long : Table table
+  pub xs-long : Long xs
+  pub ys-long : Long ys
+  pub zs-long : Long zs
+  pub column-long : Long column
+  pub sizable : (i : ℕ) → i ≤ m → Sizable table at m xs ys zs i
+
+-- below m each place of the column takes the way by m where that is lighter
+abbrev pub Relaxed : List Float → ℕ → ℕ → Float → List Float → List Float → List Float → List Float → List Float → Type 0
+Relaxed table at m v xs ys zs column column′ =
+    (i : ℕ) → i < m → cell column′ i ≡ lesserOf (byWay table at m v xs ys zs i) (cell column i)

@@ -1,0 +1,96 @@
+-- The points of a ring, read from the grid one by one.
+use mathlib.Core.Path.{_≡_, refl, ap, _∙_, subst}
+use mathlib.Core.List.{List}
+use Prim.Native.Nat.{ℕ, _+_, _*_, _≤_, _<_}
+use native.Mathlib.Nat.{lt-of-le-of-lt}
+use native.Mathlib.Omega.{arith}
+use lib.Dec.{lit<}
+use lib.IntN.{ℤ, pos}
+use lib.ListN.{length, getD, set, length-set}
+use lib.Ieee.{Float, binary64, ofInt}
+use mir.Syntax.{w32}
+use mir.Val.{toZ, ofZ}
+use Rattle.base_limits.specs.Limits.{longest}
+use Rattle.cover_weight.specs.Weight.{Coordinates, pointOf}
+use Rattle.cover_weight.specs.Edition.{along}
+use Rattle.cover_floats.specs.Workings.Whole.{Whole}
+use Rattle.cover_floats.proofs.Laws.Casts.{whole-of-word}
+use Rattle.cover_column.proofs.Laws.Columns.{cells-more}
+use Rattle.cover_table.specs.Workings.Table.{Points}
+use Rattle.cover_table.specs.Workings.Loops.{GatherRoom}
+
+-- a number of the grid as a float
+abbrev pub gridFloat : List ℤ → ℕ → Float
+gridFloat grid v = ofInt binary64 (toZ w32 (ofZ w32 (getD grid v (pos 0))))
+
+whole-coordinate : (grid : List ℤ) → Coordinates grid → (v : ℕ) → Whole (gridFloat grid v) (getD grid v (pos 0))
+whole-coordinate grid h v = whole-of-word (getD grid v (pos 0)) (lt-of-le-of-lt (h v) (lit< tt))
+
+module _ (grid : List ℤ) (ring : List ℕ) where
+  -- the coordinates of position j, by their places on the grid
+  along-x : (j v : ℕ) → v ≡ 3 * getD ring j 0 → getD grid v (pos 0) ≡ along grid ring j .x
+  unfolding pointOf
+  along-x j v e = ap (λ (x : ℕ). getD grid x (pos 0)) e
+
+  along-y : (j v : ℕ) → v ≡ 3 * getD ring j 0 → getD grid (v + 1) (pos 0) ≡ along grid ring j .y
+  unfolding pointOf
+  along-y j v e = ap (λ (x : ℕ). getD grid (x + 1) (pos 0)) e
+
+  along-z : (j v : ℕ) → v ≡ 3 * getD ring j 0 → getD grid (v + 2) (pos 0) ≡ along grid ring j .z
+  unfolding pointOf
+  along-z j v e = ap (λ (x : ℕ). getD grid (x + 2) (pos 0)) e
+
+  pub record Gathering (px₀ py₀ pz₀ : List Float) (i : ℕ) (px py pz : List Float) : Type 0 where
+    pub points : Points (along grid ring) i px py pz
+    pub most : i ≤ length ring
+    pub px-kept : length px ≡ length px₀
+    pub py-kept : length py ≡ length py₀
+    pub pz-kept : length pz ≡ length pz₀
+
+  module _ (px₀ py₀ pz₀ : List Float) (r : GatherRoom grid ring px₀ py₀ pz₀) where
+    pub gathering-begins : Gathering px₀ py₀ pz₀ 0 px₀ py₀ pz₀
+    gathering-begins = record {
+      points = record {
+        x = λ j h. absurd (omega arith);
+        y = λ j h. absurd (omega arith);
+        z = λ j h. absurd (omega arith);
+        px-long = r .px-long;
+        py-long = r .py-long;
+        pz-long = r .pz-long;
+      };
+      most = omega arith;
+      px-kept = refl;
+      py-kept = refl;
+      pz-kept = refl;
+    }
+
+    module _ (j : ℕ) (px py pz : List Float) (h : j < length ring) (g : Gathering px₀ py₀ pz₀ j px py pz) where
+      pub in-grid : (v : ℕ) → v ≡ 3 * getD ring j 0 → v + 2 < length grid
+      in-grid v e = let a : 3 * getD ring j 0 + 3 ≤ length grid = r .on .named j h in omega arith
+
+      pub in-column : (j < length px) × (j < length py) × (j < length pz)
+      in-column =
+          let a : length ring ≤ longest = r .on .few in
+          let b : length px ≡ longest = g .points .px-long in
+          let c : length py ≡ longest = g .points .py-long in
+          let d : length pz ≡ longest = g .points .pz-long in
+          (omega arith, omega arith, omega arith)
+
+      pub gathering-more : (v : ℕ) → v ≡ 3 * getD ring j 0 → Gathering px₀ py₀ pz₀ (j + 1) (set px j (gridFloat grid v)) (set py j (gridFloat grid (v + 1))) (set pz j (gridFloat grid (v + 2)))
+      gathering-more v e = record {
+        points = record {
+          x = cells-more (λ i f. Whole f (along grid ring i .x)) px j _ (in-column .0) (g .points .x) (subst (Whole _) (along-x j v e) (whole-coordinate grid (r .on .coordinates) v));
+          y = cells-more (λ i f. Whole f (along grid ring i .y)) py j _ (in-column .1) (g .points .y) (subst (Whole _) (along-y j v e) (whole-coordinate grid (r .on .coordinates) (v + 1)));
+          z = cells-more (λ i f. Whole f (along grid ring i .z)) pz j _ (in-column .2) (g .points .z) (subst (Whole _) (along-z j v e) (whole-coordinate grid (r .on .coordinates) (v + 2)));
+          px-long = length-set px j _ ∙ g .points .px-long;
+          py-long = length-set py j _ ∙ g .points .py-long;
+          pz-long = length-set pz j _ ∙ g .points .pz-long;
+        };
+        most = omega arith;
+        px-kept = length-set px j _ ∙ g .px-kept;
+        py-kept = length-set py j _ ∙ g .py-kept;
+        pz-kept = length-set pz j _ ∙ g .pz-kept;
+      }
+
+    pub gathered : (j : ℕ) (px py pz : List Float) → length ring ≤ j → Gathering px₀ py₀ pz₀ j px py pz → Points (along grid ring) (length ring) px py pz
+    gathered j px py pz h g = let m : j ≤ length ring = g .most in subst (λ (n : ℕ). Points (along grid ring) n px py pz) (omega arith) (g .points)

@@ -1,0 +1,3 @@
+pub mod Here
+pub mod Fates
+pub mod Course

@@ -1,0 +1,113 @@
+// Judges a patch set: all checks, the grid, the loops, and the verdict on the set.
+ghost use mathlib.Core.Path.{_≡_};
+ghost use Prim.Native.Nat.{_/_, _≤_};
+ghost use lib.ListN.{length};
+ghost use Rattle.base_types.specs.Lent.{was, left};
+ghost use Rattle.base_answers.specs.declared.Answer.the-variants.{Done};
+ghost use Rattle.surface_rules.specs.Refusals.{countRefusal};
+ghost use Rattle.survey_rules.specs.Outcome.{buffers};
+ghost use Rattle.fill_scratch.specs.Workings.Scratch.{few};
+ghost use Rattle.judge_surface.specs.Outcome.{outcome, Judges};
+use base_types::Surface;
+use fill_scratch::FEW;
+use judge_answer::Judged;
+
+// Judges the set of these declared states and triangles for the surface with these words and corners: leaves the grid, the ring
+// vertices and the ring lengths; or refuses and leaves everything as it was.
+pub fn judge(
+    words: &[u32],
+    corners: &[u16],
+    states: &[u16],
+    set: &[u16],
+    grid: &mut [i32],
+    rings: &mut [u16],
+    lengths: &mut [u16],
+) -> Judged
+    ensures { λ r. ⌜ Judges (was words) (was corners) (was states) (was set) (buffers (was grid) (was rings) (was lengths))
+        (outcome r (buffers (left grid) (left rings) (left lengths))) ⌝ }
+{
+    let counted = check_shape::check_counts(words.len(), corners.len());
+    if counted.refuses() {
+        return judge_answer::refused(counted);
+    }
+    if words.len() / 3 <= FEW {
+        if corners.len() <= FEW {
+            return judge_few(words, corners, states, set, grid, rings, lengths);
+        }
+    }
+    judge_many(words, corners, states, set, grid, rings, lengths)
+}
+
+// Few points and corners.
+fn judge_few(
+    words: &[u32],
+    corners: &[u16],
+    states: &[u16],
+    set: &[u16],
+    grid: &mut [i32],
+    rings: &mut [u16],
+    lengths: &mut [u16],
+) -> Judged
+    requires { ⌜ (countRefusal (length (now words)) (length (now corners)) ≡ Done) × (length (now words) / 3 ≤ few) × (length (now corners) ≤ few) ⌝ }
+    ensures { λ r. ⌜ Judges (was words) (was corners) (was states) (was set) (buffers (was grid) (was rings) (was lengths))
+        (outcome r (buffers (left grid) (left rings) (left lengths))) ⌝ }
+{
+    let mut turns = [0u16; FEW];
+    let mut path = [0u16; FEW];
+    let mut places = [0u16; FEW];
+    let mut found = [0u16; FEW];
+    let mut sizes = [0u16; FEW];
+    let mut marks = [0u16; FEW];
+    judge_surface::judge_with(
+        words,
+        corners,
+        states,
+        set,
+        &mut turns,
+        &mut path,
+        &mut places,
+        &mut found,
+        &mut sizes,
+        &mut marks,
+        grid,
+        rings,
+        lengths,
+    )
+}
+
+// Any number of them.
+fn judge_many(
+    words: &[u32],
+    corners: &[u16],
+    states: &[u16],
+    set: &[u16],
+    grid: &mut [i32],
+    rings: &mut [u16],
+    lengths: &mut [u16],
+) -> Judged
+    requires { ⌜ countRefusal (length (now words)) (length (now corners)) ≡ Done ⌝ }
+    ensures { λ r. ⌜ Judges (was words) (was corners) (was states) (was set) (buffers (was grid) (was rings) (was lengths))
+        (outcome r (buffers (left grid) (left rings) (left lengths))) ⌝ }
+{
+    let mut turns = [0u16; Surface::CORNERS];
+    let mut path = [0u16; Surface::CORNERS];
+    let mut places = [0u16; Surface::POINTS];
+    let mut found = [0u16; Surface::CORNERS];
+    let mut sizes = [0u16; Surface::TRIANGLES];
+    let mut marks = [0u16; Surface::TRIANGLES];
+    judge_surface::judge_with(
+        words,
+        corners,
+        states,
+        set,
+        &mut turns,
+        &mut path,
+        &mut places,
+        &mut found,
+        &mut sizes,
+        &mut marks,
+        grid,
+        rings,
+        lengths,
+    )
+}

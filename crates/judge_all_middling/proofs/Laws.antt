@@ -1,0 +1,2 @@
+-- The laws of the verdict over all loops, with the tray.
+pub mod FullVerdict

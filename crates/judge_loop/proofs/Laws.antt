@@ -1,0 +1,2 @@
+-- The laws of one loop's judgement.
+pub mod Judging

@@ -1,0 +1,132 @@
+-- What the code reads is what the set is of the ring, and two readings of one set are equal.
+use Prim.Native.Nat.{ℕ, _-_, _<_}
+use mathlib.Core.Path.{_≡_, refl, sym, ap, _∙_, subst}
+use mathlib.Core.Bool.{Bool, true, false, not, true≢false}
+use mathlib.Core.Logic.{⊎-elim}
+use mathlib.Core.List.{List, []}
+use native.Mathlib.Omega.{arith}
+use lib.ListN.{length, getD}
+use borrow.Author.Tests.{not-true, not-false}
+use Rattle.base_limits.specs.Limits as limits
+use Rattle.surface_rules.specs.Threes.{threes}
+use Rattle.cover_rules.specs.Covers as covers
+use Rattle.cover_rules.specs.Covers.{Cover, Triangle, Uses, vertexOf}
+use Rattle.cover_rules.specs.Workings.Matching.{Laid}
+use Rattle.cover_rules.proofs.Laws.Chords.{uses-in}
+use Rattle.cover_rules.proofs.Laws.Closed.{Different, covered-once, covered-whole, used-laid, laid-used, closed-covered}
+use Rattle.cover_bits.specs.Workings.Masks.{bit, Rows}
+use Rattle.judge_seat.specs.Workings.Covering.{Covering}
+use Rattle.judge_seat.specs.Workings.Seats.{Threes}
+use Rattle.judge_seat.proofs.Laws.Places.{different}
+use Rattle.judge_seat.proofs.Laws.Passed.{triples-length}
+use Rattle.judge_match.specs.declared.Match.{Match}
+use Rattle.judge_match.specs.declared.Match.the-variants.{NoCover, Barred, Allowed}
+use Rattle.judge_match.specs.Workings.Matching.{Matches}
+use Rattle.judge_match.specs.Workings.Rows.{Matchable, SidesFree, Held, Collects, Closes, Clashes}
+
+-- ---- one reading
+
+-- a cover cannot use a barred diagonal and none
+torn : (ring : List ℕ) (barred : ℕ → ℕ → Bool) (s : List Triangle) → Different (length ring) (vertexOf ring)
+    → Matches ring barred s Barred → Matches ring barred s Allowed → ⊥
+torn ring barred s d p q =
+    let e : p .0 ≡ q .0 = covered-once (length ring) (vertexOf ring) d s (p .0) (q .0) (p .1) (q .1) in
+    true≢false (sym (p .5) ∙ q .2 .free (p .2) (p .3) (subst (λ (c : Cover). Uses 0 (length ring - 1) c (p .2) (p .3)) e (p .4)))
+
+pub matches-once : (ring : List ℕ) (barred : ℕ → ℕ → Bool) (s : List Triangle) → Different (length ring) (vertexOf ring) → (x y : Match)
+    → Matches ring barred s x → Matches ring barred s y → x ≡ y
+matches-once ring barred s d NoCover NoCover p q = refl
+matches-once ring barred s d NoCover Barred p q = absurd (p (q .0) (q .1))
+matches-once ring barred s d NoCover Allowed p q = absurd (p (q .0) (q .1))
+matches-once ring barred s d Barred NoCover p q = absurd (q (p .0) (p .1))
+matches-once ring barred s d Barred Barred p q = refl
+matches-once ring barred s d Barred Allowed p q = absurd (torn ring barred s d p q)
+matches-once ring barred s d Allowed NoCover p q = absurd (q (p .0) (p .1))
+matches-once ring barred s d Allowed Barred p q = absurd (torn ring barred s d q p)
+matches-once ring barred s d Allowed Allowed p q = refl
+
+-- ---- the code's
+
+pub threes-of : (ring stamps : List ℕ) (base : ℕ) (bars set : List ℕ) → Matchable ring stamps base bars set → Threes set
+threes-of ring stamps base bars set p = record { triangles = length ring - 2; threes = p .long }
+
+-- what the code has to show
+abbrev pub Answers : List ℕ → List ℕ → List ℕ → Match → Type 0
+Answers ring bars set r = (barred : ℕ → ℕ → Bool) → Rows (length ring) barred bars → SidesFree (length ring) barred → Matches ring barred (threes set) r
+
+module _ (ring stamps : List ℕ) (base : ℕ) (bars set : List ℕ) (p : Matchable ring stamps base bars set) where
+  d : Different (length ring) (vertexOf ring)
+  d = different ring base stamps (p .ringed)
+
+  -- a triangle lies on no stretch
+  pub match-seatless : (has₀ has : List ℕ) (t : Bool) → ((vertex : ℕ → ℕ) → Held (length ring) vertex [] has₀) → Collects set stamps base has₀ has t
+      → not t ≡ true → Answers ring bars set NoCover
+  match-seatless has₀ has true s c e barred r f = absurd (true≢false (sym e))
+  match-seatless has₀ has false s c e barred r f = c .collects ring (p .ringed) (s (vertexOf ring))
+
+  pub match-held : (has₀ has : List ℕ) (t : Bool) → ((vertex : ℕ → ℕ) → Held (length ring) vertex [] has₀) → Collects set stamps base has₀ has t
+      → not t ≡ false → Held (length ring) (vertexOf ring) (threes set) has
+  match-held has₀ has true s c e = c .collects ring (p .ringed) (s (vertexOf ring))
+  match-held has₀ has false s c e = absurd (true≢false e)
+
+  module _ (has : List ℕ) (held : Held (length ring) (vertexOf ring) (threes set) has) where
+    top-below : length ring - 1 < limits.longest
+    top-below = let l = p .many in let u = p .ringed .few in omega arith
+
+    -- the whole loop has no triangle
+    pub match-topless : (t : Bool) → t ≡ bit (getD has 0 0) (length ring - 1) → not t ≡ true → Answers ring bars set NoCover
+    match-topless t b e barred r f c v =
+        let l = p .many in
+        let w = covered-whole (length ring) (vertexOf ring) d (threes set) c v (omega arith) in
+        true≢false (sym (held .shows 0 (length ring - 1) (omega arith) top-below w) ∙ sym b ∙ not-true t e)
+
+    pub match-top : (t : Bool) → t ≡ bit (getD has 0 0) (length ring - 1) → not t ≡ false → Laid (length ring) (vertexOf ring) (threes set) 0 (length ring - 1)
+    match-top t b e = let l = p .many in held .tells 0 (length ring - 1) (omega arith) top-below (sym b ∙ not-false t e)
+
+    -- a part has none
+    pub match-open : (t : Bool) → Closes set stamps base has t → not t ≡ true → Answers ring bars set NoCover
+    match-open true c e barred r f = absurd (true≢false (sym e))
+    match-open false c e barred r f = c ring (p .ringed) held
+
+    module _ (top : Laid (length ring) (vertexOf ring) (threes set) 0 (length ring - 1)) where
+      cover-of : (t : Bool) → Closes set stamps base has t → not t ≡ false → (c : Cover) × Covering ring (threes set) c
+      cover-of true c e =
+          closed-covered (length ring) (vertexOf ring) d (threes set) (c ring (p .ringed) held) (triples-length set (length ring - 2) (p .long)) top
+      cover-of false c e = absurd (true≢false e)
+
+      -- a stretch that is set and barred is no side, so it is used
+      pub match-barred : (t u : Bool) → Closes set stamps base has t → not t ≡ false → Clashes (length ring) has bars u → u ≡ true → Answers ring bars set Barred
+      match-barred t true c e x i barred r f =
+          let v = cover-of t c e in (
+            v .0,
+            v .1,
+            x .0,
+            x .1,
+            ⊎-elim
+                (λ s. absurd (true≢false (sym held-bar ∙ ap (barred (x .0)) s ∙ f (x .0) (x .2))))
+                (λ w. w)
+                (laid-used (length ring) (vertexOf ring) d (threes set) (v .0) (v .1) (x .0) (x .1) (held .tells (x .0) (x .1) (omega (arith, x .2)) (x .3) (x .4))),
+            held-bar,
+          )
+        where
+          held-bar : barred (x .0) (x .1) ≡ true
+          held-bar = sym (r .tells (x .0) (x .1) (omega (arith, x .2)) (x .3)) ∙ x .5
+      match-barred t false c e x i barred r f = absurd (true≢false (sym i))
+
+      pub match-allowed : (t u : Bool) → Closes set stamps base has t → not t ≡ false → Clashes (length ring) has bars u → u ≡ false → Answers ring bars set Allowed
+      match-allowed t true c e x i barred r f = absurd (true≢false i)
+      match-allowed t false c e x i barred r f =
+          let v = cover-of t c e in (
+            v .0,
+            v .1,
+            record {
+              covers = v .1 .0;
+              free = λ a b w.
+                  let n = uses-in 0 (length ring - 1) (v .0) a b (v .1 .0) w in
+                  let l = p .many in
+                  let u = p .ringed .few in
+                  sym (r .tells a b (omega arith) (omega arith))
+                  ∙ x a b (omega arith) (omega arith)
+                  (held .shows a b (omega arith) (omega arith) (used-laid (length ring) (vertexOf ring) d (threes set) (v .0) (v .1) a b w));
+            },
+          )

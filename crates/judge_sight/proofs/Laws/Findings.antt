@@ -1,0 +1,25 @@
+-- What is found of a loop: one of which nothing was said is right.
+use mathlib.Core.Path.{_≡_, subst}
+use mathlib.Core.List.{List, [], _∷_}
+use Prim.Native.Nat.{ℕ}
+use lib.IntN.{ℤ}
+use types.Run.{OneOf, miss}
+use denote.Enum.Declared.{tagOf}
+use Rattle.base_answers.specs.declared.Answer.{Answer}
+use Rattle.base_answers.specs.declared.Answer.the-variants.{Done}
+use Rattle.base_answers.proofs.Answer.{the-type}
+use Rattle.judge_rules.specs.Faults.{Right}
+use Rattle.judge_rules.proofs.Theorems.{fault-said}
+use Rattle.judge_sight.specs.Workings.Findings.{Finds, right, fault}
+
+module _ (grid : List ℤ) (input laid ring : List ℕ) (state : ℕ) (set : List ℕ) (l : ℕ) (a : Answer) where
+  pub done-right : Finds grid input laid l ring state set a → a ≡ Done → Right grid input laid ring state set
+  done-right (right e r) d = r
+  done-right (fault f) d = absurd (fault-said grid input laid l ring state set a f d)
+
+-- the numbers of all answers but the first
+abbrev others : List ℕ
+others = 1 ∷ 2 ∷ 3 ∷ 4 ∷ 5 ∷ 6 ∷ 7 ∷ 8 ∷ 9 ∷ 10 ∷ 11 ∷ 12 ∷ 13 ∷ 14 ∷ 15 ∷ []
+
+pub not-done : (a : Answer) → OneOf others (tagOf the-type a) → a ≡ Done → ⊥
+not-done a h d = miss others 0 tt (subst (λ (x : Answer). OneOf others (tagOf the-type x)) d h)

@@ -1,0 +1,124 @@
+-- From the checks, the listing and the verdict to what the checker answers and leaves.
+use mathlib.Core.Path.{_≡_, sym, ap, _∙_, subst}
+use mathlib.Core.Bool.{true}
+use mathlib.Core.List.{List, []}
+use Prim.Native.Nat.{ℕ, _/_, _≤_}
+use native.Mathlib.Nat.{le-trans}
+use native.Mathlib.Omega.{arith}
+use borrow.Author.Tests.{eq-eqb, ne-eqb}
+use lib.IntN.{ℤ}
+use lib.ListN.{length, take}
+use Rattle.base_answers.specs.Numbers.{refusing}
+use Rattle.base_answers.specs.declared.Answer.{Answer}
+use Rattle.base_answers.specs.declared.Answer.the-variants.{Done, States}
+use Rattle.base_limits.specs.Limits as limits
+use Rattle.surface_rules.specs.Buffers.{over}
+use Rattle.surface_rules.specs.Refusals.{countRefusal, refusal}
+use Rattle.surface_rules.proofs.Laws.Thens.{counts-fit}
+use Rattle.surface_rules.proofs.Laws.Deciding.{count-decides, content-decides}
+use Rattle.loop_rules.specs.Loops.{loops}
+use Rattle.loop_cut.specs.Listing.{ListsLoops}
+use Rattle.loop_cut.specs.declared.Listed.{Listed}
+use Rattle.survey_grid.specs.Grid.{gridOf}
+use Rattle.check_surface.specs.Workings.Checks.{Checked}
+use Rattle.survey_rules.specs.Outcome.{Buffers, buffers, refused, needs, lent}
+use Rattle.survey_rules.proofs.Laws.Known.{Known, rings-few, loops-few}
+use Rattle.survey_rules.proofs.Laws.Parts.{grid-part, rings-in, lengths-in}
+use Rattle.rim_rules.specs.Rims.{rimList}
+use Rattle.fill_fates.specs.Course.{ringList}
+use Rattle.judge_rules.specs.Verdicts.{Verdict}
+use Rattle.fill_scratch.specs.Workings.Scratch.{few}
+use Rattle.rim_mark.specs.Workings.Marking.{Marked}
+use Rattle.rim_mark.proofs.Laws.Listed.{input-here, as-many-loops, loops-here, marks-here, rims-here}
+use Rattle.judge_all_sight.specs.Workings.Gives.{Declared, VerdictRoom, Gives}
+use Rattle.judge_answer.specs.declared.Judged.{Judged}
+use Rattle.judge_surface.specs.Outcome.{outcome, judged, Judges}
+use Rattle.judge_surface.specs.Workings.Listing.{ListingRoom}
+
+-- ---- room to list the loops
+
+module _ (words corners turns path places rings lengths marks : List ℕ) (c : countRefusal (length words) (length corners) ≡ Done) where
+  -- room for few is room for this surface if it has few points and corners
+  pub listing-few : length words / 3 ≤ few → length corners ≤ few → few ≤ length turns → few ≤ length path → few ≤ length places → few ≤ length rings → few ≤ length lengths → few ≤ length marks
+      → ListingRoom words corners turns path places rings lengths marks
+  listing-few p q t u v x y z = record {
+    scratch = record { counts = c; turns-long = le-trans q t; path-long = le-trans q u; places-long = le-trans p v; pieces-long = omega arith };
+    rings-long = le-trans q x;
+    lengths-long = omega arith;
+    marks-long = omega arith;
+  }
+
+  -- room for any surface is room for this one
+  pub listing-most : limits.corners ≤ length turns → limits.corners ≤ length path → limits.points ≤ length places → limits.corners ≤ length rings → limits.triangles ≤ length lengths → limits.triangles ≤ length marks
+      → ListingRoom words corners turns path places rings lengths marks
+  listing-most t u v x y z =
+      let f = counts-fit (length words) (length corners) c in
+      let q : length corners ≤ limits.corners = f .few-corners in
+      record {
+        scratch = record { counts = c; turns-long = le-trans q t; path-long = le-trans q u; places-long = omega (arith, f .few-words); pieces-long = omega arith };
+        rings-long = le-trans q x;
+        lengths-long = omega arith;
+        marks-long = omega arith;
+      }
+
+-- ---- refusals
+
+-- a refusal as the code makes it
+abbrev pub Refuses : Judged → Answer → Type 0
+Refuses r a = (r .answer ≡ a) × (r .loops ≡ 0) × (r .vertices ≡ 0)
+
+module _ (words corners states set : List ℕ) (b : Buffers) where
+  refused-is : (r : Judged) (a : Answer) → Refuses r a → outcome r b ≡ refused a b
+  refused-is r a h = λ i. record { answer = h .0 i; loops = h .1 i; vertices = h .2 i; left = b }
+
+  -- what the table says decides
+  decided : (r : Judged) (a : Answer) → Refuses r a → refusal words corners (lent b) (needs words corners) ≡ a → refusing a ≡ true → Judges words corners states set b (outcome r b)
+  decided r a h e t = rw (e, t) (refused-is r a h)
+
+  pub counts-refuse : (r : Judged) (a : Answer) → Refuses r a → a ≡ countRefusal (length words) (length corners) → refusing a ≡ true → Judges words corners states set b (outcome r b)
+  counts-refuse r a h e t = decided r a h (count-decides words corners (lent b) (needs words corners) a e t) t
+
+  pub content-refuse : countRefusal (length words) (length corners) ≡ Done → (r : Judged) (a : Answer) (table : List ℕ) → Refuses r a → Checked words corners (lent b) (needs words corners) a table → refusing a ≡ true
+      → Judges words corners states set b (outcome r b)
+  content-refuse c r a table h k t = decided r a h (content-decides words corners (lent b) (needs words corners) c a (k .said)) t
+
+  -- 9 comes after all checks of the surface
+  pub states-refuse : {table : List ℕ} → Known words corners table (b .grid) (b .rings) (b .lengths) [] []
+      → (at : Listed) (found sizes firsts found′ sizes′ firsts′ : List ℕ) → ListsLoops corners (loops corners) found sizes firsts at found′ sizes′ firsts′
+      → (r : Judged) → Refuses r (States (at .loops)) → (at .loops ≡ length states → ⊥) → Judges words corners states set b (outcome r b)
+  states-refuse k at found sizes firsts found′ sizes′ firsts′ ls r h n =
+      rw (k .none-refused, ne-eqb (length (loops corners)) (length states) (λ q. n (ls .count ∙ q)))
+      (refused-is r (States (at .loops)) h ∙ ap (λ (i : ℕ). refused (States i) b) (ls .count))
+
+-- ---- what was listed apart has room where it goes
+
+module _ {words corners table : List ℕ} {grid : List ℤ} {rings lengths : List ℕ} (k : Known words corners table grid rings lengths [] [])
+    {at : Listed} {found sizes firsts found′ sizes′ firsts′ : List ℕ} (ls : ListsLoops corners (loops corners) found sizes firsts at found′ sizes′ firsts′) where
+  pub rings-room : (at .vertices ≤ length found′) × (at .vertices ≤ length rings)
+  rings-room = (rings-in ls, omega (arith, ls .vertices, rings-few k, k .rings-long))
+
+  pub lengths-room : (at .loops ≤ length sizes′) × (at .loops ≤ length lengths)
+  lengths-room = (lengths-in ls, omega (arith, ls .count, loops-few k, k .lengths-long))
+
+-- ---- the verdict on what stands in the lent buffers
+
+module _ (words corners : List ℕ) (b : Buffers) {table : List ℕ} (k : Known words corners table (b .grid) (b .rings) (b .lengths) [] [])
+    {at : Listed} {firsts rings′ lengths′ firsts′ : List ℕ} {grid′ : List ℤ} (ls : ListsLoops corners (loops corners) (b .rings) (b .lengths) firsts at rings′ lengths′ firsts′) (eg : grid′ ≡ over (gridOf words) (b .grid)) where
+  abbrev g : List ℤ
+  g = take (length words) grid′
+
+  module _ {marks : List ℕ} (marked : Marked g corners firsts′ marks) (states : List ℕ) (same : at .loops ≡ length states) where
+    as-declared : Declared (rimList g corners) (ringList corners) marks states
+    as-declared = record { rims-many = rims-here k ls eg marked; marked = marks-here k ls eg marked; states-many = sym same ∙ ls .count ∙ sym (as-many-loops k) }
+
+    pub verdict-room : VerdictRoom g corners (take (at .vertices) rings′) (take (at .loops) lengths′) marks states
+    verdict-room = record { rims = rimList g corners; rs = ringList corners; loops = loops-here k ls eg; corners = input-here k; declared = as-declared }
+
+    pub judges : (set : List ℕ) (v : Answer) → Gives g corners (take (at .vertices) rings′) (take (at .loops) lengths′) marks states set v
+        → Judges words corners states set b (outcome (record { answer = v; loops = at .loops; vertices = at .vertices }) (buffers grid′ rings′ lengths′))
+    judges set v h =
+        rw (k .none-refused, eq-eqb (length (loops corners)) (length states) (sym (ls .count) ∙ same))
+        (v, subst (λ (y : List ℤ). Verdict y corners [] 0 0 (rimList y corners) (ringList corners) states set v) (grid-part words (b .grid) grid′ eg) (h (rimList g corners) (ringList corners) (loops-here k ls eg) as-declared), left)
+      where
+        left : outcome (record { answer = v; loops = at .loops; vertices = at .vertices }) (buffers grid′ rings′ lengths′) ≡ judged v words corners b
+        left = λ t. record { answer = v; loops = ls .count t; vertices = ls .vertices t; left = record { grid = eg t; rings = ls .all-rings t; lengths = ls .all-lengths t } }

@@ -1,0 +1,175 @@
+-- `judge_with` lists the loops apart, so that nothing is written before every check is done, marks the rims where the first half-edges stood, and
+-- hands the verdict the parts that were written.
+use mathlib.Core.Path.{_∙_, sym}
+use mathlib.Core.List.{[]}
+use borrow.Author.Needs.{needs}
+use Rattle.surface_rules.proofs.Laws.Lists.{as-long}
+use Rattle.survey_rules.specs.Outcome.{Buffers, buffers}
+use Rattle.survey_rules.proofs.Laws.Known.{Known, known, still-long, grid-ready, ready, lent-long}
+use Rattle.survey_rules.proofs.Laws.Parts.{grid-in, rings-in, lengths-in, lists-laid}
+use Rattle.rim_mark.proofs.Laws.Listed.{mark-room}
+use Rattle.judge_surface.proofs.Laws.Judging.{content-refuse, states-refuse, rings-room, lengths-room, verdict-room, judges}
+use Rattle.judge_surface.proofs.judge_with.Statement.{statement}
+use Rattle.judge_surface.proofs.judge_with.Tie as tie
+
+-- the places on the way back, by their types: each call, and the function's entry
+abbrev entry : tie.After-turns → tie.Start
+entry c = search
+
+abbrev checked : tie.Else1 → tie.After-turns
+checked c = search
+
+abbrev passed : tie.After-turns2 → tie.Else1
+passed c = search
+
+abbrev turns-listed : tie.After-marks → tie.After-turns2
+turns-listed c = search
+
+abbrev listed : tie.Else2 → tie.After-marks
+listed c = search
+
+abbrev counted : tie.After-grid → tie.Else2
+counted c = search
+
+abbrev gridded : tie.After-rings → tie.After-grid
+gridded c = search
+
+abbrev ringed : tie.After-lengths → tie.After-rings
+ringed c = search
+
+abbrev laid : tie.After-turns3 → tie.After-lengths
+laid c = search
+
+abbrev marked : tie.After-verdict → tie.After-turns3
+marked c = search
+
+abbrev path-listed : tie.After-marks → tie.After-path
+path-listed c = search
+
+abbrev places-listed : tie.After-marks → tie.After-places
+places-listed c = search
+
+abbrev found-listed : tie.After-marks → tie.After-found
+found-listed c = search
+
+abbrev sizes-listed : tie.After-marks → tie.After-sizes
+sizes-listed c = search
+
+abbrev path-marked : tie.After-verdict → tie.After-path2
+path-marked c = search
+
+abbrev places-marked : tie.After-verdict → tie.After-places2
+places-marked c = search
+
+abbrev marks-marked : tie.After-verdict → tie.After-marks2
+marks-marked c = search
+
+-- the buffers as they are lent
+abbrev lent-here : tie.Start → Buffers
+lent-here c = buffers (c .args .grid .now) (c .args .rings .now) (c .args .lengths .now)
+
+-- what is known once nothing is refused
+known-here : (c : tie.Else1)
+    → let s = entry (checked c) in
+    let b = lent-here s in
+    Known (s .args .words .now) (s .args .corners .now) (checked c .before .check .last .1 .1 .1 .1 .0) (b .grid) (b .rings) (b .lengths) [] []
+known-here c =
+    let s = entry (checked c) in
+    let b = lent-here s in
+    known _ _ _ (b .grid) (b .rings) (b .lengths) [] [] _ (s .pre .scratch .counts) (checked c .before .check .ensures) (sym (c .before .refuses .ensures) ∙ c .if1 .left)
+
+-- the parts of the buffers that were written are there
+grid-there : tie.Need-slice-reshare-prefix-mark
+grid-there c = let q : tie.After-lengths = search in let g = gridded (ringed q) in grid-in (entry (checked (passed (turns-listed (listed (counted g))))) .args .words .now) _ _ (g .before .lay-grid .ensures)
+
+rings-there : tie.Need-slice-reshare-prefix-mark-2
+rings-there c = let q : tie.After-lengths = search in rings-in (lists-laid (turns-listed (listed (counted (gridded (ringed q)))) .before .list-with .ensures .0) _ _ _ _ (ringed q .before .lay-front .ensures) (q .before .lay-front2 .ensures))
+
+lengths-there : tie.Need-slice-reshare-prefix-mark-3
+lengths-there c = let q : tie.After-lengths = search in lengths-in (lists-laid (turns-listed (listed (counted (gridded (ringed q)))) .before .list-with .ensures .0) _ _ _ _ (ringed q .before .lay-front .ensures) (q .before .lay-front2 .ensures))
+
+grid-still : tie.Need-slice-reshare-prefix-verdict
+grid-still c = let m : tie.After-turns3 = search in let g = gridded (ringed (laid m)) in grid-in (entry (checked (passed (turns-listed (listed (counted g))))) .args .words .now) _ _ (g .before .lay-grid .ensures)
+
+rings-still : tie.Need-slice-reshare-prefix-verdict-2
+rings-still c = let m : tie.After-turns3 = search in let q = laid m in rings-in (lists-laid (turns-listed (listed (counted (gridded (ringed q)))) .before .list-with .ensures .0) _ _ _ _ (ringed q .before .lay-front .ensures) (q .before .lay-front2 .ensures))
+
+lengths-still : tie.Need-slice-reshare-prefix-verdict-3
+lengths-still c = let m : tie.After-turns3 = search in let q = laid m in lengths-in (lists-laid (turns-listed (listed (counted (gridded (ringed q)))) .before .list-with .ensures .0) _ _ _ _ (ringed q .before .lay-front .ensures) (q .before .lay-front2 .ensures))
+
+pub judge-with-spec : {M : Type 1} → statement M
+judge-with-spec =
+    tie.close
+    (tie.spec
+    (λ c. search needs)
+    (λ c. search needs)
+    (λ c κs. let s : tie.Start = search in record { counts = s .pre .scratch .counts; long = s .pre .scratch .turns-long })
+    (λ c κs. search needs)
+    (λ c κs. search needs)
+    (λ c. let t : tie.After-turns = search in t .turns .given)
+    (λ c. let t : tie.After-turns = search in content-refuse _ _ _ _ (lent-here (entry t)) (entry t .pre .scratch .counts) _ _ _ (c .refused .ensures) (t .before .check .ensures) (sym (c .before .before .refuses .ensures) ∙ c .before .if1 .taken))
+    (λ c κs.
+    let p : tie.Else1 = search in
+    let k = known-here p in
+    let s = entry (checked p) in
+    (ready k _ _ _ (still-long (s .pre .scratch .turns-long) (checked p .turns .given)) (s .pre .rings-long) (s .pre .lengths-long) (s .pre .marks-long), lent-long k _ _ (s .pre .scratch .path-long) (s .pre .scratch .places-long)))
+    (λ c κs. search needs)
+    (λ c. let n : tie.After-marks = search in let l = turns-listed n in l .turns2 .given ∙ checked (passed l) .turns .given)
+    (λ c. let l : tie.After-path = search in l .path .given)
+    (λ c. let l : tie.After-places = search in l .places .given)
+    (λ c. let l : tie.After-found = search in l .found .given)
+    (λ c. let l : tie.After-sizes = search in l .sizes .given)
+    (λ c. let l : tie.After-marks = search in l .marks .given)
+    (λ c.
+    let n : tie.After-marks = search in
+    let l = turns-listed n in
+    states-refuse _ _ _ _ (lent-here (entry (checked (passed l)))) (known-here (passed l)) _ _ _ _ _ _ _ (l .before .list-with .ensures .0) _ (c .refused2 .ensures) (c .before .if2 .taken))
+    (λ c κs. let p : tie.Else2 = search in grid-ready (known-here (passed (turns-listed (listed p)))))
+    (λ c κs. let g : tie.After-grid = search in let l = turns-listed (listed (counted g)) in rings-room (known-here (passed l)) (l .before .list-with .ensures .0))
+    (λ c κs. let r : tie.After-rings = search in let l = turns-listed (listed (counted (gridded r))) in lengths-room (known-here (passed l)) (l .before .list-with .ensures .0))
+    grid-there
+    (λ c. as-long _ _ (grid-there (c .before)))
+    rings-there
+    (λ c. as-long _ _ (rings-there (c .before)))
+    lengths-there
+    (λ c. as-long _ _ (lengths-there (c .before)))
+    (λ c κs.
+    let q : tie.After-lengths = search in
+    let g = gridded (ringed q) in
+    let n = listed (counted g) in
+    let l = turns-listed n in
+    let p = passed l in
+    let s = entry (checked p) in
+    mark-room (known-here p) (lists-laid (turns-listed (listed (counted (gridded (ringed q)))) .before .list-with .ensures .0) _ _ _ _ (ringed q .before .lay-front .ensures) (q .before .lay-front2 .ensures)) (g .before .lay-grid .ensures) (l .before .list-with .ensures .1) (still-long (still-long (s .pre .scratch .turns-long) (checked p .turns .given)) (l .turns2 .given))
+    (still-long (s .pre .scratch .path-long) (path-listed n .path .given)) (still-long (s .pre .scratch .pieces-long) (places-listed n .places .given)))
+    grid-still
+    (λ c. as-long _ _ (grid-still (c .before)))
+    rings-still
+    (λ c. as-long _ _ (rings-still (c .before)))
+    lengths-still
+    (λ c. as-long _ _ (lengths-still (c .before)))
+    (λ c κs.
+    let m : tie.After-turns3 = search in
+    let q = laid m in
+    let g = gridded (ringed q) in
+    let e = counted g in
+    let p = passed (turns-listed (listed e)) in
+    let s = entry (checked p) in
+    verdict-room (s .args .words .now) (s .args .corners .now) (lent-here s) (known-here p) (lists-laid (turns-listed (listed (counted (gridded (ringed q)))) .before .list-with .ensures .0) _ _ _ _ (ringed q .before .lay-front .ensures) (q .before .lay-front2 .ensures)) (g .before .lay-grid .ensures) (m .before .mark .ensures) _ (e .if2 .left))
+    (λ c. let m = marked c in let l = turns-listed (listed (counted (gridded (ringed (laid m))))) in m .turns3 .given ∙ l .turns2 .given ∙ checked (passed l) .turns .given)
+    (λ c. let m = path-marked c in m .path2 .given ∙ path-listed (listed (counted (gridded (ringed (laid (m .before .before)))))) .path .given)
+    (λ c. let m = places-marked c in m .places2 .given ∙ places-listed (listed (counted (gridded (ringed (laid (m .before .before .before .before)))))) .places .given)
+    (λ c. found-listed (listed (counted (gridded (ringed (laid (marked c)))))) .found .given)
+    (λ c. sizes-listed (listed (counted (gridded (ringed (laid (marked c)))))) .sizes .given)
+    (λ c. let m = marks-marked c in m .marks2 .given ∙ listed (counted (gridded (ringed (laid (m .before .before .before .before .before .before))))) .marks .given)
+    (λ c. gridded (ringed (laid (marked c))) .grid .given)
+    (λ c. ringed (laid (marked c)) .rings .given)
+    (λ c. laid (marked c) .lengths .given)
+    (λ c.
+    let m = marked c in
+    let q = laid m in
+    let g = gridded (ringed q) in
+    let e = counted g in
+    let p = passed (turns-listed (listed e)) in
+    let s = entry (checked p) in
+    judges (s .args .words .now) (s .args .corners .now) (lent-here s) (known-here p) (lists-laid (turns-listed (listed (counted (gridded (ringed q)))) .before .list-with .ensures .0) _ _ _ _ (ringed q .before .lay-front .ensures) (q .before .lay-front2 .ensures)) (g .before .lay-grid .ensures) (m .before .mark .ensures) _ (e .if2 .left) _ _ (c .verdict .ensures)))

@@ -1,0 +1,45 @@
+-- What the checker leaves and answers: the grid and the loops, with the verdict on the set; or a refusal, and everything as it was.
+use mathlib.Core.Path.{_≡_}
+use mathlib.Core.Bool.{Bool, true, false}
+use mathlib.Core.List.{List, []}
+use Prim.Native.Nat.{ℕ}
+use lib.Dec.{eqb}
+use lib.ListN.{length}
+use Rattle.base_answers.specs.Numbers.{refusing}
+use Rattle.base_answers.specs.declared.Answer.{Answer}
+use Rattle.base_answers.specs.declared.Answer.the-variants.{States}
+use Rattle.surface_rules.specs.Refusals.{refusal}
+use Rattle.loop_rules.specs.Loops.{loops}
+use Rattle.survey_grid.specs.Grid.{gridOf}
+use Rattle.survey_rules.specs.Outcome.{Buffers, Outcome, refused, done, needs, lent}
+use Rattle.rim_rules.specs.Rims.{rimList}
+use Rattle.fill_fates.specs.Course.{ringList}
+use Rattle.judge_rules.specs.Verdicts.{Verdict}
+use Rattle.judge_answer.specs.declared.Judged.{Judged}
+
+-- what is answered, with what is left
+abbrev pub outcome : Judged → Buffers → Outcome
+outcome r b = record { answer = r .answer; loops = r .loops; vertices = r .vertices; left = b }
+
+-- "The checker is lent buffers 1 to 3 and leaves the same there, whatever its verdict": what a survey leaves, with the verdict a
+abbrev pub judged : Answer → List ℕ → List ℕ → Buffers → Outcome
+judged a words corners b =
+    let o = done words corners b in
+    record { answer = a; loops = o .loops; vertices = o .vertices; left = o .left }
+
+-- 9: "state count differs from loop count", and its place is the "loop count"
+abbrev pub JudgesCounted : Bool → List ℕ → List ℕ → List ℕ → List ℕ → Buffers → Outcome → Type 0
+JudgesCounted false words corners states set b o = o ≡ refused (States (length (loops corners))) b
+JudgesCounted true words corners states set b o =
+    (a : Answer) × Verdict (gridOf words) corners [] 0 0 (rimList (gridOf words) corners) (ringList corners) states set a × (o ≡ judged a words corners b)
+
+-- 1 to 8 come first
+abbrev pub JudgesIf : Bool → Answer → List ℕ → List ℕ → List ℕ → List ℕ → Buffers → Outcome → Type 0
+JudgesIf true a words corners states set b o = o ≡ refused a b
+JudgesIf false a words corners states set b o =
+    JudgesCounted (eqb (length (loops corners)) (length states)) words corners states set b o
+
+abbrev pub Judges : List ℕ → List ℕ → List ℕ → List ℕ → Buffers → Outcome → Type 0
+Judges words corners states set b o =
+    let a = refusal words corners (lent b) (needs words corners) in
+    JudgesIf (refusing a) a words corners states set b o

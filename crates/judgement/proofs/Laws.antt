@@ -1,2 +1,0 @@
--- The laws of one loop's judgement.
-pub mod Turning

@@ -1,1 +1,0 @@
-// Reads the limits of `terms` for the definitions of every crate above. It has no code of its own.

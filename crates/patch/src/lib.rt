@@ -1,0 +1,123 @@
+// Patches a surface: all checks, the grid, the loops, and what becomes of each.
+ghost use mathlib.Core.Path.{_≡_};
+ghost use Prim.Native.Nat.{_/_, _≤_};
+ghost use lib.ListN.{length};
+ghost use Rattle.base_types.specs.Lent.{was, left};
+ghost use Rattle.base_answers.specs.declared.Answer.the-variants.{Done};
+ghost use Rattle.surface_rules.specs.Refusals.{countRefusal};
+ghost use Rattle.fill_scratch.specs.Workings.Scratch.{few};
+ghost use Rattle.patch_surface.specs.Outcome.{outcome, buffers, Patches};
+use base_types::Surface;
+use fill_scratch::FEW;
+use patch_surface::Patched;
+
+// Finds the loops of the surface with these words and corners and patches them: leaves the grid, the ring vertices and lengths, the
+// states and weights, and the patch corners; or refuses and leaves everything as it was.
+pub fn patch(
+    words: &[u32],
+    corners: &[u16],
+    grid: &mut [i32],
+    rings: &mut [u16],
+    lengths: &mut [u16],
+    states: &mut [u16],
+    weights: &mut [u64],
+    patches: &mut [u16],
+) -> Patched
+    ensures { λ r. ⌜ Patches (was words) (was corners) (buffers (was grid) (was rings) (was lengths) (was states) (was weights) (was patches))
+        (outcome r (buffers (left grid) (left rings) (left lengths) (left states) (left weights) (left patches))) ⌝ }
+{
+    let counted = check_shape::check_counts(words.len(), corners.len());
+    if counted.refuses() {
+        return patch_surface::refused(counted);
+    }
+    if words.len() / 3 <= FEW {
+        if corners.len() <= FEW {
+            return patch_few(
+                words,
+                corners,
+                grid,
+                rings,
+                lengths,
+                states,
+                weights,
+                patches,
+            );
+        }
+    }
+    patch_many(
+        words,
+        corners,
+        grid,
+        rings,
+        lengths,
+        states,
+        weights,
+        patches,
+    )
+}
+
+// Few points and corners.
+fn patch_few(
+    words: &[u32],
+    corners: &[u16],
+    grid: &mut [i32],
+    rings: &mut [u16],
+    lengths: &mut [u16],
+    states: &mut [u16],
+    weights: &mut [u64],
+    patches: &mut [u16],
+) -> Patched
+    requires { ⌜ (countRefusal (length (now words)) (length (now corners)) ≡ Done) × (length (now words) / 3 ≤ few) × (length (now corners) ≤ few) ⌝ }
+    ensures { λ r. ⌜ Patches (was words) (was corners) (buffers (was grid) (was rings) (was lengths) (was states) (was weights) (was patches))
+        (outcome r (buffers (left grid) (left rings) (left lengths) (left states) (left weights) (left patches))) ⌝ }
+{
+    let mut turns = [0u16; FEW];
+    let mut path = [0u16; FEW];
+    let mut places = [0u16; FEW];
+    patch_surface::patch_with(
+        words,
+        corners,
+        &mut turns,
+        &mut path,
+        &mut places,
+        grid,
+        rings,
+        lengths,
+        states,
+        weights,
+        patches,
+    )
+}
+
+// Any number of them.
+fn patch_many(
+    words: &[u32],
+    corners: &[u16],
+    grid: &mut [i32],
+    rings: &mut [u16],
+    lengths: &mut [u16],
+    states: &mut [u16],
+    weights: &mut [u64],
+    patches: &mut [u16],
+) -> Patched
+    requires { ⌜ countRefusal (length (now words)) (length (now corners)) ≡ Done ⌝ }
+    ensures { λ r. ⌜ Patches (was words) (was corners) (buffers (was grid) (was rings) (was lengths) (was states) (was weights) (was patches))
+        (outcome r (buffers (left grid) (left rings) (left lengths) (left states) (left weights) (left patches))) ⌝ }
+{
+    let mut turns = [0u16; Surface::CORNERS];
+    let mut path = [0u16; Surface::CORNERS];
+    let mut places = [0u16; Surface::POINTS];
+    patch_surface::patch_with(
+        words,
+        corners,
+        &mut turns,
+        &mut path,
+        &mut places,
+        grid,
+        rings,
+        lengths,
+        states,
+        weights,
+        patches,
+    )
+}

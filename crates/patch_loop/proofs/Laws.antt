@@ -1,0 +1,2 @@
+-- The laws of one loop patched.
+pub mod Takes

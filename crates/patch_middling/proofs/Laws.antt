@@ -1,0 +1,2 @@
+-- The laws of a middling loop.
+pub mod Middling

@@ -1,0 +1,24 @@
+-- The patcher's promise has one outcome: a refusal is determined by the table, and the course by the covers.
+use mathlib.Core.Path.{_≡_, sym, ap, _∙_}
+use mathlib.Core.Bool.{Bool, true, false}
+use mathlib.Core.List.{List, []}
+use Prim.Native.Nat.{ℕ}
+use Rattle.base_answers.specs.Numbers.{refusing}
+use Rattle.base_answers.specs.declared.Answer.{Answer}
+use Rattle.surface_rules.specs.Refusals.{refusal}
+use Rattle.survey_grid.specs.Grid.{gridOf}
+use Rattle.rim_rules.specs.Rims.{rimList}
+use Rattle.fill_fates.specs.Fates.{Fate}
+use Rattle.fill_fates.specs.Course.{ringList}
+use Rattle.fill_fates.proofs.Theorems.{course-once}
+use Rattle.patch_surface.specs.Outcome.{Buffers, Outcome, done, lent, needs, PatchesIf, Patches}
+
+pub patches-once : (words corners : List ℕ) (b : Buffers) (o p : Outcome) → Patches words corners b o → Patches words corners b p → o ≡ p
+patches-once words corners b o p = go (refusing a) a
+  where
+    a : Answer
+    a = refusal words corners (lent b) (needs words corners)
+
+    go : (t : Bool) (a : Answer) → PatchesIf t a words corners b o → PatchesIf t a words corners b p → o ≡ p
+    go true a x y = x ∙ sym y
+    go false a x y = x .2 ∙ ap (λ (fs : List Fate). done words corners fs b) (course-once (gridOf words) corners [] (rimList (gridOf words) corners) (ringList corners) (x .0) (y .0) (x .1) (y .1)) ∙ sym (y .2)

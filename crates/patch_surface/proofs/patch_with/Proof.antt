@@ -1,0 +1,140 @@
+-- `patch_with` writes nothing before every check is done, marks the rims among the states, and hands the course the parts that were written.
+use mathlib.Core.Path.{_∙_, sym}
+use native.Mathlib.Omega.{arith}
+use lib.ListN.{length}
+use borrow.Author.Needs.{needs}
+use Rattle.surface_rules.proofs.Laws.Lists.{as-long}
+use Rattle.surface_rules.proofs.Laws.Thens.{counts-fit}
+use Rattle.survey_rules.proofs.Laws.Known.{Known, known, still-long, grid-ready, lent-long}
+use Rattle.survey_rules.proofs.Laws.Parts.{grid-in, rings-in, lengths-in}
+use Rattle.rim_mark.proofs.Laws.Listed.{mark-room}
+use Rattle.patch_surface.specs.Outcome.{Buffers, buffers}
+use Rattle.patch_surface.proofs.Laws.Patching.{lentBesides, needsBesides, content-refuse, listing-ready, course-room, done-is}
+use Rattle.patch_surface.proofs.patch_with.Statement.{statement}
+use Rattle.patch_surface.proofs.patch_with.Tie as tie
+
+-- the places on the way back, by their types: each call, and the function's entry
+abbrev entry : tie.After-turns → tie.Start
+entry c = search
+
+abbrev checked : tie.Else1 → tie.After-turns
+checked c = search
+
+abbrev passed : tie.After-grid → tie.Else1
+passed c = search
+
+abbrev gridded : tie.After-turns2 → tie.After-grid
+gridded c = search
+
+abbrev listed : tie.After-turns3 → tie.After-turns2
+listed c = search
+
+abbrev marked : tie.After-patch-all → tie.After-turns3
+marked c = search
+
+abbrev placed : tie.After-patch-all → tie.After-places2
+placed c = search
+
+abbrev states-marked : tie.After-patch-all → tie.After-states2
+states-marked c = search
+
+abbrev states-listed : tie.After-places2 → tie.After-states
+states-listed c = search
+
+abbrev places-listed : tie.After-places2 → tie.After-places
+places-listed c = search
+
+-- the buffers as they are lent
+abbrev lent-here : tie.Start → Buffers
+lent-here c = buffers (c .args .grid .now) (c .args .rings .now) (c .args .lengths .now) (c .args .states .now) (c .args .weights .now) (c .args .patches .now)
+
+-- what is known once nothing is refused
+known-here : (c : tie.Else1)
+    → let s = entry (checked c) in
+    let b = lent-here s in
+    Known (s .args .words .now) (s .args .corners .now) (checked c .before .check .last .1 .1 .1 .1 .0) (b .grid) (b .rings) (b .lengths) (lentBesides b) (needsBesides (s .args .corners .now))
+known-here c =
+    let s = entry (checked c) in
+    let b = lent-here s in
+    known _ _ _ (b .grid) (b .rings) (b .lengths) (lentBesides b) (needsBesides (s .args .corners .now)) _ (s .pre .counts) (checked c .before .check .ensures) (sym (c .before .refuses .ensures) ∙ c .if1 .left)
+
+-- the parts of the buffers that were written are there
+grid-there : tie.Need-slice-reshare-prefix-mark
+grid-there c = let l : tie.After-turns2 = search in grid-in (entry (checked (passed (gridded l))) .args .words .now) _ _ (gridded l .before .lay-grid .ensures)
+
+rings-there : tie.Need-slice-reshare-prefix-mark-2
+rings-there c = let l : tie.After-turns2 = search in rings-in (l .before .list-with .ensures .0)
+
+lengths-there : tie.Need-slice-reshare-prefix-mark-3
+lengths-there c = let l : tie.After-turns2 = search in lengths-in (l .before .list-with .ensures .0)
+
+grid-still : tie.Need-slice-reshare-prefix-patch-all
+grid-still c = let m : tie.After-turns3 = search in let l = listed m in grid-in (entry (checked (passed (gridded l))) .args .words .now) _ _ (gridded l .before .lay-grid .ensures)
+
+rings-still : tie.Need-slice-reshare-prefix-patch-all-2
+rings-still c = let m : tie.After-turns3 = search in rings-in (listed m .before .list-with .ensures .0)
+
+lengths-still : tie.Need-slice-reshare-prefix-patch-all-3
+lengths-still c = let m : tie.After-turns3 = search in lengths-in (listed m .before .list-with .ensures .0)
+
+pub patch-with-spec : {M : Type 1} → statement M
+patch-with-spec =
+    tie.close
+    (tie.spec
+    (λ c. let s : tie.Start = search in omega (arith, counts-fit (length (s .args .words .now)) (length (s .args .corners .now)) (s .pre .counts) .few-corners))
+    (λ c. search needs)
+    (λ c. search needs)
+    (λ c κs. let s : tie.Start = search in record { counts = s .pre .counts; long = s .pre .turns-long })
+    (λ c κs. search needs)
+    (λ c κs. search needs)
+    (λ c. let t : tie.After-turns = search in t .turns .given)
+    (λ c. let t : tie.After-turns = search in content-refuse _ _ (lent-here (entry t)) (entry t .pre .counts) _ _ _ (c .refused .ensures) (t .before .check .ensures) (sym (c .before .before .refuses .ensures) ∙ c .before .if1 .taken))
+    (λ c κs. grid-ready (known-here (c .before)))
+    (λ c κs.
+    let g : tie.After-grid = search in
+    let p = passed g in
+    let k = known-here p in
+    let s = entry (checked p) in
+    (listing-ready (s .args .words .now) (s .args .corners .now) (lent-here s) k (still-long (s .pre .turns-long) (checked p .turns .given)), lent-long k _ _ (s .pre .path-long) (s .pre .places-long)))
+    grid-there
+    (λ c. as-long _ _ (grid-there (c .before)))
+    rings-there
+    (λ c. as-long _ _ (rings-there (c .before)))
+    lengths-there
+    (λ c. as-long _ _ (lengths-there (c .before)))
+    (λ c κs.
+    let q : tie.After-places = search in
+    let a = q .before .before in
+    let l = a .before .before in
+    let p = passed (gridded l) in
+    let s = entry (checked p) in
+    mark-room (known-here p) (l .before .list-with .ensures .0) (gridded l .before .lay-grid .ensures) (l .before .list-with .ensures .1)
+    (still-long (still-long (s .pre .turns-long) (checked p .turns .given)) (l .turns2 .given)) (still-long (s .pre .path-long) (a .path .given)) (still-long (s .pre .pieces-long) (q .places .given)))
+    grid-still
+    (λ c. as-long _ _ (grid-still (c .before)))
+    rings-still
+    (λ c. as-long _ _ (rings-still (c .before)))
+    lengths-still
+    (λ c. as-long _ _ (lengths-still (c .before)))
+    (λ c κs.
+    let m : tie.After-turns3 = search in
+    let l = listed m in
+    let p = passed (gridded l) in
+    let s = entry (checked p) in
+    course-room (s .args .words .now) (s .args .corners .now) (lent-here s) (known-here p) (l .before .list-with .ensures .0) (gridded l .before .lay-grid .ensures) (m .before .mark .ensures))
+    (λ c. let r : tie.After-patch-all = search in let m = marked r in let l = listed m in m .turns3 .given ∙ l .turns2 .given ∙ checked (passed (gridded l)) .turns .given)
+    (λ c. let r : tie.After-patch-all = search in let m = placed r in m .before .before .path2 .given ∙ places-listed m .before .before .path .given)
+    (λ c. let r : tie.After-patch-all = search in let m = placed r in m .places2 .given ∙ places-listed m .places .given)
+    (λ c. let r : tie.After-patch-all = search in gridded (listed (marked r)) .grid .given)
+    (λ c. let r : tie.After-patch-all = search in states-listed (placed r) .before .before .before .before .rings .given)
+    (λ c. let r : tie.After-patch-all = search in states-listed (placed r) .before .before .lengths .given)
+    (λ c. let n : tie.After-states3 = search in let m = states-marked (n .before) in n .states3 .given ∙ m .states2 .given ∙ states-listed (m .before .before) .states .given)
+    (λ c. search needs)
+    (λ c. search needs)
+    (λ c.
+    let r : tie.After-patch-all = search in
+    let m = marked r in
+    let l = listed m in
+    let p = passed (gridded l) in
+    let s = entry (checked p) in
+    done-is (s .args .words .now) (s .args .corners .now) (lent-here s) (known-here p) (l .before .list-with .ensures .0) (gridded l .before .lay-grid .ensures) (m .before .mark .ensures) _ _ _ _ (r .patch-all .ensures)))

@@ -1,0 +1,91 @@
+-- What the patcher leaves and answers: the grid, the loops, and what became of each; or a refusal, and everything as it was.
+use mathlib.Core.Path.{_≡_}
+use mathlib.Core.Bool.{Bool, true, false}
+use mathlib.Core.List.{List, [], _∷_, map}
+use Prim.Native.Nat.{ℕ, _*_, _/_}
+use lib.IntN.{ℤ}
+use lib.ListN.{length}
+use Rattle.base_answers.specs.Numbers.{refusing}
+use Rattle.base_answers.specs.declared.Answer.{Answer}
+use Rattle.base_answers.specs.declared.Answer.the-variants.{Done}
+use Rattle.surface_rules.specs.Buffers.{over}
+use Rattle.surface_rules.specs.Refusals.{refusal}
+use Rattle.loop_rules.specs.Loops.{loops}
+use Rattle.loop_cut.specs.Listing.{ringsOf}
+use Rattle.survey_grid.specs.Grid.{gridOf}
+use Rattle.rim_rules.specs.Rims.{rimList}
+use Rattle.fill_fates.specs.Fates.{Fate}
+use Rattle.fill_fates.specs.Course.{Course, ringList, statesOf, weightsOf, laidBy}
+use Rattle.patch_surface.specs.declared.Patched.{Patched}
+
+-- the lent buffers 1 to 6
+pub record Buffers : Type 0 where
+  pub grid : List ℤ
+  pub rings : List ℕ
+  pub lengths : List ℕ
+  pub states : List ℕ
+  pub weights : List ℕ
+  pub patches : List ℕ
+
+-- the answer, the counts, and the buffers as they are left
+pub record Outcome : Type 0 where
+  pub answer : Answer
+  pub loops : ℕ
+  pub vertices : ℕ
+  pub corners : ℕ
+  pub left : Buffers
+
+-- what is answered, with what is left
+abbrev pub outcome : Patched → Buffers → Outcome
+outcome r b = record { answer = r .answer; loops = r .loops; vertices = r .vertices; corners = r .corners; left = b }
+
+abbrev pub buffers : List ℤ → List ℕ → List ℕ → List ℕ → List ℕ → List ℕ → Buffers
+buffers grid rings lengths states weights patches = record {
+  grid = grid;
+  rings = rings;
+  lengths = lengths;
+  states = states;
+  weights = weights;
+  patches = patches;
+}
+
+-- "A refusal ... leaves all buffers untouched and has zero in every count."
+abbrev pub refused : Answer → Buffers → Outcome
+refused a b = record { answer = a; loops = 0; vertices = 0; corners = 0; left = b }
+
+-- "Each is written from its start, grid wholly, the rest as far as used; everything after that stays."
+abbrev pub done : List ℕ → List ℕ → List Fate → Buffers → Outcome
+done words corners fates b = record {
+  answer = Done;
+  loops = length (loops corners);
+  vertices = length (ringsOf corners (loops corners));
+  corners = length (laidBy (ringList corners) fates);
+  left = record {
+    grid = over (gridOf words) (b .grid);
+    rings = over (ringsOf corners (loops corners)) (b .rings);
+    lengths = over (map length (loops corners)) (b .lengths);
+    states = over (statesOf fates) (b .states);
+    weights = over (weightsOf (gridOf words) (ringList corners) fates) (b .weights);
+    patches = over (laidBy (ringList corners) fates) (b .patches);
+  };
+}
+
+-- "1 grid (... at least W), 2 ring vertices (3T), 3 ring lengths (T), 4 states (T), 5 weights (... T), 6 patch corners (9T)"
+abbrev pub needs : List ℕ → List ℕ → List ℕ
+needs words corners =
+    length words ∷ length corners ∷ length corners / 3 ∷ length corners / 3 ∷ length corners / 3 ∷ 3 * length corners ∷ []
+
+abbrev pub lent : Buffers → List ℕ
+lent b =
+    length (b .grid) ∷ length (b .rings) ∷ length (b .lengths) ∷ length (b .states) ∷ length (b .weights) ∷ length (b .patches) ∷ []
+
+-- refused; or done, with the fates that the course gives the loops
+abbrev pub PatchesIf : Bool → Answer → List ℕ → List ℕ → Buffers → Outcome → Type 0
+PatchesIf true a words corners b o = o ≡ refused a b
+PatchesIf false a words corners b o =
+    (fates : List Fate) × Course (gridOf words) corners [] (rimList (gridOf words) corners) (ringList corners) fates × (o ≡ done words corners fates b)
+
+abbrev pub Patches : List ℕ → List ℕ → Buffers → Outcome → Type 0
+Patches words corners b o =
+    let a = refusal words corners (lent b) (needs words corners) in
+    PatchesIf (refusing a) a words corners b o

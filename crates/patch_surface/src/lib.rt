@@ -1,0 +1,89 @@
+// Patches a surface whose counts fit, with lent scratch: the other checks, the grid, the loops, the rims, and what becomes of each.
+ghost use mathlib.Core.Path.{_≡_};
+ghost use Rattle.base_types.specs.Lent.{was, left};
+ghost use Rattle.fill_scratch.specs.Workings.Scratch.{Scratch};
+ghost use Rattle.patch_surface.specs.Outcome.{outcome, buffers, Patches};
+use base_answers::Answer;
+
+// What the patcher answers: done or a refusal, how many loops there are, how many vertices their rings have, and how many corners
+// were laid.
+pub struct Patched {
+    pub answer: Answer,
+    pub loops: usize,
+    pub vertices: usize,
+    pub corners: usize,
+}
+
+// Refusals 3 to 8, and the patching, with a table of turns, a path and places that are long enough.
+pub fn patch_with(
+    words: &[u32],
+    corners: &[u16],
+    turns: &mut [u16],
+    path: &mut [u16],
+    places: &mut [u16],
+    grid: &mut [i32],
+    rings: &mut [u16],
+    lengths: &mut [u16],
+    states: &mut [u16],
+    weights: &mut [u64],
+    patches: &mut [u16],
+) -> Patched
+    requires { ⌜ Scratch (now words) (now corners) (now turns) (now path) (now places) ⌝ }
+    ensures { λ r. ⌜ Patches (was words) (was corners) (buffers (was grid) (was rings) (was lengths) (was states) (was weights) (was patches))
+        (outcome r (buffers (left grid) (left rings) (left lengths) (left states) (left weights) (left patches))) ⌝ }
+{
+    let n = corners.len();
+    let lent = [
+        grid.len(),
+        rings.len(),
+        lengths.len(),
+        states.len(),
+        weights.len(),
+        patches.len(),
+    ];
+    let needs = [words.len(), n, n / 3, n / 3, n / 3, 3 * n];
+    let checked = check_surface::check(words, corners, &lent, &needs, turns);
+    if checked.refuses() {
+        return refused(checked);
+    }
+    survey_grid::lay_grid(words, grid);
+    // the first half-edges stand among the states until the rims are marked there
+    let listed = loop_find::list_with(corners, turns, path, places, rings, lengths, states);
+    rim_mark::mark(
+        &grid[..words.len()],
+        corners,
+        &rings[..listed.vertices],
+        &lengths[..listed.loops],
+        turns,
+        path,
+        places,
+        states,
+    );
+    let laid = patch_all::patch_all(
+        &grid[..words.len()],
+        corners,
+        &rings[..listed.vertices],
+        &lengths[..listed.loops],
+        states,
+        weights,
+        patches,
+    );
+    Patched {
+        answer: Answer::Done,
+        loops: listed.loops,
+        vertices: listed.vertices,
+        corners: laid,
+    }
+}
+
+// A refusal has zero in every count.
+pub fn refused(answer: Answer) -> Patched
+    ensures { λ r. ⌜ (r .answer ≡ answer) × (r .loops ≡ 0) × (r .vertices ≡ 0) × (r .corners ≡ 0) ⌝ }
+{
+    Patched {
+        answer,
+        loops: 0,
+        vertices: 0,
+        corners: 0,
+    }
+}

@@ -1,3 +1,0 @@
--- The laws of the patcher, each file for one idea.
-pub mod Patching
-pub mod Once

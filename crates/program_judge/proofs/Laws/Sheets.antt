@@ -1,0 +1,86 @@
+-- From what a sheet was taken in from to what is answered on its text.
+use mathlib.Core.Path.{_≡_, sym, ap, _∙_}
+use mathlib.Core.List.{List}
+use Prim.Native.Nat.{ℕ, _+_, _*_, _/_, _≤_}
+use native.Mathlib.Omega.{arith}
+use lib.ListN.{length, take}
+use lib.Seq.{length-take-le}
+use Rattle.base_answers.specs.declared.Answer.{Answer}
+use Rattle.base_answers.specs.declared.Answer.the-variants.{Line}
+use Rattle.base_limits.specs.Limits as limits
+use Rattle.surface_rules.specs.Threes.{Three, flat}
+use Rattle.surface_rules.proofs.Laws.Threes.{flat-length, front-of}
+use Rattle.text_rules.specs.Text.{lines}
+use Rattle.text_rules.specs.Workings.Parse.{said}
+use Rattle.text_rules.specs.Workings.Scanning.{Scanned}
+use Rattle.text_rules.specs.declared.Scan.{Scan}
+use Rattle.text_rules.specs.declared.Scan.the-variants.{Whole, Wrong}
+use Rattle.text_rules.proofs.Laws.Scanning.{whole-wrong, Kept, kept}
+use Rattle.text_rules.proofs.Laws.Lines.{lines-length}
+use Rattle.text_sheet.specs.Sheet.{points, triangles}
+use Rattle.text_sheet.specs.Workings.Parse.{parse}
+use Rattle.text_sheet.proofs.Laws.Texts.{parse-text, fault-only}
+use Rattle.text_read.proofs.Laws.Deliver as deliver
+use Rattle.program_judge.specs.Workings.Taken.{Taken, HearsTaken, HearsSet}
+
+-- a text with a fault
+pub wrong-hears : (scan : Scan) (words corners patches : List ℕ) (line : ℕ) → scan ≡ Wrong line → HearsTaken scan words corners patches (Line line)
+unfolding HearsTaken Scanned
+wrong-hears scan words corners patches line e t =
+    record {
+      of-fault = λ l f. let h : scan ≡ Wrong l = rw (fault-only f) at (t .scanned) in let d : line ≡ l = cc in ap Line d;
+      of-set-fault = λ ps ts x l f. absurd (none ps ts (rw (parse-text x) at (t .scanned)));
+      of-set = λ ps ts x ss us y. absurd (none ps ts (rw (parse-text x) at (t .scanned)));
+    }
+  where
+    none : (ps ts : List Three) → Scanned flat flat (said ps ts) scan words corners (t .words-before) (t .corners-before) → ⊥
+    none ps ts h = whole-wrong (sym (h .0) ∙ e)
+
+-- a whole text of n points and m triangles
+module _ (scan : Scan) (words corners : List ℕ) (n m : ℕ) (e : scan ≡ Whole n m) where
+  module _ (t : Taken scan words corners) where
+    here : Kept flat flat parse (t .text) n m words corners (t .words-before) (t .corners-before)
+    here = kept flat flat parse (t .text) scan n m words corners (t .words-before) (t .corners-before) (t .scanned) e
+
+    pub points-few : n ≤ limits.points
+    points-few = deliver.few-points here
+
+    pub triangles-few : m ≤ limits.triangles
+    triangles-few = deliver.few-triangles here
+
+    -- the buffers hold all of them
+    pub words-within : 3 * n ≤ length words
+    words-within = deliver.words-in here
+
+    pub corners-within : 3 * m ≤ length corners
+    corners-within = deliver.corners-in here
+
+    pub words-cut : 3 * n ≡ length (take (3 * n) words)
+    words-cut = sym (length-take-le (3 * n) words words-within)
+
+    pub corners-cut : 3 * m ≡ length (take (3 * m) corners)
+    corners-cut = sym (length-take-le (3 * m) corners corners-within)
+
+    pub cut-few : (length (take (3 * n) words) ≤ limits.words) × (length (take (3 * m) corners) ≤ limits.corners)
+    cut-few = (omega (arith, words-cut, points-few), omega (arith, corners-cut, triangles-few))
+
+  -- as many lines as are counted
+  lines-counted : (ps ts : List Three) → length (flat ps) / 3 + length (flat ts) / 3 + 2 ≡ length (lines points triangles ps ts)
+  lines-counted ps ts = omega (arith, flat-length ps, flat-length ts, lines-length points triangles ps ts)
+
+  pub whole-hears : (patches : List ℕ) (a : Answer) → HearsSet (take (3 * n) words) (take (3 * m) corners) patches a → HearsTaken scan words corners patches a
+  unfolding HearsTaken Scanned
+  whole-hears patches a h t =
+      record {
+        of-fault = λ l f. absurd (whole-wrong (sym e ∙ rw (fault-only f) at (t .scanned)));
+        of-set-fault = λ ps ts x l f.
+            on ps ts (rw (parse-text x) at (t .scanned)) .of-set-fault l f ∙ ap (λ (k : ℕ). Line (k + l)) (lines-counted ps ts);
+        of-set = λ ps ts x ss us y. on ps ts (rw (parse-text x) at (t .scanned)) .of-set ss us y;
+      }
+    where
+      on : (ps ts : List Three) → Scanned flat flat (said ps ts) scan words corners (t .words-before) (t .corners-before) → HearsSet (flat ps) (flat ts) patches a
+      on ps ts s =
+          let d : Whole n m ≡ Whole (length ps) (length ts) = sym e ∙ s .0 in
+          let f : take (3 * n) words ≡ flat ps = front-of ps words (t .words-before) n (s .1) cc in
+          let g : take (3 * m) corners ≡ flat ts = front-of ts corners (t .corners-before) m (s .2) cc in
+          rw (f, g) at h

@@ -1,0 +1,53 @@
+-- What is promised of the answer leaves nothing open, and what the program has no room for changes nothing.
+use mathlib.Core.Path.{_≡_, sym, _∙_}
+use mathlib.Core.Logic.{inl, inr}
+use mathlib.Core.List.{List}
+use Prim.Native.Nat.{ℕ, suc, _≤_}
+use native.Mathlib.Omega.{arith}
+use lib.ListN.{length, take}
+use Rattle.base_answers.specs.declared.Answer.{Answer}
+use Rattle.base_limits.specs.Limits as limits
+use Rattle.surface_rules.specs.Threes.{Three, flat}
+use Rattle.text_rules.specs.Text.{TextOf}
+use Rattle.text_rules.specs.Fault.{Fault}
+use Rattle.text_rules.proofs.Theorems.{Known}
+use Rattle.text_rules.proofs.Laws.Cut.{text-first, fault-first}
+use Rattle.text_sheet.specs.Sheet.{points, triangles}
+use Rattle.text_sheet.proofs.Laws.Texts as sheets
+use Rattle.text_sheet.proofs.Theorems.{longest}
+use Rattle.text_read_set.specs.Set as set
+use Rattle.text_read_set.proofs.Laws.Texts as sets
+use Rattle.text_read_set.proofs.Theorems.{set-longest}
+use Rattle.program_judge.specs.Hears.{Hears}
+use Rattle.program_judge.proofs.Laws.Answered.{answers-once}
+
+-- two answers that are allowed are equal
+pub hears-once : (sheet patches : List ℕ) (a b : Answer) → Hears sheet patches a → Hears sheet patches b → a ≡ b
+hears-once sheet patches a b p q = go (sheets.text-or-fault sheet)
+  where
+    of-sheet : (ps ts : List Three) → TextOf points triangles sheet ps ts → Known set.states set.triangles patches → a ≡ b
+    of-sheet ps ts t (inl u) =
+        answers-once (flat ps) (flat ts) (u .0) (flat (u .1)) a b (p .of-set ps ts t (u .0) (u .1) (u .2)) (q .of-set ps ts t (u .0) (u .1) (u .2))
+    of-sheet ps ts t (inr f) = p .of-set-fault ps ts t (f .0) (f .1) ∙ sym (q .of-set-fault ps ts t (f .0) (f .1))
+
+    go : Known points triangles sheet → a ≡ b
+    go (inl t) = of-sheet (t .0) (t .1) (t .2) (sets.text-or-fault patches)
+    go (inr f) = p .of-fault (f .0) (f .1) ∙ sym (q .of-fault (f .0) (f .1))
+
+-- what is right for the first bytes of both, one more than the longest text of a set has, is right for all
+pub hears-front : (sheet patches : List ℕ) (a : Answer) → Hears (take (suc limits.set-text) sheet) (take (suc limits.set-text) patches) a → Hears sheet patches a
+hears-front sheet patches a p =
+    record {
+      of-fault = λ line f. p .of-fault line (sheet-fault line f);
+      of-set-fault = λ ps ts t line f. p .of-set-fault ps ts (sheet-text ps ts t) line (fault-first set.states set.triangles limits.set-text (λ b ss us u. set-longest u) patches line f);
+      of-set = λ ps ts t ss us u. p .of-set ps ts (sheet-text ps ts t) ss us (text-first set.states set.triangles limits.set-text (λ b ss us u. set-longest u) patches ss us u);
+    }
+  where
+    no-longer : (bytes : List ℕ) (ps ts : List Three) → TextOf points triangles bytes ps ts → length bytes ≤ limits.set-text
+    no-longer bytes ps ts t = omega (arith, longest t)
+
+    sheet-fault : (line : ℕ) → Fault points triangles sheet line → Fault points triangles (take (suc limits.set-text) sheet) line
+    sheet-fault = fault-first points triangles limits.set-text no-longer sheet
+
+    sheet-text : (ps ts : List Three) → TextOf points triangles sheet ps ts → TextOf points triangles (take (suc limits.set-text) sheet) ps ts
+    sheet-text = text-first points triangles limits.set-text no-longer sheet

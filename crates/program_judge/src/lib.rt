@@ -1,0 +1,64 @@
+// Hears a patch set: a wrong line of the sheet's text, a wrong line of the set's, or what the checker answers.
+ghost use Prim.Native.Nat.{_≤_};
+ghost use lib.ListN.{length};
+ghost use Rattle.base_types.specs.Lent.{was};
+ghost use Rattle.base_limits.specs.Limits as limits;
+ghost use Rattle.program_judge.specs.Hears.{Answers};
+ghost use Rattle.program_judge.specs.Workings.Taken.{Taken, HearsTaken, HearsSet};
+use base_answers::Answer;
+use base_types::PatchSet;
+use base_types::Surface;
+use judge_answer::Judged;
+use text_rules::Scan;
+
+// The answer on a sheet that was taken in, and on the text of a set. The sheet's corners may name no point: a wrong line of the set
+// comes first.
+pub fn hear(sheet: Scan, words: &[u32], corners: &[u16], text: &[u8]) -> Answer
+    requires { ⌜ Taken sheet (now words) (now corners) ⌝ }
+    ensures { λ r. ⌜ HearsTaken sheet (was words) (was corners) (was text) r ⌝ }
+{
+    match sheet {
+        Scan::Wrong(line) => Answer::Line(line),
+        Scan::Whole(points, triangles) => {
+            let w = 3 * points;
+            let c = 3 * triangles;
+            hear_set(&words[..w], &corners[..c], text)
+        }
+    }
+}
+
+// The answer on a sheet's words and corners. The lines of the set are counted on after the sheet's last.
+fn hear_set(words: &[u32], corners: &[u16], text: &[u8]) -> Answer
+    requires { ⌜ (length (now words) ≤ limits.words) × (length (now corners) ≤ limits.corners) ⌝ }
+    ensures { λ r. ⌜ HearsSet (was words) (was corners) (was text) r ⌝ }
+{
+    let mut states = [0u16; PatchSet::STATES];
+    let mut set = [0u16; PatchSet::CORNERS];
+    let lines = (words.len() / 3 + corners.len() / 3 + 2) as u16;
+    let read = text_read_set::read_set(text, lines, &mut states, &mut set);
+    let answer = read.answer;
+    if answer.refuses() {
+        return answer;
+    }
+    judge(words, corners, &states[..read.states], &set[..read.corners])
+}
+
+// The checker's answer, which no buffer is too short for.
+fn judge(words: &[u32], corners: &[u16], states: &[u16], set: &[u16]) -> Answer
+    requires { ⌜ (length (now words) ≤ limits.words) × (length (now corners) ≤ limits.corners) ⌝ }
+    ensures { λ r. ⌜ Answers (was words) (was corners) (was states) (was set) r ⌝ }
+{
+    let mut grid = [0i32; Surface::WORDS];
+    let mut rings = [0u16; Surface::CORNERS];
+    let mut lengths = [0u16; Surface::TRIANGLES];
+    let judged: Judged = judge::judge(
+        words,
+        corners,
+        states,
+        set,
+        &mut grid,
+        &mut rings,
+        &mut lengths,
+    );
+    judged.answer
+}

@@ -1,0 +1,40 @@
+-- The line `answer=` and the line `loops=` are short.
+use mathlib.Core.Path.{_≡_, sym, ap, _∙_}
+use mathlib.Core.List.{List, [], _∷_}
+use Prim.Native.Nat.{ℕ, _+_, _≤_}
+use native.Mathlib.Omega.{arith}
+use lib.ListN.{length}
+use mir.Val.{Fits}
+use mir.Syntax.{w32, w64}
+use Rattle.base_answers.specs.Numbers.{numberOf, placeOf}
+use Rattle.base_answers.specs.declared.Answer.{Answer}
+use Rattle.surface_rules.specs.Buffers.{over, laid}
+use Rattle.text_digits.proofs.Laws.Sizes.{size-below}
+use Rattle.text_sheet.proofs.Laws.Going.{over-laid}
+use Rattle.program_lines.specs.Lines.{line, answer=, loops=, answerLine}
+use Rattle.program_lines.proofs.Laws.Digits.{size-word}
+use Rattle.program_lines.proofs.Laws.Lines.{one-length, two-length}
+use Rattle.program_lines.proofs.put_answer.⟦LINE⟧-asked.Lts as for-line
+
+-- how long the code says that they can be
+abbrev line-most : ℕ
+line-most = for-line.answer tt tt
+
+two-short : (n p : ℕ) → Fits w32 n → Fits w64 p → length (line answer= (n ∷ p ∷ [])) ≤ line-most
+two-short n p h l = omega (arith, two-length answer= n p, size-below 9 n (omega arith), size-word p l)
+
+pub answer-short : (out : List ℕ) (n p : ℕ) → Fits w32 n → Fits w64 p → line-most ≤ length out → 0 + length (line answer= (n ∷ p ∷ [])) ≤ length out
+answer-short out n p h l m = omega (arith, two-short n p h l)
+
+pub answer-put : (a : Answer) (n p r : ℕ) (out after : List ℕ) → n ≡ numberOf a → p ≡ placeOf a → Fits w32 n → Fits w64 p
+    → after ≡ laid 0 (line answer= (n ∷ p ∷ [])) out → r ≡ 0 + length (line answer= (n ∷ p ∷ []))
+    → ((after ≡ over (answerLine a) out) × (r ≡ length (answerLine a))) × (r ≤ line-most)
+answer-put a n p r out after e f h l q z =
+    let s : line answer= (n ∷ p ∷ []) ≡ answerLine a = ap (λ (x : ℕ). line answer= (x ∷ p ∷ [])) e ∙ ap (λ (x : ℕ). line answer= (numberOf a ∷ x ∷ [])) f in
+    ((q ∙ sym (over-laid (line answer= (n ∷ p ∷ [])) out) ∙ ap (λ (l : List ℕ). over l out) s, omega (arith, z, ap length s)), omega (arith, z, two-short n p h l))
+
+pub count-short : (n : ℕ) → Fits w64 n → length (line loops= (n ∷ [])) ≤ line-most
+count-short n h = omega (arith, one-length loops= n, size-word n h)
+
+pub count-room : (n : ℕ) → Fits w64 n → (at : ℕ) (out : List ℕ) → at + line-most ≤ length out → at + length (line loops= (n ∷ [])) ≤ length out
+count-room n h at out l = omega (arith, count-short n h)

@@ -1,0 +1,31 @@
+-- What the lines tell: an answer's line tells its number and its place.
+use mathlib.Core.Path.{_≡_, sym, ap, _∙_}
+use mathlib.Core.List.{List, [], _∷_, _++_, append-assoc}
+use Prim.Native.Nat.{ℕ, _+_, _≤_}
+use native.Mathlib.Omega.{arith}
+use lib.ListN.{drop}
+use Rattle.base_answers.specs.Numbers.{numberOf, placeOf}
+use Rattle.base_answers.specs.declared.Answer.{Answer}
+use Rattle.text_digits.specs.Numeral.{decimal}
+use Rattle.text_digits.specs.Workings.Reading.{got, valueOf, readDecimal}
+use Rattle.text_digits.proofs.Laws.Exactly.{decimal-exact}
+use Rattle.text_rules.specs.Text.{feed}
+use Rattle.text_sheet.specs.Sheet.{comma}
+use Rattle.program_lines.specs.Lines.{joined, line, answerLine}
+
+-- a number that is ended by no digit is told by what begins with it
+ended-apart : (e n m : ℕ) (r s : List ℕ) → 10 ≤ valueOf e → (decimal n ++ (e ∷ [])) ++ r ≡ (decimal m ++ (e ∷ [])) ++ s → (n ≡ m) × (r ≡ s)
+ended-apart e n m r s h q =
+    let a = decimal-exact e (n + m) h .finds n r (omega arith) in
+    let b = decimal-exact e (n + m) h .finds m s (omega arith) in
+    let c : got n r ≡ got m s = sym a ∙ ap (readDecimal e (n + m)) q ∙ b in
+    (cc, cc)
+
+pub answers-apart : (a b : Answer) → answerLine a ≡ answerLine b → (numberOf a ≡ numberOf b) × (placeOf a ≡ placeOf b)
+unfolding line joined
+answers-apart a b q =
+    let x = append-assoc (decimal (numberOf a)) (comma ∷ []) (decimal (placeOf a) ++ (feed ∷ [])) in
+    let y = append-assoc (decimal (numberOf b)) (comma ∷ []) (decimal (placeOf b) ++ (feed ∷ [])) in
+    let f = ended-apart comma (numberOf a) (numberOf b) (decimal (placeOf a) ++ (feed ∷ [])) (decimal (placeOf b) ++ (feed ∷ [])) (omega arith) (x ∙ ap (drop 7) q ∙ sym y) in
+    let g = ended-apart feed (placeOf a) (placeOf b) [] [] (omega arith) (ap (λ (l : List ℕ). l ++ []) (f .1)) in
+    (f .0, g .0)

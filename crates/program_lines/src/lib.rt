@@ -1,0 +1,243 @@
+// The lines that the programs print, put into a buffer.
+ghost use mathlib.Core.Path.{_≡_};
+ghost use mathlib.Core.Bool.{cond};
+ghost use mathlib.Core.List.{[], _∷_, _++_};
+ghost use Prim.Native.Nat.{_+_, _-_, _*_, _^_, _<_, _≤_};
+ghost use lib.Dec.{eqb};
+ghost use lib.ListN.{length};
+ghost use Rattle.base_types.specs.Lent.{was, left};
+ghost use Rattle.surface_rules.specs.Buffers.{over, laid};
+ghost use Rattle.text_digits.specs.Numeral.{size, places, decimal};
+ghost use Rattle.program_lines.specs.Lines.{answerLine, line, loops=, ring=};
+ghost use Rattle.program_lines.specs.Listing.{loopLines, patchLines};
+ghost use Rattle.program_lines.specs.Workings.Telling.{shown, NextRoom, TellsNext};
+use base_answers::Answer;
+use base_types::Loop;
+use base_types::State;
+use base_types::Surface;
+
+// How many bytes an answer's line has at most, and the lines of one loop: six for each vertex of its ring, with the comma, and for each
+// triangle of its patch the key and three numbers.
+pub const LINE: usize = 48;
+
+pub const WIDEST: usize = LINE + 6 * Surface::CORNERS + 24 * Loop::LONGEST;
+
+// How far a listing is: the loops told, the ring vertices and patch corners that those have, and the bytes that are in the buffer.
+pub struct Progress {
+    pub loops: usize,
+    pub vertices: usize,
+    pub corners: usize,
+    pub bytes: usize,
+}
+
+// How many digits a number has.
+fn size_of(n: u64) -> usize
+    ensures { λ r. ⌜ r ≡ size n ⌝ }
+{
+    let mut size: usize = 1;
+    let mut v = n;
+    while 10 <= v {
+        v /= 10;
+        size += 1;
+    }
+    size
+}
+
+// Puts the digits of a number from a place on, the last first.
+fn put_digits(out: &mut [u8], at: usize, n: u64, size: usize)
+    requires { ⌜ (at + size ≤ length (now out)) × (n < 10 ^ size) ⌝ }
+    ensures { λ _. ⌜ left out ≡ laid at (places 10 size n) (was out) ⌝ }
+{
+    let mut k = size;
+    let mut v = n;
+    while 0 < k {
+        k -= 1;
+        out[at + k] = b'0' + (v % 10) as u8;
+        v /= 10;
+    }
+}
+
+// Puts a number and the byte that ends it, and answers the place after that.
+pub fn put_number(out: &mut [u8], at: usize, n: u64, end: u8) -> usize
+    requires { ⌜ at + size n + 1 ≤ length (now out) ⌝ }
+    ensures { λ r. ⌜ (left out ≡ laid at (decimal n ++ (end ∷ [])) (was out)) × (r ≡ at + size n + 1) ⌝ }
+{
+    let size = size_of(n);
+    put_digits(out, at, n, size);
+    out[at + size] = end;
+    at + size + 1
+}
+
+// Puts a line of a key and one number.
+fn put_one(out: &mut [u8], at: usize, key: &[u8], a: u64) -> usize
+    requires { ⌜ at + length (line (now key) (a ∷ [])) ≤ length (now out) ⌝ }
+    ensures { λ r. ⌜
+        (left out ≡ laid at (line (was key) (a ∷ [])) (was out))
+        × (r ≡ at + length (line (was key) (a ∷ [])))
+        ⌝ }
+{
+    text_figures::put_bytes(out, at, key);
+    put_number(out, at + key.len(), a, b'\n')
+}
+
+// Puts a line of a key and two numbers.
+fn put_two(out: &mut [u8], at: usize, key: &[u8], a: u64, b: u64) -> usize
+    requires { ⌜ at + length (line (now key) (a ∷ b ∷ [])) ≤ length (now out) ⌝ }
+    ensures { λ r. ⌜
+        (left out ≡ laid at (line (was key) (a ∷ b ∷ [])) (was out))
+        × (r ≡ at + length (line (was key) (a ∷ b ∷ [])))
+        ⌝ }
+{
+    text_figures::put_bytes(out, at, key);
+    let i = put_number(out, at + key.len(), a, b',');
+    put_number(out, i, b, b'\n')
+}
+
+// Puts a line of a key and three numbers.
+fn put_three(out: &mut [u8], at: usize, key: &[u8], a: u64, b: u64, c: u64) -> usize
+    requires { ⌜ at + length (line (now key) (a ∷ b ∷ c ∷ [])) ≤ length (now out) ⌝ }
+    ensures { λ r. ⌜
+        (left out ≡ laid at (line (was key) (a ∷ b ∷ c ∷ [])) (was out))
+        × (r ≡ at + length (line (was key) (a ∷ b ∷ c ∷ [])))
+        ⌝ }
+{
+    text_figures::put_bytes(out, at, key);
+    let i = put_number(out, at + key.len(), a, b',');
+    let j = put_number(out, i, b, b',');
+    put_number(out, j, c, b'\n')
+}
+
+// Puts the line `answer=`, and answers how many bytes it has.
+pub fn put_answer(out: &mut [u8], answer: Answer) -> usize
+    requires { do most ← ⟦LINE⟧; ⌜ most ≤ length (now out) ⌝ }
+    ensures { λ r. ⌜ (left out ≡ over (answerLine answer) (was out)) × (r ≡ length (answerLine answer)) ⌝ }
+    ensures { λ r. do most ← ⟦LINE⟧ .entry; ⌜ r ≤ most ⌝ }
+{
+    let number = answer.number() as u64;
+    let place = answer.place() as u64;
+    put_two(out, 0, b"answer=", number, place)
+}
+
+// Puts the line `loops=`.
+pub fn put_count(out: &mut [u8], at: usize, loops: usize) -> usize
+    requires { do most ← ⟦LINE⟧; ⌜ at + most ≤ length (now out) ⌝ }
+    ensures { λ r. ⌜
+        (left out ≡ laid at (line loops= (loops ∷ [])) (was out))
+        × (r ≡ at + length (line loops= (loops ∷ [])))
+        ⌝ }
+    ensures { λ r. do most ← ⟦LINE⟧ .entry; ⌜ r ≤ at + most ⌝ }
+{
+    put_one(out, at, b"loops=", loops as u64)
+}
+
+// Puts the line `ring=`.
+fn put_ring(out: &mut [u8], at: usize, ring: &[u16]) -> usize
+    requires { ⌜ at + length (line ring= (now ring)) ≤ length (now out) ⌝ }
+    ensures { λ r. ⌜
+        (left out ≡ laid at (line ring= (was ring)) (was out))
+        × (r ≡ at + length (line ring= (was ring)))
+        ⌝ }
+{
+    text_figures::put_bytes(out, at, b"ring=");
+    let mut place = at + 5;
+    let mut i: usize = 0;
+    while i < ring.len() {
+        let end = if i + 1 < ring.len() { b',' } else { b'\n' };
+        place = put_number(out, place, ring[i] as u64, end);
+        i += 1;
+    }
+    place
+}
+
+// Puts a line `patch=` for each triangle.
+fn put_patch(out: &mut [u8], at: usize, patch: &[u16]) -> usize
+    requires { ⌜ at + length (patchLines (now patch)) ≤ length (now out) ⌝ }
+    ensures { λ r. ⌜
+        (left out ≡ laid at (patchLines (was patch)) (was out))
+        × (r ≡ at + length (patchLines (was patch)))
+        ⌝ }
+{
+    let mut place = at;
+    let mut i: usize = 0;
+    while i < patch.len() / 3 {
+        place = put_three(
+            out,
+            place,
+            b"patch=",
+            patch[3 * i] as u64,
+            patch[3 * i + 1] as u64,
+            patch[3 * i + 2] as u64,
+        );
+        i += 1;
+    }
+    place
+}
+
+// Puts the lines of one loop.
+fn put_loop(
+    out: &mut [u8],
+    at: usize,
+    ring: &[u16],
+    state: u16,
+    weight: u64,
+    patch: &[u16],
+) -> usize
+    requires { ⌜ at + length (loopLines (shown (now ring) state weight (now patch))) ≤ length (now out) ⌝ }
+    ensures { λ r. ⌜
+        (left out ≡ laid at (loopLines (shown (was ring) state weight (was patch))) (was out))
+        × (r ≡ at + length (loopLines (shown (was ring) state weight (was patch))))
+        ⌝ }
+{
+    let i = put_three(out, at, b"loop=", ring.len() as u64, state as u64, weight);
+    let j = put_ring(out, i, ring);
+    put_patch(out, j, patch)
+}
+
+// How many corners the patch of a loop with that many edges has in that state.
+fn corners_of(n: usize, state: u16) -> usize
+    requires { ⌜ (2 ≤ n) × (n < 2 ^ 16) ⌝ }
+    ensures { λ r. ⌜ r ≡ cond (eqb state 1) (3 * (n - 2)) 0 ⌝ }
+{
+    if state == State::PATCHED {
+        3 * (n - 2)
+    } else {
+        0
+    }
+}
+
+// Puts the lines of the next loop.
+pub fn put_next(
+    out: &mut [u8],
+    progress: Progress,
+    rings: &[u16],
+    lengths: &[u16],
+    states: &[u16],
+    weights: &[u64],
+    patches: &[u16],
+) -> Progress
+    requires { do most ← ⟦WIDEST⟧; ⌜ progress .bytes + most ≤ length (now out) ⌝ }
+    requires { ⌜ NextRoom (now rings) (now lengths) (now states) (now weights) (now patches) progress ⌝ }
+    ensures { λ r. ⌜ TellsNext (was rings) (was lengths) (was states) (was weights) (was patches) progress r (was out) (left out) ⌝ }
+    ensures { λ r. do most ← ⟦WIDEST⟧ .entry; ⌜ r .bytes ≤ progress .bytes + most ⌝ }
+{
+    let l = progress.loops;
+    let n = lengths[l] as usize;
+    let state = states[l];
+    let k = corners_of(n, state);
+    let r = progress.vertices;
+    let p = progress.corners;
+    let bytes = put_loop(
+        out,
+        progress.bytes,
+        &rings[r..r + n],
+        state,
+        weights[l],
+        &patches[p..p + k],
+    );
+    Progress {
+        loops: l + 1,
+        vertices: r + n,
+        corners: p + k,
+        bytes,
+    }
+}

@@ -1,0 +1,78 @@
+-- What is promised of a text leaves nothing open; what was left in buffers of the full size tells what is to be printed; and what the
+-- program has no room for changes nothing.
+use mathlib.Core.Path.{_≡_, refl, sym, ap, subst, _∙_}
+use mathlib.Core.Bool.{Bool, true, false, true≢false}
+use mathlib.Core.Logic.{inl, inr}
+use mathlib.Core.List.{List, [], flatten}
+use Prim.Native.Nat.{ℕ, suc}
+use lib.ListN.{length, take}
+use Rattle.base_answers.specs.Numbers.{refusing}
+use Rattle.base_answers.specs.declared.Answer.{Answer}
+use Rattle.base_limits.specs.Limits as limits
+use Rattle.surface_rules.specs.Refusals.{sheetRefusal}
+use Rattle.surface_rules.specs.Threes.{flat}
+use Rattle.survey_grid.specs.Grid.{gridOf}
+use Rattle.rim_rules.specs.Rims.{rimList}
+use Rattle.fill_fates.specs.Fates.{Fate}
+use Rattle.fill_fates.specs.Course.{ringList}
+use Rattle.fill_fates.proofs.Theorems.{course-once}
+use Rattle.patch_surface.specs.Outcome.{Buffers, Outcome}
+use Rattle.patch_surface.proofs.Theorems.{patches-once}
+use Rattle.text_rules.proofs.Theorems.{Known}
+use Rattle.text_rules.proofs.Laws.Cut.{text-first, fault-first}
+use Rattle.text_sheet.specs.Sheet.{points, triangles}
+use Rattle.text_sheet.proofs.Laws.Texts.{text-or-fault}
+use Rattle.text_sheet.proofs.Theorems.{longest}
+use Rattle.program_lines.specs.Listing.{Shown, listing}
+use Rattle.program_roll.specs.Sections.{Sections}
+use Rattle.program_roll.proofs.Theorems.{sections-joined}
+use Rattle.program_list.specs.Lists.{Lists, loopsOf, PrintsIf, Prints}
+use Rattle.program_list.specs.Workings.Printed.{Full, Printed}
+use Rattle.program_list.proofs.Laws.Printed.{text-refused, text-done, fault-prints}
+
+-- two outcomes that are allowed are equal
+pub lists-once : (bytes : List ℕ) (b : Buffers) (o p : Outcome) → Lists bytes b o → Lists bytes b p → o ≡ p
+lists-once bytes b o p x y = go (text-or-fault bytes)
+  where
+    go : Known points triangles bytes → o ≡ p
+    go (inl t) = patches-once (flat (t .0)) (flat (t .1)) b o p (x .of-text (t .0) (t .1) (t .2)) (y .of-text (t .0) (t .1) (t .2))
+    go (inr f) = x .of-fault (f .0) (f .1) ∙ sym (y .of-fault (f .0) (f .1))
+
+-- two outputs that are allowed are equal
+pub prints-once : (bytes out out′ : List ℕ) → Prints bytes out → Prints bytes out′ → out ≡ out′
+prints-once bytes out out′ x y = go (text-or-fault bytes)
+  where
+    of-text : (words corners : List ℕ) (t : Bool) (a : Answer) → PrintsIf t a words corners out → PrintsIf t a words corners out′ → out ≡ out′
+    of-text words corners true a p q = p ∙ sym q
+    of-text words corners false a p q =
+        p .2
+        ∙ ap (λ (fs : List Fate). listing (loopsOf (gridOf words) (ringList corners) fs)) (course-once (gridOf words) corners [] (rimList (gridOf words) corners) (ringList corners) (p .0) (q .0) (p .1) (q .1))
+        ∙ sym (q .2)
+
+    go : Known points triangles bytes → out ≡ out′
+    go (inl t) =
+        let a = sheetRefusal (flat (t .0)) (flat (t .1)) in
+        of-text (flat (t .0)) (flat (t .1)) (refusing a) a (x .of-text (t .0) (t .1) (t .2)) (y .of-text (t .0) (t .1) (t .2))
+    go (inr f) = x .of-fault (f .0) (f .1) ∙ sym (y .of-fault (f .0) (f .1))
+
+-- what was left in buffers of the full size tells what is to be printed
+pub lists-printed : (bytes : List ℕ) (b : Buffers) (o : Outcome) → Full b → Lists bytes b o → Printed (refusing (o .answer)) bytes o
+lists-printed bytes b o full x = go (refusing (o .answer)) refl (text-or-fault bytes)
+  where
+    go : (r : Bool) → refusing (o .answer) ≡ r → Known points triangles bytes → Printed r bytes o
+    go true r (inl t) = text-refused (t .2) b full o (x .of-text (t .0) (t .1) (t .2)) r
+    go true r (inr f) = subst (Printed true bytes) (sym (x .of-fault (f .0) (f .1))) (fault-prints (f .1))
+    go false r (inl t) = text-done (t .2) b full o (x .of-text (t .0) (t .1) (t .2)) r
+    go false r (inr f) = absurd (true≢false (ap (λ (q : Outcome). refusing (q .answer)) (sym (x .of-fault (f .0) (f .1))) ∙ r))
+
+-- so of a listing's sections, joined
+pub sections-printed : (bytes : List ℕ) (loops : List Shown) (sections : List (List ℕ)) → Prints bytes (listing loops) → Sections loops (length loops) sections → Prints bytes (flatten sections)
+sections-printed bytes loops sections p q = subst (Prints bytes) (sym (sections-joined loops sections q)) p
+
+-- what is right for the first bytes, one more than the longest text has, is right for all
+pub prints-front : (bytes out : List ℕ) → Prints (take (suc limits.sheet-text) bytes) out → Prints bytes out
+prints-front bytes out p =
+    record {
+      of-fault = λ line f. p .of-fault line (fault-first points triangles limits.sheet-text (λ b ps ts t. longest t) bytes line f);
+      of-text = λ ps ts t. p .of-text ps ts (text-first points triangles limits.sheet-text (λ b ps ts t. longest t) bytes ps ts t);
+    }

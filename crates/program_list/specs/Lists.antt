@@ -1,0 +1,45 @@
+-- What is left and answered for a sheet's text, by reading it and patching what it says; and what is printed of it: "The listing program
+-- reads a text from standard input and prints `answer=number,place`; if the number is 0, then `loops=`, and for each loop ..."
+use mathlib.Core.Path.{_≡_}
+use mathlib.Core.Bool.{Bool, true, false}
+use mathlib.Core.List.{List, [], _∷_}
+use Prim.Native.Nat.{ℕ}
+use lib.IntN.{ℤ}
+use Rattle.base_answers.specs.Numbers.{refusing}
+use Rattle.base_answers.specs.declared.Answer.{Answer}
+use Rattle.base_answers.specs.declared.Answer.the-variants.{Line}
+use Rattle.surface_rules.specs.Refusals.{sheetRefusal}
+use Rattle.surface_rules.specs.Threes.{Three, flat}
+use Rattle.survey_grid.specs.Grid.{gridOf}
+use Rattle.rim_rules.specs.Rims.{rimList}
+use Rattle.fill_fates.specs.Fates.{Fate, stateOf, weighs, lays}
+use Rattle.fill_fates.specs.Course.{Course, ringList}
+use Rattle.patch_surface.specs.Outcome.{Buffers, Outcome, refused, Patches}
+use Rattle.text_rules.specs.Text.{TextOf}
+use Rattle.text_rules.specs.Fault.{Fault}
+use Rattle.text_sheet.specs.Sheet.{points, triangles}
+use Rattle.program_lines.specs.Lines.{answerLine}
+use Rattle.program_lines.specs.Listing.{Shown, listing}
+
+-- a text with a fault is refused at the fault's line, and what any other says is patched
+pub record Lists (bytes : List ℕ) (b : Buffers) (o : Outcome) : Type 0 where
+  pub of-fault : (line : ℕ) → Fault points triangles bytes line → o ≡ refused (Line line) b
+  pub of-text : (ps ts : List Three) → TextOf points triangles bytes ps ts → Patches (flat ps) (flat ts) b o
+
+-- what is told of each loop
+abbrev pub loopsOf : List ℤ → List (List ℕ) → List Fate → List Shown
+loopsOf grid [] fates = []
+loopsOf grid (r ∷ rings) [] = []
+loopsOf grid (r ∷ rings) (f ∷ fates) = record { ring = r; state = stateOf f; weight = weighs grid r f; patch = lays r f } ∷ loopsOf grid rings fates
+
+-- what is printed of a sheet with these words and corners, no buffer being too short
+abbrev pub PrintsIf : Bool → Answer → List ℕ → List ℕ → List ℕ → Type 0
+PrintsIf true a words corners out = out ≡ answerLine a
+PrintsIf false a words corners out =
+    (fates : List Fate) × Course (gridOf words) corners [] (rimList (gridOf words) corners) (ringList corners) fates × (out ≡ listing (loopsOf (gridOf words) (ringList corners) fates))
+
+-- what is printed of a text
+pub record Prints (bytes out : List ℕ) : Type 0 where
+  pub of-fault : (line : ℕ) → Fault points triangles bytes line → out ≡ answerLine (Line line)
+  pub of-text : (ps ts : List Three) → TextOf points triangles bytes ps ts
+      → PrintsIf (refusing (sheetRefusal (flat ps) (flat ts))) (sheetRefusal (flat ps) (flat ts)) (flat ps) (flat ts) out

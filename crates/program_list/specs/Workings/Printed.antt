@@ -1,0 +1,30 @@
+-- What is printed of what was left in buffers that are long enough for every surface.
+use mathlib.Core.Bool.{Bool, true, false}
+use mathlib.Core.List.{List}
+use Prim.Native.Nat.{ℕ, _≤_}
+use lib.ListN.{length, take}
+use Rattle.base_limits.specs.Limits as limits
+use Rattle.patch_surface.specs.Outcome.{Buffers, Outcome}
+use Rattle.program_lines.specs.Lines.{answerLine}
+use Rattle.program_lines.specs.Listing.{listing}
+use Rattle.program_roll.specs.Workings.Listed.{Listed}
+use Rattle.program_list.specs.Lists.{Prints}
+
+pub record Full (b : Buffers) : Type 0 where
+  pub grid-full : limits.words ≤ length (b .grid)
+  pub rings-full : limits.corners ≤ length (b .rings)
+  pub lengths-full : limits.triangles ≤ length (b .lengths)
+  pub states-full : limits.triangles ≤ length (b .states)
+  pub weights-full : limits.triangles ≤ length (b .weights)
+  pub patches-full : limits.set-corners ≤ length (b .patches)
+
+-- loops stand in what is used of the buffers
+abbrev pub LoopsIn : Outcome → Type 0
+LoopsIn o =
+    Listed (take (o .vertices) (o .left .rings)) (take (o .loops) (o .left .lengths)) (take (o .loops) (o .left .states)) (take (o .loops) (o .left .weights))
+    (take (o .corners) (o .left .patches)) (o .loops)
+
+-- the answer of an outcome that refuses; or the listing of the loops
+abbrev pub Printed : Bool → List ℕ → Outcome → Type 0
+Printed true bytes o = Prints bytes (answerLine (o .answer))
+Printed false bytes o = (l : LoopsIn o) × Prints bytes (listing (l .loops))

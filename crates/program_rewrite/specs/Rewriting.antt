@@ -1,0 +1,25 @@
+-- What is printed for a text: "reads a text from standard input and prints it written again, or an answer line".
+use mathlib.Core.Path.{_≡_}
+use mathlib.Core.Bool.{cond}
+use mathlib.Core.List.{List}
+use Prim.Native.Nat.{ℕ, _/_}
+use lib.ListN.{length, take}
+use Rattle.base_answers.specs.Numbers.{refusing}
+use Rattle.base_answers.specs.declared.Answer.the-variants.{Done, Unnamed, Line}
+use Rattle.surface_rules.specs.Refusals.{unnamedRefusal}
+use Rattle.surface_rules.specs.Threes.{Three, flat}
+use Rattle.text_rules.specs.Text.{TextOf}
+use Rattle.text_rules.specs.Fault.{Fault}
+use Rattle.text_sheet.specs.Sheet.{points, triangles}
+use Rattle.text_write.specs.Outcome.{WriteOutcome}
+use Rattle.program_lines.specs.Lines.{answerLine}
+
+-- A sheet's text is printed as it is, unless a corner names no point; a text with a fault is answered with the fault's line.
+pub record Rewrites (bytes out : List ℕ) : Type 0 where
+  pub of-sheet : (ps ts : List Three) → TextOf points triangles bytes ps ts → unnamedRefusal (flat ts) (length (flat ps) / 3) ≡ Done → out ≡ bytes
+  pub of-unnamed : (ps ts : List Three) (i : ℕ) → TextOf points triangles bytes ps ts → unnamedRefusal (flat ts) (length (flat ps) / 3) ≡ Unnamed i → out ≡ answerLine (Unnamed i)
+  pub of-fault : (line : ℕ) → Fault points triangles bytes line → out ≡ answerLine (Line line)
+
+-- what is printed once a sheet was written or refused: it serves the code, no promise needs it
+unfoldable pub printed : WriteOutcome → List ℕ
+printed o = cond (refusing (o .answer)) (answerLine (o .answer)) (take (o .count) (o .bytes))

@@ -1,0 +1,61 @@
+-- A listing goes from section to section: it begins, goes on behind each section, and may go on in an emptied buffer.
+use mathlib.Core.Path.{_≡_, sym, ap, _∙_}
+use mathlib.Core.Logic.{⊎-elim}
+use mathlib.Core.List.{List, [], map, flatten}
+use Prim.Native.Nat.{ℕ, _+_, _<_, _≤_}
+use native.Mathlib.Nat.{eq-or-lt-of-le}
+use native.Mathlib.Omega.{arith}
+use lib.ListN.{length, take}
+use Rattle.base_answers.specs.declared.Answer.{Answer}
+use Rattle.program_lines.specs.declared.Progress.{Progress}
+use Rattle.program_lines.specs.Listing.{Shown}
+use Rattle.program_roll.specs.Workings.Listed.{Listed}
+use Rattle.program_roll.specs.Sections.{between}
+use Rattle.program_roll.specs.Workings.Roll.{Begins, Going, Fills, FillsOn}
+use Rattle.program_roll.proofs.Laws.Between.{between-none}
+
+-- where a loop is left and there is room for it, it is told
+pub goes-on : (most : ℕ) (loops : List Shown) (m r : Progress) (before after : List ℕ) → Fills most loops m r before after → m .loops < length loops → m .bytes + most ≤ length before → m .loops < r .loops
+goes-on most loops m r before after p h room = ⊎-elim (λ (e : m .loops ≡ r .loops). absurd (stands e)) (λ (l : m .loops < r .loops). l) (eq-or-lt-of-le (p .puts .from))
+  where
+    stands : m .loops ≡ r .loops → ⊥
+    stands e =
+        let n : between (m .loops) (r .loops) loops ≡ [] = ap (λ (k : ℕ). between (m .loops) k loops) (sym e) ∙ between-none (m .loops) loops in
+        omega (arith, p .full (omega (arith, e, h)), p .puts .bytes-are, ap length n, room)
+
+-- the same place, with nothing in the buffer
+abbrev pub emptied : Progress → Progress
+emptied m = record { loops = m .loops; vertices = m .vertices; corners = m .corners; bytes = 0 }
+
+module _ (rings lengths states weights patches : List ℕ) (count : ℕ) where
+  pub going-begins : (a : Answer) (loops : ℕ) (r : Progress) (before after : List ℕ) → Listed rings lengths states weights patches count → Begins a loops r before after → Going rings lengths states weights patches count r
+  unfolding flatten
+  going-begins a loops r before after l b =
+      record {
+        listed = l;
+        told = record {
+          vertices-are = b .no-vertices ∙ sym (ap (λ (k : ℕ). length (flatten (map (λ (s : Shown). s .ring) (take k (l .loops))))) (b .no-loops));
+          corners-are = b .no-corners ∙ sym (ap (λ (k : ℕ). length (flatten (map (λ (s : Shown). s .patch) (take k (l .loops))))) (b .no-loops));
+        };
+        upto = omega (arith, b .no-loops);
+      }
+
+  pub going-emptied : (m : Progress) → Going rings lengths states weights patches count m → Going rings lengths states weights patches count (emptied m)
+  going-emptied m g = record { listed = g .listed; told = record { vertices-are = g .told .vertices-are; corners-are = g .told .corners-are }; upto = g .upto }
+
+  module _ (most : ℕ) (m r : Progress) (before after : List ℕ) (g : Going rings lengths states weights patches count m) (f : FillsOn most rings lengths states weights patches count m r before after) where
+    pub going-on : Going rings lengths states weights patches count r
+    unfolding FillsOn
+    going-on = record { listed = g .listed; told = f g .puts .tells; upto = omega (arith, f g .puts .upto, g .listed .many) }
+
+    pub going-within : r .bytes ≤ length before
+    unfolding FillsOn
+    going-within = f g .puts .within
+
+    pub going-from : m .loops ≤ r .loops
+    unfolding FillsOn
+    going-from = f g .puts .from
+
+    pub going-further : m .loops < count → m .bytes + most ≤ length before → m .loops < r .loops
+    unfolding FillsOn
+    going-further h = goes-on most (g .listed .loops) m r before after (f g) (omega (arith, h, g .listed .many))

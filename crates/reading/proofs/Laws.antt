@@ -1,7 +1,0 @@
--- The laws of reading, each file for one idea.
-pub mod Tests
-pub mod Meets
-pub mod Rows
-pub mod Collects
-pub mod Closes
-pub mod Read

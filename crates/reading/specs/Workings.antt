@@ -1,3 +1,0 @@
--- Definitions that serve the code: contracts of inner functions name them, and no promise of an entry point does.
-pub mod Reading
-pub mod Rows

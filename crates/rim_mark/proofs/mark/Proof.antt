@@ -1,0 +1,20 @@
+-- `mark` looks at pieces and runs only where a loop stands beside another.
+use borrow.Author.Needs.{needs}
+use Rattle.rim_mark.proofs.Laws.Marking.{mark-none, mark-in, mark-one}
+use Rattle.rim_mark.proofs.mark.Statement.{statement}
+use Rattle.rim_mark.proofs.mark.Tie as tie
+
+pub mark-spec : {M : Type 1} → statement M
+mark-spec =
+    tie.close
+    (tie.spec
+    (λ c. search mark-none)
+    (λ c. search mark-in)
+    (λ c. search needs)
+    (λ c. search mark-one)
+    (λ c κs. search needs)
+    (λ c. search needs)
+    (λ c. search needs)
+    (λ c. search needs)
+    (λ c. search needs)
+    (λ c. search needs))

@@ -1,0 +1,10 @@
+pub mod Joining
+pub mod Pushing
+pub mod Spreading
+pub mod Numbering
+pub mod Visiting
+pub mod Clearing
+pub mod Floods
+pub mod OnePiece
+pub mod Many
+pub mod Uniting

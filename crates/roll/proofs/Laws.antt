@@ -1,5 +1,0 @@
--- The laws of a listing's pieces, each file for one idea.
-pub mod Beginning
-pub mod Between
-pub mod Filling
-pub mod Going

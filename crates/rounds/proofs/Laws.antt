@@ -1,5 +1,0 @@
--- The laws of going from loop to loop, each file for one idea.
-pub mod Rings
-pub mod Reading
-pub mod Bench
-pub mod Plains

@@ -1,4 +1,0 @@
--- Definitions that serve the code: contracts of inner functions name them, and no promise of an entry point does.
-pub mod Rings
-pub mod Bench
-pub mod Scratch

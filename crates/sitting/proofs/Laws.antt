@@ -1,2 +1,0 @@
--- The laws of the verdict over all loops, with the bench.
-pub mod FullVerdict

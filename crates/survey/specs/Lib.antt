@@ -1,3 +1,0 @@
-pub mod Grid
-pub mod Outcome
-pub mod Workings

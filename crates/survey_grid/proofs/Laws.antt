@@ -1,0 +1,2 @@
+-- The laws of the grid of all words.
+pub mod Laying

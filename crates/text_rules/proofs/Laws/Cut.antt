@@ -1,0 +1,96 @@
+-- Where no text is longer than some number of bytes, one byte more tells as much as all: what the text says, or where its fault is.
+use mathlib.Core.Path.{_≡_, refl, sym, ap, _∙_, subst}
+use mathlib.Core.Bool.{Bool, true, false}
+use mathlib.Core.List.{List, _++_, flatten, append-assoc}
+use Prim.Native.Nat.{ℕ, suc, _+_, _-_, _<_, _≤_}
+use native.Mathlib.Omega.{arith}
+use lib.Dec.{leb}
+use lib.ListN.{length, take, drop, length-append, take-append-drop}
+use lib.Seq.{length-take-le, take-append-add, take-all}
+use borrow.Author.Tests.{leb-true, leb-false}
+use Rattle.surface_rules.proofs.Laws.Lists.{flatten-append}
+use Rattle.text_rules.specs.Text.{Part, lines, Says, TextOf}
+use Rattle.text_rules.specs.Fault.{Starts, Fault}
+
+-- the first lists of a list have no more in all than all of them
+flatten-less : (k : ℕ) (l : List (List ℕ)) → length (flatten (take k l)) ≤ length (flatten l)
+flatten-less k l =
+    let e : length (flatten l) ≡ length (flatten (take k l)) + length (flatten (drop k l)) =
+    ap (λ (m : List (List ℕ)). length (flatten m)) (sym (take-append-drop k l)) ∙ ap length (flatten-append (take k l) (drop k l)) ∙ length-append (flatten (take k l)) (flatten (drop k l)) in
+    omega (arith, e)
+
+module _ {A B : Type 0} (P : Part A) (Q : Part B) (most : ℕ) (longest : (bytes : List ℕ) (xs : List A) (ys : List B) → TextOf P Q bytes xs ys → length bytes ≤ most) (bytes : List ℕ) where
+  -- a byte more than the longest text has
+  abbrev pub front : List ℕ
+  front = take (suc most) bytes
+
+  module _ (more : most < length bytes) where
+    front-length : length front ≡ suc most
+    front-length = length-take-le (suc most) bytes more
+
+    lines-few : (xs : List A) (ys : List B) (k : ℕ) → Says P Q xs ys → length (flatten (take k (lines P Q xs ys))) ≤ most
+    lines-few xs ys k s =
+        let m : length (flatten (lines P Q xs ys)) ≤ most = longest (flatten (lines P Q xs ys)) xs ys (record { says = s; is = refl }) in
+        omega (arith, m, flatten-less k (lines P Q xs ys))
+
+    -- as many lines are right in it as in all of the bytes,
+    starts-front : (k : ℕ) → Starts P Q bytes k → Starts P Q front k
+    starts-front k s =
+        let f : List ℕ = flatten (take k (lines P Q (s .xs) (s .ys))) in
+        let m : length f ≤ most = lines-few (s .xs) (s .ys) k (s .says) in
+        let d : suc most ≡ length f + (suc most - length f) = omega arith in
+        record {
+          xs = s .xs;
+          ys = s .ys;
+          rest = take (suc most - length f) (s .rest);
+          says = s .says;
+          has = s .has;
+          are = ap (take (suc most)) (s .are) ∙ ap (λ (n : ℕ). take n (f ++ s .rest)) d ∙ take-append-add f (s .rest) (suc most - length f);
+        }
+
+    starts-whole : (k : ℕ) → Starts P Q front k → Starts P Q bytes k
+    starts-whole k s = record {
+      xs = s .xs;
+      ys = s .ys;
+      rest = s .rest ++ drop (suc most) bytes;
+      says = s .says;
+      has = s .has;
+      are = sym (take-append-drop (suc most) bytes) ∙ ap (λ (l : List ℕ). l ++ drop (suc most) bytes) (s .are)
+          ∙ append-assoc (flatten (take k (lines P Q (s .xs) (s .ys)))) (s .rest) (drop (suc most) bytes);
+    }
+
+    -- so both have the same fault
+    fault-front : {line : ℕ} → Fault P Q bytes line → Fault P Q front line
+    fault-front {line} f = record {
+      none = λ xs ys t. let m : length front ≤ most = longest front xs ys t in omega (arith, m, front-length);
+      before = f .before;
+      next = f .next;
+      right = starts-front (f .before) (f .right);
+      wrong = λ s. f .wrong (starts-whole line s);
+    }
+
+    pub fault-whole : {line : ℕ} → Fault P Q front line → Fault P Q bytes line
+    fault-whole {line} f = record {
+      none = λ xs ys t. let m : length bytes ≤ most = longest bytes xs ys t in omega (arith, m, more);
+      before = f .before;
+      next = f .next;
+      right = starts-whole (f .before) (f .right);
+      wrong = λ s. f .wrong (starts-front line s);
+    }
+
+  -- bytes that are no longer than the longest text are all in front
+  short : length bytes ≤ most → front ≡ bytes
+  short h = take-all (suc most) bytes (omega arith)
+
+  pub front-all : (xs : List A) (ys : List B) → TextOf P Q bytes xs ys → front ≡ bytes
+  front-all xs ys t = short (longest bytes xs ys t)
+
+  pub text-first : (xs : List A) (ys : List B) → TextOf P Q bytes xs ys → TextOf P Q front xs ys
+  text-first xs ys t = subst (λ (l : List ℕ). TextOf P Q l xs ys) (sym (front-all xs ys t)) t
+
+  pub fault-first : (line : ℕ) → Fault P Q bytes line → Fault P Q front line
+  fault-first line f = go (leb (length bytes) most) refl
+    where
+      go : (b : Bool) → leb (length bytes) most ≡ b → Fault P Q front line
+      go true e = subst (λ (l : List ℕ). Fault P Q l line) (sym (short (leb-true (length bytes) most e))) f
+      go false e = fault-front (leb-false (length bytes) most e) f

@@ -1,7 +1,0 @@
--- The laws of judging, each file for one idea.
-pub mod Once
-pub mod Passes
-pub mod Listing
-pub mod Patched
-pub mod Filled
-pub mod Declared

@@ -1,0 +1,95 @@
+-- From the library's answer to its plain numbers, and that these are determined.
+use mathlib.Core.Path.{_≡_, sym, ap, _∙_, subst}
+use mathlib.Core.Bool.{not}
+use mathlib.Core.List.{List}
+use Prim.Native.Nat.{ℕ, _^_, _<_}
+use native.Mathlib.Nat.{lt-of-le-of-lt}
+use native.Mathlib.Omega.{arith}
+use lib.Dec.{T, lit<}
+use lib.IntN.{ℤ, pos, negsuc, natAbs}
+use lib.Ieee.{Float, nan, inf, fin, isNan}
+use lib.Ieee.Scale.{finite}
+use mir.Syntax.{w32}
+use mir.Val.{SFits, toZ, ofZ}
+use mir.ValLaws.{toZ-ofZ}
+use Rattle.base_answers.specs.Numbers.{numberOf, placeOf}
+use Rattle.base_answers.specs.declared.Answer.{Answer}
+use Rattle.grid_coordinate.specs.Places.{Places, Lands, answerOf}
+use Rattle.grid_coordinate.specs.declared.Coordinate.{Coordinate}
+use Rattle.grid_coordinate.specs.declared.Coordinate.the-variants.{Shifted, TooFar}
+use Rattle.grid_coordinate.proofs.Laws.Only.{only}
+use Rattle.survey_rules.specs.Outcome.{Buffers, Outcome, outcome}
+use Rattle.survey_rules.specs.declared.Surveyed.{Surveyed}
+use Rattle.patch_surface.specs.Outcome as patcher
+use Rattle.patch_surface.specs.declared.Patched.{Patched}
+use Rattle.patch_surface.proofs.Theorems.{patches-once}
+use Rattle.judge_answer.specs.declared.Judged.{Judged}
+use Rattle.judge_surface.specs.Outcome as checker
+use Rattle.judge_surface.proofs.Theorems.{judges-once}
+use Rattle.wazelpunt.specs.ForC.{Tells, wholeOf, floatOf, Told, told, surveyed, JudgesTold, PatchTold, patchTold, patched, PatchesTold}
+
+number-no-nan : (x : Float) → T (finite x) → T (not (isNan x))
+unfolding isNan
+number-no-nan nan f = absurd f
+number-no-nan (inf s) f = absurd f
+number-no-nan (fin s m e) f = tt
+
+-- the two floats that come with an answer have bits
+module _ (x : Float) (found : Coordinate) (right : Places 1 x found) where
+  pub shifted-bits : {k : ℤ} {d : Float} → found ≡ Shifted k d → T (not (isNan d))
+  shifted-bits {k} {d} e = number-no-nan d (subst (Places 1 x) e right .1 .number)
+
+  pub far-bits : {y : Float} → found ≡ TooFar y → T (not (isNan y))
+  far-bits {y} e = let p = subst (Places 1 x) e right in subst (λ (z : Float). T (not (isNan z))) (sym (p .2)) (number-no-nan x (p .0))
+
+  -- the four answers, each with what the code wrote
+  pub telling : {n : ℕ} {told : Answer} (a : Coordinate) {k : ℤ} {b : ℕ} → found ≡ a → n ≡ numberOf told → told ≡ answerOf 0 found → k ≡ wholeOf a → b ≡ floatOf a → Tells x n k b
+  telling a e p q u v = record { coordinate = a; right = subst (Places 1 x) e right; its-number = p ∙ ap numberOf (q ∙ ap (answerOf 0) e); its-whole = u; its-float = v }
+
+fits : (z : ℤ) → natAbs z < 2 ^ 31 → SFits w32 z
+fits (pos n) h = record { sfits = h }
+fits (negsuc n) h = record { sfits = omega arith }
+
+pub kept : {x : Float} {k : ℤ} → Lands 1 x k → toZ w32 (ofZ w32 k) ≡ k
+kept {x} {k} l = toZ-ofZ w32 k (fits k (lt-of-le-of-lt (l .within) (lit< tt)))
+
+-- any two answers for a coordinate are equal
+pub told-once : (x : Float) (n m : ℕ) (k l : ℤ) (b c : ℕ) → Tells x n k b → Tells x m l c → (n ≡ m) × (k ≡ l) × (b ≡ c)
+told-once x n m k l b c p q =
+    let e = only 1 x (p .coordinate) (q .coordinate) (p .right) (q .right) in (
+      p .its-number ∙ ap (λ (a : Coordinate). numberOf (answerOf 0 a)) e ∙ sym (q .its-number),
+      p .its-whole ∙ ap wholeOf e ∙ sym (q .its-whole),
+      p .its-float ∙ ap floatOf e ∙ sym (q .its-float),
+    )
+
+-- a survey's answer, field by field
+pub told-survey : (r : Surveyed) (b : Buffers) (o : Outcome) (n p : ℕ) → n ≡ numberOf (r .answer) → p ≡ placeOf (r .answer) → outcome r b ≡ o → told n p (r .loops) (r .vertices) b ≡ surveyed o
+told-survey r b o n p en ep e = (λ t. told (en t) (ep t) (r .loops) (r .vertices) b) ∙ ap surveyed e
+
+-- a patching's answer, field by field
+pub told-patch : (words corners : List ℕ) (b : patcher.Buffers) (r : Patched) (b′ : patcher.Buffers) (n p : ℕ) → n ≡ numberOf (r .answer) → p ≡ placeOf (r .answer) → patcher.Patches words corners b (patcher.outcome r b′)
+    → PatchesTold words corners b (patchTold n p (r .loops) (r .vertices) (r .corners) b′)
+told-patch words corners b r b′ n p en ep h = record {
+  outcome = patcher.outcome r b′;
+  right = h;
+  its-numbers = λ t. patchTold (en t) (ep t) (r .loops) (r .vertices) (r .corners) b′;
+}
+
+-- any two patchings told of one input and the same buffers are equal
+pub patches-told-once : (words corners : List ℕ) (b : patcher.Buffers) (s t : PatchTold) → PatchesTold words corners b s → PatchesTold words corners b t → s ≡ t
+patches-told-once words corners b s t p q =
+    p .its-numbers ∙ ap patched (patches-once words corners b (p .outcome) (q .outcome) (p .right) (q .right)) ∙ sym (q .its-numbers)
+
+-- a judgement, field by field
+pub told-judge : (words corners states set : List ℕ) (b : Buffers) (r : Judged) (b′ : Buffers) (n p : ℕ) → n ≡ numberOf (r .answer) → p ≡ placeOf (r .answer) → checker.Judges words corners states set b (checker.outcome r b′)
+    → JudgesTold words corners states set b (told n p (r .loops) (r .vertices) b′)
+told-judge words corners states set b r b′ n p en ep h = record {
+  outcome = checker.outcome r b′;
+  right = h;
+  its-numbers = λ t. told (en t) (ep t) (r .loops) (r .vertices) b′;
+}
+
+-- any two judgements told of one set and the same buffers are equal
+pub judges-told-once : (words corners states set : List ℕ) (b : Buffers) (s t : Told) → JudgesTold words corners states set b s → JudgesTold words corners states set b t → s ≡ t
+judges-told-once words corners states set b s t p q =
+    p .its-numbers ∙ ap surveyed (judges-once words corners states set b (p .outcome) (q .outcome) (p .right) (q .right)) ∙ sym (q .its-numbers)

@@ -1,0 +1,195 @@
+// What other languages link: exported functions over numbers and slices, which answer as the library does.
+ghost use mathlib.Core.Path.{_≡_};
+ghost use lib.Ieee.{binary32, ofBits};
+ghost use Rattle.base_types.specs.Lent.{was, left};
+ghost use Rattle.survey_rules.specs.Outcome.{buffers, surveyOf};
+ghost use Rattle.patch_surface.specs.Outcome as patcher;
+ghost use Rattle.text_write.specs.Outcome.{writes};
+ghost use Rattle.wazelpunt.specs.ForC.{Tells, told, surveyed, JudgesTold, patchTold, PatchesTold};
+ghost use Rattle.wazelpunt.specs.Texts.{textTold, ReadsTold, ReadsSetTold, writeTold, written};
+use grid_coordinate::Coordinate;
+
+// The answer for the coordinate with these bits: its number is returned, 0 or refusal 7 or 8; the whole number, or 0, is
+// left in `whole`, and in `rest` are left the bits of the rest, or of the value itself where it is too far, or 0.
+#[no_mangle]
+pub extern "C" fn wazelpunt_coordinate(word: u32, whole: &mut i32, rest: &mut u32) -> u32
+    ensures { λ r. ⌜ Tells (ofBits binary32 word) r (left whole) (left rest) ⌝ }
+{
+    let found = grid_coordinate::place(word);
+    let number = found.answer(0).number();
+    match found {
+        Coordinate::Exact(k) => {
+            *whole = k;
+            *rest = 0;
+            number
+        }
+        Coordinate::Shifted(k, left) => {
+            *whole = k;
+            *rest = f32::to_bits(left);
+            number
+        }
+        Coordinate::NotFinite => {
+            *whole = 0;
+            *rest = 0;
+            number
+        }
+        Coordinate::TooFar(x) => {
+            *whole = 0;
+            *rest = f32::to_bits(x);
+            number
+        }
+    }
+}
+
+// Surveys a surface, as `survey` does: the grid, the ring vertices and the ring lengths are left in the lent buffers; the number
+// of the answer is returned, and its place, how many loops there are and how many vertices their rings have are left too.
+#[no_mangle]
+pub extern "C" fn wazelpunt_survey(
+    words: &[u32],
+    corners: &[u16],
+    grid: &mut [i32],
+    rings: &mut [u16],
+    lengths: &mut [u16],
+    place: &mut usize,
+    loops: &mut usize,
+    vertices: &mut usize,
+) -> u32
+    ensures { λ r. ⌜ told r (left place) (left loops) (left vertices) (buffers (left grid) (left rings) (left lengths))
+        ≡ surveyed (surveyOf (was words) (was corners) (buffers (was grid) (was rings) (was lengths))) ⌝ }
+{
+    let found = survey::survey(words, corners, grid, rings, lengths);
+    let said = found.answer;
+    *place = said.place();
+    *loops = found.loops;
+    *vertices = found.vertices;
+    said.number()
+}
+
+// Patches a surface, as `patch` does: the grid, the ring vertices and lengths, the states and weights, and the patch corners are left
+// in the lent buffers; the number of the answer is returned, and its place and the three counts are left too.
+#[no_mangle]
+pub extern "C" fn wazelpunt_patch(
+    words: &[u32],
+    corners: &[u16],
+    grid: &mut [i32],
+    rings: &mut [u16],
+    lengths: &mut [u16],
+    states: &mut [u16],
+    weights: &mut [u64],
+    patches: &mut [u16],
+    place: &mut usize,
+    loops: &mut usize,
+    vertices: &mut usize,
+    laid: &mut usize,
+) -> u32
+    ensures { λ r. ⌜ PatchesTold (was words) (was corners) (patcher.buffers (was grid) (was rings) (was lengths) (was states) (was weights) (was patches))
+        (patchTold r (left place) (left loops) (left vertices) (left laid)
+        (patcher.buffers (left grid) (left rings) (left lengths) (left states) (left weights) (left patches))) ⌝ }
+{
+    let done = patch::patch(
+        words,
+        corners,
+        grid,
+        rings,
+        lengths,
+        states,
+        weights,
+        patches,
+    );
+    let answer = done.answer;
+    *place = answer.place();
+    *loops = done.loops;
+    *vertices = done.vertices;
+    *laid = done.corners;
+    answer.number()
+}
+
+// Judges a patch set for a surface, as `judge` does: the grid, the ring vertices and the ring lengths are left in the lent buffers; the
+// number of the answer is returned, and its place, how many loops there are and how many vertices their rings have are left too.
+#[no_mangle]
+pub extern "C" fn wazelpunt_judge(
+    words: &[u32],
+    corners: &[u16],
+    states: &[u16],
+    set: &[u16],
+    grid: &mut [i32],
+    rings: &mut [u16],
+    lengths: &mut [u16],
+    place: &mut usize,
+    loops: &mut usize,
+    vertices: &mut usize,
+) -> u32
+    ensures { λ r. ⌜ JudgesTold (was words) (was corners) (was states) (was set) (buffers (was grid) (was rings) (was lengths))
+        (told r (left place) (left loops) (left vertices) (buffers (left grid) (left rings) (left lengths))) ⌝ }
+{
+    let judged = judge::judge(words, corners, states, set, grid, rings, lengths);
+    let verdict = judged.answer;
+    *place = verdict.place();
+    *loops = judged.loops;
+    *vertices = judged.vertices;
+    verdict.number()
+}
+
+// Reads a sheet text, as `read` does: words and corners are left in the lent buffers; the number of the answer is returned, and its place
+// and how many words and corners there are are left too.
+#[no_mangle]
+pub extern "C" fn wazelpunt_read(
+    text: &[u8],
+    words: &mut [u32],
+    corners: &mut [u16],
+    place: &mut usize,
+    words_read: &mut usize,
+    corners_read: &mut usize,
+) -> u32
+    ensures { λ r. ⌜ ReadsTold (was text) (was words) (was corners)
+        (textTold r (left place) (left «words_read») (left «corners_read») (left words) (left corners)) ⌝ }
+{
+    let read = text_read::read(text, words, corners);
+    let told = read.answer;
+    *place = told.place();
+    *words_read = read.words;
+    *corners_read = read.corners;
+    told.number()
+}
+
+// Writes the text of a sheet, as `write` does: it is left in the lent buffer; the number of the answer is returned, and its place and how
+// many bytes the text has are left too.
+#[no_mangle]
+pub extern "C" fn wazelpunt_write(
+    words: &[u32],
+    corners: &[u16],
+    text: &mut [u8],
+    place: &mut usize,
+    bytes: &mut usize,
+) -> u32
+    ensures { λ r. ⌜ writeTold r (left place) (left bytes) (left text) ≡ written (writes (was words) (was corners) (was text)) ⌝ }
+{
+    let done = text_write::write(words, corners, text);
+    let result = done.answer;
+    *place = result.place();
+    *bytes = done.bytes;
+    result.number()
+}
+
+// Reads the text of a patch set that comes after so many lines, as `read_set` does: states and corners are left in the lent buffers; the
+// number of the answer is returned, and its place and how many states and corners there are are left too.
+#[no_mangle]
+pub extern "C" fn wazelpunt_read_set(
+    text: &[u8],
+    before: u16,
+    states: &mut [u16],
+    corners: &mut [u16],
+    place: &mut usize,
+    states_read: &mut usize,
+    corners_read: &mut usize,
+) -> u32
+    ensures { λ r. ⌜ ReadsSetTold (was text) before (was states) (was corners)
+        (textTold r (left place) (left «states_read») (left «corners_read») (left states) (left corners)) ⌝ }
+{
+    let read = text_read_set::read_set(text, before, states, corners);
+    let met = read.answer;
+    *place = met.place();
+    *states_read = read.states;
+    *corners_read = read.corners;
+    met.number()
+}

@@ -1,0 +1,384 @@
+/* The archive and the C baseline side by side.
+   speed compare COUNT SEED FILE...  compares both with the slow reference, every byte of what is lent, on the sheets of these files, on full
+                                     sheets and on that many made surfaces; what the archive does not export is left out.
+   speed count FILE...               calls both on the sheet of each file; before each call it prints the side, the work and the sheet. Under
+                                     callgrind what the call cost is left in a dump of that name; compiled as EMULATED, the call stands between
+                                     the marks that speed/count.c looks for.
+   speed make FOLDER SEED            writes the full sheets as files into a folder. */
+#include <inttypes.h>
+#include <stdint.h>
+#include <stdio.h>
+#include <stdlib.h>
+#include <string.h>
+
+#include "../tests/reference/generate.h"
+#include "../tests/reference/reference.h"
+#include "../tests/reference/sheets.h"
+#include "baseline.h"
+#include "marks.h"
+#include "wazelpunt.h"
+
+#ifndef EMULATED
+#include <valgrind/callgrind.h>
+#endif
+
+/* An archive that lacks one of these is linked all the same; the function is then null. */
+#pragma weak wazelpunt_patch
+#pragma weak wazelpunt_judge
+#pragma weak wazelpunt_read
+#pragma weak wazelpunt_write
+
+#define GUARD 16
+
+struct side {
+    const char *name;
+    __typeof__(baseline_patch) *patch;
+    __typeof__(baseline_check) *check;
+    __typeof__(baseline_read) *read;
+    __typeof__(baseline_write) *write;
+};
+
+#define SIDES 2
+
+static const struct side sides[SIDES] = {
+    {"ours", wazelpunt_patch, wazelpunt_judge, wazelpunt_read, wazelpunt_write},
+    {"baseline", baseline_patch, baseline_check, baseline_read, baseline_write},
+};
+
+/* Everything that is lent, each between guards. */
+struct lent {
+    int32_t grid[REFERENCE_MOST_WORDS + 2 * GUARD];
+    uint16_t rings[REFERENCE_MOST_CORNERS + 2 * GUARD];
+    uint16_t lengths[REFERENCE_MOST_TRIANGLES + 2 * GUARD];
+    uint16_t states[REFERENCE_MOST_TRIANGLES + 2 * GUARD];
+    uint64_t weights[REFERENCE_MOST_TRIANGLES + 2 * GUARD];
+    uint16_t patches[REFERENCE_MOST_PATCH_CORNERS + 2 * GUARD];
+    uint32_t words[REFERENCE_MOST_WORDS + 2 * GUARD];
+    uint16_t corners[REFERENCE_MOST_CORNERS + 2 * GUARD];
+    uint8_t text[REFERENCE_LONGEST_TEXT + 2 * GUARD];
+};
+
+/* An answer: number, place, and up to three counts. */
+struct answer {
+    size_t number, place, counts[3];
+};
+
+/* ---- What is worked on ---- */
+
+static struct generated_surface surface;
+static struct generated_set set;
+static uint8_t text[GENERATE_TEXT_ROOM];
+static size_t text_length;
+
+/* How many words and corners, and how many bytes of text, are lent to the reader and the writer. */
+static size_t words_lent, corners_lent, text_lent;
+
+static struct lent before, theirs, due_lent;
+
+/* ---- The four works, by a side or, where it is null, by the reference ---- */
+
+static void work_patch(const struct side *side, struct lent *l, struct answer *a) {
+    const struct generated_surface *s = &surface;
+    const size_t *n = s->lent;
+    if (side != 0) {
+        a->number = side->patch(s->words, s->word_count, s->corners, s->corner_count, l->grid + GUARD, n[0], l->rings + GUARD, n[1],
+                                l->lengths + GUARD, n[2], l->states + GUARD, n[3], l->weights + GUARD, n[4], l->patches + GUARD, n[5],
+                                &a->place, &a->counts[0], &a->counts[1], &a->counts[2]);
+        return;
+    }
+    struct reference_patch_answer r;
+    reference_patch(s->words, s->word_count, s->corners, s->corner_count, l->grid + GUARD, n[0], l->rings + GUARD, n[1],
+                    l->lengths + GUARD, n[2], l->states + GUARD, n[3], l->weights + GUARD, n[4], l->patches + GUARD, n[5], &r);
+    *a = (struct answer){r.number, r.place, {r.loops, r.vertices, r.corners}};
+}
+
+static void work_check(const struct side *side, struct lent *l, struct answer *a) {
+    const struct generated_surface *s = &surface;
+    const size_t *n = s->lent;
+    if (side != 0) {
+        a->number = side->check(s->words, s->word_count, s->corners, s->corner_count, set.states, set.state_count, set.corners,
+                                set.corner_count, l->grid + GUARD, n[0], l->rings + GUARD, n[1], l->lengths + GUARD, n[2],
+                                &a->place, &a->counts[0], &a->counts[1]);
+        return;
+    }
+    struct reference_answer r;
+    reference_check(s->words, s->word_count, s->corners, s->corner_count, set.states, set.state_count, set.corners, set.corner_count,
+                    l->grid + GUARD, n[0], l->rings + GUARD, n[1], l->lengths + GUARD, n[2], &r);
+    *a = (struct answer){r.number, r.place, {r.loops, r.vertices, 0}};
+}
+
+static void work_read(const struct side *side, struct lent *l, struct answer *a) {
+    if (side != 0) {
+        a->number = side->read(text, text_length, l->words + GUARD, words_lent, l->corners + GUARD, corners_lent,
+                               &a->place, &a->counts[0], &a->counts[1]);
+        return;
+    }
+    struct reference_read_answer r;
+    reference_read(text, text_length, l->words + GUARD, words_lent, l->corners + GUARD, corners_lent, &r);
+    *a = (struct answer){r.number, r.place, {r.words, r.corners, 0}};
+}
+
+static void work_write(const struct side *side, struct lent *l, struct answer *a) {
+    const struct generated_surface *s = &surface;
+    if (side != 0) {
+        a->number = side->write(s->words, s->word_count, s->corners, s->corner_count, l->text + GUARD, text_lent,
+                                &a->place, &a->counts[0]);
+        return;
+    }
+    struct reference_write_answer r;
+    reference_write(s->words, s->word_count, s->corners, s->corner_count, l->text + GUARD, text_lent, &r);
+    *a = (struct answer){r.number, r.place, {r.bytes, 0, 0}};
+}
+
+enum { PATCH, CHECK, READ, WRITE, WORKS };
+
+static const struct {
+    const char *name;
+    void (*by)(const struct side *, struct lent *, struct answer *);
+} works[WORKS] = {{"patch", work_patch}, {"check", work_check}, {"read", work_read}, {"write", work_write}};
+
+static int has(const struct side *side, size_t work) {
+    switch (work) {
+    case PATCH: return side->patch != 0;
+    case CHECK: return side->check != 0;
+    case READ: return side->read != 0;
+    default: return side->write != 0;
+    }
+}
+
+/* ---- Comparing ---- */
+
+#define HIGHEST 15
+
+static size_t compared[SIDES][WORKS], wrong, met[WORKS][HIGHEST + 1];
+
+static void compare(size_t work, const char *name, uint64_t seed) {
+    struct answer due = {0};
+    due_lent = before;
+    works[work].by(0, &due_lent, &due);
+    met[work][due.number]++;
+    for (size_t s = 0; s < SIDES; s++) {
+        if (!has(&sides[s], work)) continue;
+        struct answer said = {0};
+        theirs = before;
+        works[work].by(&sides[s], &theirs, &said);
+        compared[s][work]++;
+        if (memcmp(&said, &due, sizeof due) == 0 && memcmp(&theirs, &due_lent, sizeof theirs) == 0) continue;
+        if (wrong++ < 10)
+            printf("%s %s, %s %" PRIu64 ": answered %zu, %zu; due %zu, %zu\n", sides[s].name, works[work].name, name, seed,
+                   said.number, said.place, due.number, due.place);
+    }
+}
+
+static void fill(struct generator *generator) {
+    uint8_t *bytes = (uint8_t *)&before;
+    for (size_t i = 0; i < sizeof before; i++) bytes[i] = (uint8_t)generate_bits(generator);
+}
+
+/* The patcher's own set, as the reference has it. */
+static void take_own_set(void) {
+    struct answer answer = {0};
+    work_patch(0, &due_lent, &answer);
+    set.state_count = answer.counts[0];
+    set.corner_count = answer.counts[2];
+    memcpy(set.states, due_lent.states + GUARD, set.state_count * sizeof *set.states);
+    memcpy(set.corners, due_lent.patches + GUARD, set.corner_count * sizeof *set.corners);
+}
+
+/* As long as it is, or shorter by one, or anything, or as long as can be; never more than there is. */
+static size_t lend(struct generator *generator, size_t needed, size_t most) {
+    size_t lent = needed;
+    switch (generate_below(generator, 5)) {
+    case 0: lent = needed > 0 ? needed - 1 : 0; break;
+    case 1: lent = generate_below(generator, needed + 1); break;
+    case 2: lent = most; break;
+    default: break;
+    }
+    return lent < most ? lent : most;
+}
+
+/* A surface as it stands: patched, its own set judged, written and read again. */
+static void compare_sheet(const char *name, uint64_t seed) {
+    take_own_set();
+    text_length = generate_sheet_text(&surface, text);
+    words_lent = REFERENCE_MOST_WORDS;
+    corners_lent = REFERENCE_MOST_CORNERS;
+    text_lent = REFERENCE_LONGEST_TEXT;
+    for (size_t work = 0; work < WORKS; work++) compare(work, name, seed);
+}
+
+/* The same with a set and a text that may be wrong, and with other lengths lent. */
+static void compare_changed(struct generator *generator, uint64_t seed) {
+    generate_set(generator, &surface, &set);
+    compare(CHECK, "seed", seed);
+    text_lent = lend(generator, text_length, REFERENCE_LONGEST_TEXT);
+    compare(WRITE, "seed", seed);
+    words_lent = lend(generator, surface.word_count, REFERENCE_MOST_WORDS);
+    corners_lent = lend(generator, surface.corner_count, REFERENCE_MOST_CORNERS);
+    compare(READ, "seed", seed);
+    text_length = generate_text_damage(generator, text, text_length);
+    compare(READ, "seed", seed);
+}
+
+/* There is room for the longest that can be needed, and no more is lent. */
+static void shorten_lent(void) {
+    static const size_t most[GENERATE_BUFFERS] = {REFERENCE_MOST_WORDS, REFERENCE_MOST_CORNERS, REFERENCE_MOST_TRIANGLES,
+                                                  REFERENCE_MOST_TRIANGLES, REFERENCE_MOST_TRIANGLES, REFERENCE_MOST_PATCH_CORNERS};
+    for (size_t b = 0; b < GENERATE_BUFFERS; b++)
+        if (surface.lent[b] > most[b]) surface.lent[b] = most[b];
+}
+
+static void compare_made(size_t many, uint64_t seed) {
+    for (uint64_t own = seed; own < seed + many; own++) {
+        struct generator generator;
+        generate_start(&generator, own);
+        if (own % 8 == 7) sheet_make_cones(&generator, &surface);
+        else if (own % 2 == 0) generate_sound_surface(&generator, &surface);
+        else generate_surface(&generator, &surface);
+        shorten_lent();
+        if (own % 16 == 0) fill(&generator);
+        compare_sheet("seed", own);
+        compare_changed(&generator, own);
+    }
+}
+
+/* ---- Sheets ---- */
+
+/* Reads the sheet of a file, with all that can be needed lent. */
+static int load(const char *path) {
+    struct reference_read_answer read;
+    FILE *file = fopen(path, "rb");
+    if (file == 0) {
+        perror(path);
+        exit(2);
+    }
+    text_length = fread(text, 1, sizeof text, file);
+    fclose(file);
+    reference_read(text, text_length, surface.words, REFERENCE_MOST_WORDS, surface.corners, REFERENCE_MOST_CORNERS, &read);
+    if (read.number != 0) printf("%s: refusal %zu at %zu, left out\n", path, read.number, read.place);
+    surface.word_count = read.words;
+    surface.corner_count = read.corners;
+    for (size_t b = 0; b < GENERATE_BUFFERS; b++) surface.lent[b] = SIZE_MAX;
+    shorten_lent();
+    return read.number == 0;
+}
+
+static void compare_full(uint64_t seed) {
+    struct generator generator;
+    const char *name;
+    generate_start(&generator, seed);
+    fill(&generator);
+    for (size_t sheet = 0; (name = sheet_make(&generator, sheet, &surface)) != 0; sheet++) compare_sheet(name, seed);
+}
+
+static int run_compare(size_t many, uint64_t seed, char **files, int count) {
+    compare_full(seed);
+    for (int f = 0; f < count; f++)
+        if (load(files[f])) compare_sheet(files[f], 0);
+    compare_made(many, seed);
+    for (size_t s = 0; s < SIDES; s++) {
+        printf("%s, compared with the reference:", sides[s].name);
+        for (size_t work = 0; work < WORKS; work++)
+            printf(" %s %zu%s", works[work].name, compared[s][work], work + 1 < WORKS ? "," : "\n");
+    }
+    printf("%zu wrong; by answer:", wrong);
+    for (size_t work = 0; work < WORKS; work++) {
+        printf(" %s", works[work].name);
+        for (size_t n = 0; n <= HIGHEST; n++)
+            if (met[work][n] != 0) printf(" %zu: %zu", n, met[work][n]);
+        printf(work + 1 < WORKS ? ";" : "\n");
+    }
+    return wrong != 0;
+}
+
+/* ---- Counting ---- */
+
+/* The file's name without its folder and its ending. */
+static const char *sheet_name(const char *path) {
+    static char name[256];
+    const char *slash = strrchr(path, '/');
+    snprintf(name, sizeof name, "%s", slash == 0 ? path : slash + 1);
+    char *ending = strstr(name, ".sheet");
+    if (ending != 0) *ending = 0;
+    return name;
+}
+
+#ifdef EMULATED
+#define MARK(number) __asm__ volatile("nopl %c0(%%rax,%%rax)" : : "i"(number) : "memory")
+#define BEGIN MARK(MARK_BEGIN)
+#define END(name) MARK(MARK_END)
+#else
+#define BEGIN \
+    do { \
+        CALLGRIND_START_INSTRUMENTATION; \
+        CALLGRIND_ZERO_STATS; \
+    } while (0)
+#define END(name) \
+    do { \
+        CALLGRIND_DUMP_STATS_AT(name); \
+        CALLGRIND_STOP_INSTRUMENTATION; \
+    } while (0)
+#endif
+
+/* One call. What this function and the work's own take is not counted: callgrind collects only within the call, and of the emulator's
+   counts by function theirs are left out. */
+static void count(const struct side *side, size_t work, const char *sheet) {
+    char name[320];
+    struct answer answer = {0};
+    snprintf(name, sizeof name, "%s %s %s", side->name, works[work].name, sheet);
+    puts(name);
+    fflush(stdout);
+    BEGIN;
+    works[work].by(side, &theirs, &answer);
+    END(name);
+}
+
+static int run_count(char **files, int count_of_files) {
+    words_lent = REFERENCE_MOST_WORDS;
+    corners_lent = REFERENCE_MOST_CORNERS;
+    text_lent = REFERENCE_LONGEST_TEXT;
+    for (int f = 0; f < count_of_files; f++) {
+        if (!load(files[f])) continue;
+        take_own_set();
+        for (size_t work = 0; work < WORKS; work++)
+            for (size_t s = 0; s < SIDES; s++)
+                if (has(&sides[s], work)) count(&sides[s], work, sheet_name(files[f]));
+    }
+    return 0;
+}
+
+/* ---- Making ---- */
+
+static int make_file(const char *folder, const char *name) {
+    char path[4096];
+    snprintf(path, sizeof path, "%s/%s.sheet", folder, name);
+    for (char *at = path + strlen(folder); *at != 0; at++)
+        if (*at == ' ') *at = '-';
+    FILE *file = fopen(path, "wb");
+    if (file == 0 || fwrite(text, 1, text_length, file) != text_length || fclose(file) != 0) {
+        perror(path);
+        return 0;
+    }
+    return 1;
+}
+
+static int run_make(const char *folder, uint64_t seed) {
+    struct generator generator;
+    const char *name;
+    generate_start(&generator, seed);
+    for (size_t sheet = 0; (name = sheet_make(&generator, sheet, &surface)) != 0; sheet++) {
+        text_length = generate_sheet_text(&surface, text);
+        if (!make_file(folder, name)) return 1;
+    }
+    return 0;
+}
+
+int main(int count_of_arguments, char **arguments) {
+    if (count_of_arguments >= 4 && strcmp(arguments[1], "compare") == 0)
+        return run_compare(strtoull(arguments[2], 0, 10), strtoull(arguments[3], 0, 10), arguments + 4, count_of_arguments - 4);
+    if (count_of_arguments >= 3 && strcmp(arguments[1], "count") == 0) return run_count(arguments + 2, count_of_arguments - 2);
+    if (count_of_arguments == 4 && strcmp(arguments[1], "make") == 0)
+        return run_make(arguments[2], strtoull(arguments[3], 0, 10));
+    fputs("speed compare COUNT SEED FILE... | count FILE... | make FOLDER SEED\n", stderr);
+    return 2;
+}
