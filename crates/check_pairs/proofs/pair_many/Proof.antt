@@ -17,65 +17,41 @@ Inv-loop corners turns₀ heads₀ links₀ ends₀ i₀ turns heads links ends 
 abbrev μ-loop : tie.MeasureT-loop
 μ-loop corners turns₀ heads₀ links₀ ends₀ i₀ turns heads links ends i = length corners - i
 
-loop-holds : tie.Need-loop-holds Inv-loop μ-loop
-loop-holds c = (round-begins _ _ _ _ (omega arith) (c .before .before .pre .few) (c .before .before .pre), refl, refl, refl)
+abbrev to-at-loop : tie.After-pair-triangle Inv-loop μ-loop → tie.At-loop Inv-loop μ-loop
+to-at-loop p = search
 
-slice-aggregate-pair-triangle : tie.Need-slice-aggregate-pair-triangle Inv-loop μ-loop
-slice-aggregate-pair-triangle c = sym (c .before .before .loop .inv .0 .going .chained .heads-long)
-
-slice-aggregate-pair-triangle-2 : tie.Need-slice-aggregate-pair-triangle-2 Inv-loop μ-loop
-slice-aggregate-pair-triangle-2 c = sym (c .before .before .before .loop .inv .2)
-
-slice-aggregate-pair-triangle-3 : tie.Need-slice-aggregate-pair-triangle-3 Inv-loop μ-loop
-slice-aggregate-pair-triangle-3 c = sym (c .before .before .before .before .loop .inv .3)
-
-pair-triangle-requires : tie.Need-pair-triangle-requires Inv-loop μ-loop
-pair-triangle-requires c κs = round-room _ _ _ _ _ _ _ (c .before .before .before .before .before .loop .inv .0) (c .before .before .before .before .loop-test .taken)
-
-enum-known-found : tie.Need-enum-known-found Inv-loop μ-loop
-enum-known-found c = search needs
-
-same-length : tie.Need-same-length Inv-loop μ-loop
-same-length c = c .before .before .before .before .turns .given ∙ c .before .before .before .before .before .before .before .before .before .before .before .before .before .before .loop .inv .1
-
-returns : tie.Need-returns Inv-loop μ-loop
-returns c = round-stops _ _ _ _ _ _ _ (c .before .before .before .before .before .before .before .before .before .before .before .before .before .before .loop .inv .0) (c .before .before .before .before .before .before .before .before .before .before .before .before .before .loop-test .taken) _ _ _ _ _ (c .before .before .before .before .before .before .before .before .pair-triangle .ensures) _ (c .before .found .given .1) _
-
-enum-told : tie.Need-enum-told Inv-loop μ-loop
-enum-told c = search needs
-
-add-i : tie.Need-add-i Inv-loop μ-loop
-add-i c = omega (arith, round-inside _ _ _ _ _ _ _ (c .before .before .before .before .before .before .before .before .before .before .before .before .before .loop .inv .0) (c .before .before .before .before .before .before .before .before .before .before .before .before .loop-test .taken), c .before .before .before .before .before .before .before .before .before .before .before .before .before .loop .inv .0 .going .room .few)
-
-loop-less : tie.Need-loop-less Inv-loop μ-loop
-loop-less c = omega (arith, round-inside _ _ _ _ _ _ _ (c .before .before .before .before .before .before .before .before .before .before .before .before .before .loop .inv .0) (c .before .before .before .before .before .before .before .before .before .before .before .before .loop-test .taken))
-
-loop-again : tie.Need-loop-again Inv-loop μ-loop
-loop-again c = (round-more _ _ _ _ _ _ _ (c .before .before .before .before .before .before .before .before .before .before .before .before .before .loop .inv .0) (c .before .before .before .before .before .before .before .before .before .before .before .before .loop-test .taken) _ _ _ _ _ (c .before .before .before .before .before .before .before .pair-triangle .ensures) (c .enum-told .given .1), c .before .before .before .turns .given ∙ c .before .before .before .before .before .before .before .before .before .before .before .before .before .loop .inv .1, c .before .before .before .before .before .links2 .given, c .before .before .before .before .ends2 .given)
-
-same-length-2 : tie.Need-same-length-2 Inv-loop μ-loop
-same-length-2 c = search needs
-
-returns-2 : tie.Need-returns-2 Inv-loop μ-loop
-returns-2 c = round-ends _ _ _ _ _ _ _ (c .before .loop .inv .0) (c .loop-test .left)
+abbrev to-turn : tie.After-pair-triangle Inv-loop μ-loop → tie.In-loop Inv-loop μ-loop
+to-turn p = search
 
 pub pair-many-spec : {M : Type 1} → statement M
 pair-many-spec =
     tie.close
-    (tie.spec
-    Inv-loop
-    μ-loop
-    loop-holds
-    slice-aggregate-pair-triangle
-    slice-aggregate-pair-triangle-2
-    slice-aggregate-pair-triangle-3
-    pair-triangle-requires
-    enum-known-found
-    same-length
-    returns
-    enum-told
-    add-i
-    loop-less
-    loop-again
-    same-length-2
-    returns-2)
+    (tie.spec Inv-loop μ-loop
+    (λ c. let start : tie.Start Inv-loop μ-loop = search in (round-begins _ _ _ _ (omega arith) (start .pre .few) (start .pre), refl, refl, refl))
+    (λ c. let at-loop : tie.At-loop Inv-loop μ-loop = search in sym (at-loop .loop .inv .0 .going .chained .heads-long))
+    (λ c. let at-loop : tie.At-loop Inv-loop μ-loop = search in sym (at-loop .loop .inv .2))
+    (λ c. let at-loop : tie.At-loop Inv-loop μ-loop = search in sym (at-loop .loop .inv .3))
+    (λ c κs. search round-room)
+    (λ c. search needs)
+    (λ c.
+    let after-turns : tie.After-turns Inv-loop μ-loop = search in let after-pair-triangle : tie.After-pair-triangle Inv-loop μ-loop = search in
+    after-turns .turns .given ∙ (to-at-loop after-pair-triangle) .loop .inv .1)
+    (λ c. search round-stops)
+    (λ c. search needs)
+    (λ c.
+    let after-pair-triangle : tie.After-pair-triangle Inv-loop μ-loop = search in let at-loop = to-at-loop after-pair-triangle in omega
+    (arith, round-inside _ _ _ _ _ _ _ (at-loop .loop .inv .0) (to-turn after-pair-triangle .loop-test .taken), at-loop .loop .inv .0 .going .room .few))
+    (λ c.
+    let after-pair-triangle : tie.After-pair-triangle Inv-loop μ-loop = search in omega
+    (arith, round-inside _ _ _ _ _ _ _ (to-at-loop after-pair-triangle .loop .inv .0) (to-turn after-pair-triangle .loop-test .taken)))
+    (λ c.
+    let after-pair-triangle : tie.After-pair-triangle Inv-loop μ-loop = search in let at-loop = to-at-loop after-pair-triangle in let after-turns : tie.After-turns
+    Inv-loop μ-loop = search in let after-links2 : tie.After-links2 Inv-loop μ-loop = search in let after-ends2 : tie.After-ends2 Inv-loop μ-loop = search in (
+      round-more _ _ _ _ _ _ _ (at-loop .loop .inv .0) (to-turn after-pair-triangle .loop-test .taken) _ _ _ _ _ (after-pair-triangle .pair-triangle .ensures)
+          (c .enum-told .given .1),
+      after-turns .turns .given ∙ at-loop .loop .inv .1,
+      after-links2 .links2 .given,
+      after-ends2 .ends2 .given,
+    ))
+    (λ c. search needs)
+    (λ c. search round-ends))

@@ -7,163 +7,126 @@ use Rattle.check_pairs.proofs.Laws.Triangles.{triangle-inside, triangle
 use Rattle.check_pairs.proofs.pair_triangle.Statement.{statement}
 use Rattle.check_pairs.proofs.pair_triangle.Tie as tie
 
-mul-a : tie.Need-mul-a
-mul-a c = search needs
+abbrev to-start : tie.After-is-twice → tie.Start
+to-start p = search
 
-shared-slice-read-a : tie.Need-shared-slice-read-a
-shared-slice-read-a c = search needs
+abbrev to-after-is-twice : tie.After-pair → tie.After-is-twice
+to-after-is-twice p = search
 
-add-b : tie.Need-add-b
-add-b c = search needs
+abbrev to-start-2 : tie.After-pair → tie.Start
+to-start-2 p = to-start (to-after-is-twice p)
 
-mul-b : tie.Need-mul-b
-mul-b c = search needs
+abbrev to-else1 : tie.After-pair → tie.Else1
+to-else1 p = search
 
-shared-slice-read-b : tie.Need-shared-slice-read-b
-shared-slice-read-b c = search needs
+abbrev to-after-pair : tie.After-pair2 → tie.After-pair
+to-after-pair p = search
 
-add-c : tie.Need-add-c
-add-c c = search needs
+abbrev to-start-3 : tie.After-pair2 → tie.Start
+to-start-3 p = to-start-2 (to-after-pair p)
 
-mul-c : tie.Need-mul-c
-mul-c c = search needs
+abbrev to-after-is-twice-2 : tie.After-pair2 → tie.After-is-twice
+to-after-is-twice-2 p = to-after-is-twice (to-after-pair p)
 
-shared-slice-read-c : tie.Need-shared-slice-read-c
-shared-slice-read-c c = search needs
+abbrev to-else1-2 : tie.After-pair2 → tie.Else1
+to-else1-2 p = to-else1 (to-after-pair p)
 
-is-twice-requires : tie.Need-is-twice-requires
-is-twice-requires c κs = search needs
+abbrev to-else2 : tie.After-pair2 → tie.Else2
+to-else2 p = search
 
-returns : tie.Need-returns
-returns c = triangle-twice _ _ _ _ _ _ _ (c .before .before .before .before .before .before .before .before .before .before .pre) (triangle-alike _ _ _ _ _ _ _ (c .before .before .before .before .before .before .before .before .before .before .pre) ∙ sym (c .before .is-twice .ensures) ∙ c .if1 .taken) _ _ _ _
+abbrev to-after-pair2 : tie.After-pair3 → tie.After-pair2
+to-after-pair2 p = search
 
-add-pair : tie.Need-add-pair
-add-pair c = search needs
+abbrev to-start-4 : tie.After-pair3 → tie.Start
+to-start-4 p = to-start-3 (to-after-pair2 p)
 
-pair-requires : tie.Need-pair-requires
-pair-requires c κs = first-room _ _ _ _ _ _ _ (c .before .before .before .before .before .before .before .before .before .before .before .before .before .before .pre) (triangle-alike _ _ _ _ _ _ _ (c .before .before .before .before .before .before .before .before .before .before .before .before .before .before .pre) ∙ sym (c .before .before .before .before .before .is-twice .ensures) ∙ c .before .before .before .before .if1 .left)
+abbrev to-after-is-twice-3 : tie.After-pair3 → tie.After-is-twice
+to-after-is-twice-3 p = to-after-is-twice-2 (to-after-pair2 p)
 
-same-length : tie.Need-same-length
-same-length c = search needs
+abbrev to-else1-3 : tie.After-pair3 → tie.Else1
+to-else1-3 p = to-else1-2 (to-after-pair2 p)
 
-same-length-2 : tie.Need-same-length-2
-same-length-2 c = search needs
+abbrev to-after-pair-2 : tie.After-pair3 → tie.After-pair
+to-after-pair-2 p = to-after-pair (to-after-pair2 p)
 
-same-length-3 : tie.Need-same-length-3
-same-length-3 c = search needs
+abbrev to-else2-2 : tie.After-pair3 → tie.Else2
+to-else2-2 p = to-else2 (to-after-pair2 p)
 
-same-length-4 : tie.Need-same-length-4
-same-length-4 c = search needs
-
-returns-2 : tie.Need-returns-2
-returns-2 c = first-stops _ _ _ _ _ _ _ (c .before .before .before .before .before .before .before .before .before .before .before .before .before .before .before .before .before .before .before .before .before .before .before .before .pre) (triangle-alike _ _ _ _ _ _ _ (c .before .before .before .before .before .before .before .before .before .before .before .before .before .before .before .before .before .before .before .before .before .before .before .before .pre) ∙ sym (c .before .before .before .before .before .before .before .before .before .before .before .before .before .before .before .is-twice .ensures) ∙ c .before .before .before .before .before .before .before .before .before .before .before .before .before .before .if1 .left) _ _ _ _ _ (c .before .before .before .before .before .before .before .before .before .pair .ensures) (not-true _ (c .if2 .taken)) _ _ _ _
-
-add-pair-2 : tie.Need-add-pair-2
-add-pair-2 c = search needs
-
-add-pair-3 : tie.Need-add-pair-3
-add-pair-3 c = search needs
-
-pair-requires-2 : tie.Need-pair-requires-2
-pair-requires-2 c κs = second-room _ _ _ _ _ _ _ (c .before .before .before .before .before .before .before .before .before .before .before .before .before .before .before .before .before .before .before .before .before .before .before .before .before .before .before .before .pre) (triangle-alike _ _ _ _ _ _ _ (c .before .before .before .before .before .before .before .before .before .before .before .before .before .before .before .before .before .before .before .before .before .before .before .before .before .before .before .before .pre) ∙ sym (c .before .before .before .before .before .before .before .before .before .before .before .before .before .before .before .before .before .before .before .is-twice .ensures) ∙ c .before .before .before .before .before .before .before .before .before .before .before .before .before .before .before .before .before .before .if1 .left) _ _ _ _ _ (c .before .before .before .before .before .before .before .before .before .before .before .before .before .pair .ensures) (not-false _ (c .before .before .before .before .if2 .left))
-
-add-t35 : tie.Need-add-t35
-add-t35 c = omega (arith, triangle-inside _ _ _ _ _ _ _ (c .before .before .before .before .before .before .before .before .before .before .before .before .before .before .before .before .before .before .before .before .before .before .before .before .before .before .before .before .before .before .before .before .before .before .before .before .before .before .pre), c .before .before .before .before .before .before .before .before .before .before .before .before .before .before .before .before .before .before .before .before .before .before .before .before .before .before .before .before .before .before .before .before .before .before .before .before .before .before .pre .going .room .few)
-
-same-length-5 : tie.Need-same-length-5
-same-length-5 c = search needs
-
-same-length-6 : tie.Need-same-length-6
-same-length-6 c = search needs
-
-same-length-7 : tie.Need-same-length-7
-same-length-7 c = search needs
-
-same-length-8 : tie.Need-same-length-8
-same-length-8 c = search needs
-
-returns-3 : tie.Need-returns-3
-returns-3 c = second-stops _ _ _ _ _ _ _ (c .before .before .before .before .before .before .before .before .before .before .before .before .before .before .before .before .before .before .before .before .before .before .before .before .before .before .before .before .before .before .before .before .before .before .before .before .before .before .pre) (triangle-alike _ _ _ _ _ _ _ (c .before .before .before .before .before .before .before .before .before .before .before .before .before .before .before .before .before .before .before .before .before .before .before .before .before .before .before .before .before .before .before .before .before .before .before .before .before .before .pre) ∙ sym (c .before .before .before .before .before .before .before .before .before .before .before .before .before .before .before .before .before .before .before .before .before .before .before .before .before .before .before .before .before .is-twice .ensures) ∙ c .before .before .before .before .before .before .before .before .before .before .before .before .before .before .before .before .before .before .before .before .before .before .before .before .before .before .before .before .if1 .left) _ _ _ _ _ (c .before .before .before .before .before .before .before .before .before .before .before .before .before .before .before .before .before .before .before .before .before .before .before .pair .ensures) (not-false _ (c .before .before .before .before .before .before .before .before .before .before .before .before .before .before .if2 .left)) _ _ _ _ _ (c .before .before .before .before .before .before .before .before .before .pair2 .ensures) (not-true _ (c .if3 .taken)) _ _ _ _
-
-add-pair-4 : tie.Need-add-pair-4
-add-pair-4 c = omega (arith, triangle-inside _ _ _ _ _ _ _ (c .before .before .before .before .before .before .before .before .before .before .before .before .before .before .before .before .before .before .before .before .before .before .before .before .before .before .before .before .before .before .before .before .before .before .before .before .before .before .pre), c .before .before .before .before .before .before .before .before .before .before .before .before .before .before .before .before .before .before .before .before .before .before .before .before .before .before .before .before .before .before .before .before .before .before .before .before .before .before .pre .going .room .few)
-
-pair-requires-3 : tie.Need-pair-requires-3
-pair-requires-3 c κs = third-room _ _ _ _ _ _ _ (c .before .before .before .before .before .before .before .before .before .before .before .before .before .before .before .before .before .before .before .before .before .before .before .before .before .before .before .before .before .before .before .before .before .before .before .before .before .before .before .before .before .before .pre) (triangle-alike _ _ _ _ _ _ _ (c .before .before .before .before .before .before .before .before .before .before .before .before .before .before .before .before .before .before .before .before .before .before .before .before .before .before .before .before .before .before .before .before .before .before .before .before .before .before .before .before .before .before .pre) ∙ sym (c .before .before .before .before .before .before .before .before .before .before .before .before .before .before .before .before .before .before .before .before .before .before .before .before .before .before .before .before .before .before .before .before .before .is-twice .ensures) ∙ c .before .before .before .before .before .before .before .before .before .before .before .before .before .before .before .before .before .before .before .before .before .before .before .before .before .before .before .before .before .before .before .before .if1 .left) _ _ _ _ _ (c .before .before .before .before .before .before .before .before .before .before .before .before .before .before .before .before .before .before .before .before .before .before .before .before .before .before .before .pair .ensures) (not-false _ (c .before .before .before .before .before .before .before .before .before .before .before .before .before .before .before .before .before .before .if2 .left)) _ _ _ _ _ (c .before .before .before .before .before .before .before .before .before .before .before .before .before .pair2 .ensures) (not-false _ (c .before .before .before .before .if3 .left))
-
-add-t44 : tie.Need-add-t44
-add-t44 c = omega (arith, triangle-inside _ _ _ _ _ _ _ (c .before .before .before .before .before .before .before .before .before .before .before .before .before .before .before .before .before .before .before .before .before .before .before .before .before .before .before .before .before .before .before .before .before .before .before .before .before .before .before .before .before .before .before .before .before .before .before .before .before .before .before .before .pre), c .before .before .before .before .before .before .before .before .before .before .before .before .before .before .before .before .before .before .before .before .before .before .before .before .before .before .before .before .before .before .before .before .before .before .before .before .before .before .before .before .before .before .before .before .before .before .before .before .before .before .before .before .pre .going .room .few)
-
-same-length-9 : tie.Need-same-length-9
-same-length-9 c = search needs
-
-same-length-10 : tie.Need-same-length-10
-same-length-10 c = search needs
-
-same-length-11 : tie.Need-same-length-11
-same-length-11 c = search needs
-
-same-length-12 : tie.Need-same-length-12
-same-length-12 c = search needs
-
-returns-4 : tie.Need-returns-4
-returns-4 c = third-stops _ _ _ _ _ _ _ (c .before .before .before .before .before .before .before .before .before .before .before .before .before .before .before .before .before .before .before .before .before .before .before .before .before .before .before .before .before .before .before .before .before .before .before .before .before .before .before .before .before .before .before .before .before .before .before .before .before .before .before .before .pre) (triangle-alike _ _ _ _ _ _ _ (c .before .before .before .before .before .before .before .before .before .before .before .before .before .before .before .before .before .before .before .before .before .before .before .before .before .before .before .before .before .before .before .before .before .before .before .before .before .before .before .before .before .before .before .before .before .before .before .before .before .before .before .before .pre) ∙ sym (c .before .before .before .before .before .before .before .before .before .before .before .before .before .before .before .before .before .before .before .before .before .before .before .before .before .before .before .before .before .before .before .before .before .before .before .before .before .before .before .before .before .before .before .is-twice .ensures) ∙ c .before .before .before .before .before .before .before .before .before .before .before .before .before .before .before .before .before .before .before .before .before .before .before .before .before .before .before .before .before .before .before .before .before .before .before .before .before .before .before .before .before .before .if1 .left) _ _ _ _ _ (c .before .before .before .before .before .before .before .before .before .before .before .before .before .before .before .before .before .before .before .before .before .before .before .before .before .before .before .before .before .before .before .before .before .before .before .before .before .pair .ensures) (not-false _ (c .before .before .before .before .before .before .before .before .before .before .before .before .before .before .before .before .before .before .before .before .before .before .before .before .before .before .before .before .if2 .left)) _ _ _ _ _ (c .before .before .before .before .before .before .before .before .before .before .before .before .before .before .before .before .before .before .before .before .before .before .before .pair2 .ensures) (not-false _ (c .before .before .before .before .before .before .before .before .before .before .before .before .before .before .if3 .left)) _ _ _ _ _ (c .before .before .before .before .before .before .before .before .before .pair3 .ensures) (not-true _ (c .if4 .taken)) _ _ _ _
-
-same-length-13 : tie.Need-same-length-13
-same-length-13 c = search needs
-
-same-length-14 : tie.Need-same-length-14
-same-length-14 c = search needs
-
-same-length-15 : tie.Need-same-length-15
-same-length-15 c = search needs
-
-same-length-16 : tie.Need-same-length-16
-same-length-16 c = search needs
-
-returns-5 : tie.Need-returns-5
-returns-5 c = triangle-goes _ _ _ _ _ _ _ (c .before .before .before .before .before .before .before .before .before .before .before .before .before .before .before .before .before .before .before .before .before .before .before .before .before .before .before .before .before .before .before .before .before .before .before .before .before .before .before .before .before .before .before .before .before .before .before .before .before .before .before .before .pre) (triangle-alike _ _ _ _ _ _ _ (c .before .before .before .before .before .before .before .before .before .before .before .before .before .before .before .before .before .before .before .before .before .before .before .before .before .before .before .before .before .before .before .before .before .before .before .before .before .before .before .before .before .before .before .before .before .before .before .before .before .before .before .before .pre) ∙ sym (c .before .before .before .before .before .before .before .before .before .before .before .before .before .before .before .before .before .before .before .before .before .before .before .before .before .before .before .before .before .before .before .before .before .before .before .before .before .before .before .before .before .before .before .is-twice .ensures) ∙ c .before .before .before .before .before .before .before .before .before .before .before .before .before .before .before .before .before .before .before .before .before .before .before .before .before .before .before .before .before .before .before .before .before .before .before .before .before .before .before .before .before .before .if1 .left) _ _ _ _ _ (c .before .before .before .before .before .before .before .before .before .before .before .before .before .before .before .before .before .before .before .before .before .before .before .before .before .before .before .before .before .before .before .before .before .before .before .before .before .pair .ensures) (not-false _ (c .before .before .before .before .before .before .before .before .before .before .before .before .before .before .before .before .before .before .before .before .before .before .before .before .before .before .before .before .if2 .left)) _ _ _ _ _ (c .before .before .before .before .before .before .before .before .before .before .before .before .before .before .before .before .before .before .before .before .before .before .before .pair2 .ensures) (not-false _ (c .before .before .before .before .before .before .before .before .before .before .before .before .before .before .if3 .left)) _ _ _ _ _ (c .before .before .before .before .before .before .before .before .before .pair3 .ensures) (not-false _ (c .if4 .left))
+abbrev to-else3 : tie.After-pair3 → tie.Else3
+to-else3 p = search
 
 pub pair-triangle-spec : {M : Type 1} → statement M
 pair-triangle-spec =
     tie.close
     (tie.spec
-    mul-a
-    shared-slice-read-a
-    add-b
-    mul-b
-    shared-slice-read-b
-    add-c
-    mul-c
-    shared-slice-read-c
-    is-twice-requires
-    returns
-    add-pair
-    pair-requires
-    same-length
-    same-length-2
-    same-length-3
-    same-length-4
-    returns-2
-    add-pair-2
-    add-pair-3
-    pair-requires-2
-    add-t35
-    same-length-5
-    same-length-6
-    same-length-7
-    same-length-8
-    returns-3
-    add-pair-4
-    pair-requires-3
-    add-t44
-    same-length-9
-    same-length-10
-    same-length-11
-    same-length-12
-    returns-4
-    same-length-13
-    same-length-14
-    same-length-15
-    same-length-16
-    returns-5)
+    (λ c. search needs)
+    (λ c. search needs)
+    (λ c. search needs)
+    (λ c. search needs)
+    (λ c. search needs)
+    (λ c. search needs)
+    (λ c. search needs)
+    (λ c. search needs)
+    (λ c κs. search needs)
+    (λ c.
+    let after-is-twice : tie.After-is-twice = search in let start = to-start after-is-twice in triangle-twice _ _ _ _ _ _ _ (start .pre)
+    (triangle-alike _ _ _ _ _ _ _ (start .pre) ∙ sym (c .before .is-twice .ensures) ∙ c .if1 .taken) _ _ _ _)
+    (λ c. search needs)
+    (λ c κs.
+    let after-is-twice : tie.After-is-twice = search in let start = to-start after-is-twice in let else1 : tie.Else1 = search in first-room _ _ _ _ _ _ _ (start .pre)
+    (triangle-alike _ _ _ _ _ _ _ (start .pre) ∙ sym (after-is-twice .is-twice .ensures) ∙ else1 .if1 .left))
+    (λ c. search needs)
+    (λ c. search needs)
+    (λ c. search needs)
+    (λ c. search needs)
+    (λ c.
+    let after-pair : tie.After-pair = search in let start = to-start-2 after-pair in first-stops _ _ _ _ _ _ _ (start .pre)
+    (triangle-alike _ _ _ _ _ _ _ (start .pre) ∙ sym (to-after-is-twice after-pair .is-twice .ensures) ∙ (to-else1 after-pair) .if1 .left) _ _ _ _ _
+    (after-pair .pair .ensures) (not-true _ (c .if2 .taken)) _ _ _ _)
+    (λ c. search needs)
+    (λ c. search needs)
+    (λ c κs.
+    let after-pair : tie.After-pair = search in let start = to-start-2 after-pair in let else2 : tie.Else2 = search in second-room _ _ _ _ _ _ _ (start .pre)
+    (triangle-alike _ _ _ _ _ _ _ (start .pre) ∙ sym (to-after-is-twice after-pair .is-twice .ensures) ∙ (to-else1 after-pair) .if1 .left) _ _ _ _ _
+    (after-pair .pair .ensures) (not-false _ (else2 .if2 .left)))
+    (λ c.
+    let after-pair2 : tie.After-pair2 = search in let start = to-start-3 after-pair2 in omega
+    (arith, triangle-inside _ _ _ _ _ _ _ (start .pre), start .pre .going .room .few))
+    (λ c. search needs)
+    (λ c. search needs)
+    (λ c. search needs)
+    (λ c. search needs)
+    (λ c.
+    let after-pair2 : tie.After-pair2 = search in let start = to-start-3 after-pair2 in second-stops _ _ _ _ _ _ _ (start .pre)
+    (triangle-alike _ _ _ _ _ _ _ (start .pre) ∙ sym (to-after-is-twice-2 after-pair2 .is-twice .ensures) ∙ (to-else1-2 after-pair2) .if1 .left) _ _ _ _ _
+    (to-after-pair after-pair2 .pair .ensures) (not-false _ (to-else2 after-pair2 .if2 .left)) _ _ _ _ _ (after-pair2 .pair2 .ensures) (not-true _ (c .if3 .taken)) _
+    _ _ _)
+    (λ c.
+    let after-pair2 : tie.After-pair2 = search in let start = to-start-3 after-pair2 in omega
+    (arith, triangle-inside _ _ _ _ _ _ _ (start .pre), start .pre .going .room .few))
+    (λ c κs.
+    let after-pair2 : tie.After-pair2 = search in let start = to-start-3 after-pair2 in let else3 : tie.Else3 = search in third-room _ _ _ _ _ _ _ (start .pre)
+    (triangle-alike _ _ _ _ _ _ _ (start .pre) ∙ sym (to-after-is-twice-2 after-pair2 .is-twice .ensures) ∙ (to-else1-2 after-pair2) .if1 .left) _ _ _ _ _
+    (to-after-pair after-pair2 .pair .ensures) (not-false _ (to-else2 after-pair2 .if2 .left)) _ _ _ _ _ (after-pair2 .pair2 .ensures)
+    (not-false _ (else3 .if3 .left)))
+    (λ c.
+    let after-pair3 : tie.After-pair3 = search in let start = to-start-4 after-pair3 in omega
+    (arith, triangle-inside _ _ _ _ _ _ _ (start .pre), start .pre .going .room .few))
+    (λ c. search needs)
+    (λ c. search needs)
+    (λ c. search needs)
+    (λ c. search needs)
+    (λ c.
+    let after-pair3 : tie.After-pair3 = search in let start = to-start-4 after-pair3 in third-stops _ _ _ _ _ _ _ (start .pre)
+    (triangle-alike _ _ _ _ _ _ _ (start .pre) ∙ sym (to-after-is-twice-3 after-pair3 .is-twice .ensures) ∙ (to-else1-3 after-pair3) .if1 .left) _ _ _ _ _
+    (to-after-pair-2 after-pair3 .pair .ensures) (not-false _ (to-else2-2 after-pair3 .if2 .left)) _ _ _ _ _ (to-after-pair2 after-pair3 .pair2 .ensures)
+    (not-false _ (to-else3 after-pair3 .if3 .left)) _ _ _ _ _ (after-pair3 .pair3 .ensures) (not-true _ (c .if4 .taken)) _ _ _ _)
+    (λ c. search needs)
+    (λ c. search needs)
+    (λ c. search needs)
+    (λ c. search needs)
+    (λ c.
+    let after-pair3 : tie.After-pair3 = search in let start = to-start-4 after-pair3 in triangle-goes _ _ _ _ _ _ _ (start .pre)
+    (triangle-alike _ _ _ _ _ _ _ (start .pre) ∙ sym (to-after-is-twice-3 after-pair3 .is-twice .ensures) ∙ (to-else1-3 after-pair3) .if1 .left) _ _ _ _ _
+    (to-after-pair-2 after-pair3 .pair .ensures) (not-false _ (to-else2-2 after-pair3 .if2 .left)) _ _ _ _ _ (to-after-pair2 after-pair3 .pair2 .ensures)
+    (not-false _ (to-else3 after-pair3 .if3 .left)) _ _ _ _ _ (after-pair3 .pair3 .ensures) (not-false _ (c .if4 .left))))

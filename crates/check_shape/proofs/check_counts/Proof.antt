@@ -6,21 +6,24 @@ use borrow.Author.Needs.{needs}
 use Rattle.check_shape.proofs.check_counts.Statement.{statement}
 use Rattle.check_shape.proofs.check_counts.Tie as tie
 
-takes-words-requires : tie.Need-takes-words-requires
-takes-words-requires c κs = search needs
+abbrev to-after-takes-words : tie.After-takes-corners → tie.After-takes-words
+to-after-takes-words p = search
 
-returns : tie.Need-returns
-returns c = words-refused _ _ (sym (c .before .takes-words .ensures) ∙ not-true _ (c .if1 .taken))
-
-takes-corners-requires : tie.Need-takes-corners-requires
-takes-corners-requires c κs = search needs
-
-returns-2 : tie.Need-returns-2
-returns-2 c = corners-refused _ _ (sym (c .before .before .before .takes-words .ensures) ∙ not-false _ (c .before .before .if1 .left)) (sym (c .before .takes-corners .ensures) ∙ not-true _ (c .if2 .taken))
-
-returns-3 : tie.Need-returns-3
-returns-3 c = counts-done _ _ (sym (c .before .before .before .takes-words .ensures) ∙ not-false _ (c .before .before .if1 .left)) (sym (c .before .takes-corners .ensures) ∙ not-false _ (c .if2 .left))
+abbrev to-else1 : tie.After-takes-corners → tie.Else1
+to-else1 p = search
 
 pub check-counts-spec : {M : Type 1} → statement M
 check-counts-spec =
-    tie.close (tie.spec takes-words-requires returns takes-corners-requires returns-2 returns-3)
+    tie.close
+    (tie.spec
+    (λ c κs. search needs)
+    (λ c. words-refused _ _ (sym (c .before .takes-words .ensures) ∙ not-true _ (c .if1 .taken)))
+    (λ c κs. search needs)
+    (λ c.
+    let after-takes-corners : tie.After-takes-corners = search in
+    corners-refused _ _ (sym (to-after-takes-words after-takes-corners .takes-words .ensures) ∙ not-false _ (to-else1 after-takes-corners .if1 .left))
+    (sym (c .before .takes-corners .ensures) ∙ not-true _ (c .if2 .taken)))
+    (λ c.
+    let after-takes-corners : tie.After-takes-corners = search in
+    counts-done _ _ (sym (to-after-takes-words after-takes-corners .takes-words .ensures) ∙ not-false _ (to-else1 after-takes-corners .if1 .left))
+    (sym (c .before .takes-corners .ensures) ∙ not-false _ (c .if2 .left))))

@@ -16,37 +16,21 @@ Inv-loop corners n t₀ t = (t ≤ n) × (n ≡ length corners / 3) × (least (t
 abbrev μ-loop : tie.MeasureT-loop
 μ-loop corners n t₀ t = n - t
 
-loop-holds : tie.Need-loop-holds Inv-loop μ-loop
-loop-holds c = (search needs, search needs, least-none _)
-
-is-twice-requires : tie.Need-is-twice-requires Inv-loop μ-loop
-is-twice-requires c κs = search needs
-
-returns : tie.Need-returns Inv-loop μ-loop
-returns c = sym (least-at _ _ _ (c .before .before .before .loop .inv .2) (sym (c .before .is-twice .ensures) ∙ c .if1 .taken) (search needs))
-
-add-t : tie.Need-add-t Inv-loop μ-loop
-add-t c = search needs
-
-loop-less : tie.Need-loop-less Inv-loop μ-loop
-loop-less c = search needs
-
-loop-again : tie.Need-loop-again Inv-loop μ-loop
-loop-again c = (search needs, search needs, least-more _ _ (c .before .before .before .loop .inv .2) (sym (c .before .is-twice .ensures) ∙ c .if1 .left))
-
-returns-2 : tie.Need-returns-2 Inv-loop μ-loop
-returns-2 c = sym (ap (least _) (search needs) ∙ c .before .loop .inv .2)
+abbrev to-at-loop : tie.After-is-twice Inv-loop μ-loop → tie.At-loop Inv-loop μ-loop
+to-at-loop p = search
 
 pub first-twice-spec : {M : Type 1} → statement M
 first-twice-spec =
     tie.close
-    (tie.spec
-    Inv-loop
-    μ-loop
-    loop-holds
-    is-twice-requires
-    returns
-    add-t
-    loop-less
-    loop-again
-    returns-2)
+    (tie.spec Inv-loop μ-loop
+    (λ c. (search needs, search needs, least-none _))
+    (λ c κs. search needs)
+    (λ c.
+    let after-is-twice : tie.After-is-twice Inv-loop μ-loop = search in
+    sym (least-at _ _ _ (to-at-loop after-is-twice .loop .inv .2) (sym (c .before .is-twice .ensures) ∙ c .if1 .taken) (search needs)))
+    (λ c. search needs)
+    (λ c. search needs)
+    (λ c.
+    let after-is-twice : tie.After-is-twice Inv-loop μ-loop = search in
+    (search needs, search needs, least-more _ _ (to-at-loop after-is-twice .loop .inv .2) (sym (c .before .is-twice .ensures) ∙ c .if1 .left)))
+    (λ c. sym (ap (least _) (search needs) ∙ c .before .loop .inv .2)))

@@ -10,39 +10,6 @@ use Rattle.check_shape.proofs.is_twice.Tie as tie
 last : (a b c : Bool) → a ≡ false → b ≡ false → c ≡ (a || b || c)
 last a b c p q = rw (p, q)
 
-mul-a : tie.Need-mul-a
-mul-a c = search needs
-
-mul-a-2 : tie.Need-mul-a-2
-mul-a-2 c = search needs
-
-shared-slice-read-a : tie.Need-shared-slice-read-a
-shared-slice-read-a c = search needs
-
-mul-b : tie.Need-mul-b
-mul-b c = search needs
-
-add-b : tie.Need-add-b
-add-b c = search needs
-
-mul-b-2 : tie.Need-mul-b-2
-mul-b-2 c = search needs
-
-shared-slice-read-b : tie.Need-shared-slice-read-b
-shared-slice-read-b c = search needs
-
-mul-c : tie.Need-mul-c
-mul-c c = search needs
-
-add-c : tie.Need-add-c
-add-c c = search needs
-
-mul-c-2 : tie.Need-mul-c-2
-mul-c-2 c = search needs
-
-shared-slice-read-c : tie.Need-shared-slice-read-c
-shared-slice-read-c c = search needs
-
 returns : tie.Need-returns
 unfolding twice
 returns c = simp (eq-eqb _ _ (c .if1 .taken))
@@ -59,17 +26,17 @@ pub is-twice-spec : {M : Type 1} → statement M
 is-twice-spec =
     tie.close
     (tie.spec
-    mul-a
-    mul-a-2
-    shared-slice-read-a
-    mul-b
-    add-b
-    mul-b-2
-    shared-slice-read-b
-    mul-c
-    add-c
-    mul-c-2
-    shared-slice-read-c
+    (λ c. search needs)
+    (λ c. search needs)
+    (λ c. search needs)
+    (λ c. search needs)
+    (λ c. search needs)
+    (λ c. search needs)
+    (λ c. search needs)
+    (λ c. search needs)
+    (λ c. search needs)
+    (λ c. search needs)
+    (λ c. search needs)
     returns
     returns-2
     returns-3)

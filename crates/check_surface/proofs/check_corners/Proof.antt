@@ -5,71 +5,64 @@ use borrow.Author.Needs.{needs}
 use Rattle.check_surface.proofs.check_corners.Statement.{statement}
 use Rattle.check_surface.proofs.check_corners.Tie as tie
 
-first-unnamed-requires : tie.Need-first-unnamed-requires
-first-unnamed-requires c κs = search needs
+abbrev to-start : tie.After-first-unnamed → tie.Start
+to-start p = search
 
-enum-known-unnamed : tie.Need-enum-known-unnamed
-enum-known-unnamed c = search needs
+abbrev to-after-first-unnamed : tie.After-pair-all → tie.After-first-unnamed
+to-after-first-unnamed p = search
 
-returns : tie.Need-returns
-returns c = unnamed-refused _ _ _ _ (sym (c .before .before .before .first-unnamed .ensures) ∙ c .before .unnamed .given .1)
+abbrev to-start-2 : tie.After-pair-all → tie.Start
+to-start-2 p = to-start (to-after-first-unnamed p)
 
-enum-told : tie.Need-enum-told
-enum-told c = search needs
+abbrev to-after-enum-told : tie.After-pair-all → tie.After-enum-told
+to-after-enum-told p = search
 
-pair-all-requires : tie.Need-pair-all-requires
-pair-all-requires c κs = search needs
+abbrev to-after-pair-all : tie.After-first-twice → tie.After-pair-all
+to-after-pair-all p = search
 
-enum-known-stop : tie.Need-enum-known-stop
-enum-known-stop c = search needs
+abbrev to-start-3 : tie.After-first-twice → tie.Start
+to-start-3 p = to-start-2 (to-after-pair-all p)
 
-enum-told-2 : tie.Need-enum-told-2
-enum-told-2 c = search needs
+abbrev to-after-first-unnamed-2 : tie.After-first-twice → tie.After-first-unnamed
+to-after-first-unnamed-2 p = to-after-first-unnamed (to-after-pair-all p)
 
-same-length : tie.Need-same-length
-same-length c = search needs
+abbrev to-after-enum-told-2 : tie.After-first-twice → tie.After-enum-told
+to-after-enum-told-2 p = to-after-enum-told (to-after-pair-all p)
 
-returns-2 : tie.Need-returns-2
-returns-2 c = woven-done _ _ _ _ (c .before .before .before .before .before .before .before .before .before .before .before .pre) _ (c .before .before .before .before .pair-all .ensures) (sym (c .before .before .before .before .before .before .before .before .first-unnamed .ensures) ∙ c .before .before .before .before .before .before .enum-told .given .1) (c .enum-told2 .given .1)
-
-first-twice-requires : tie.Need-first-twice-requires
-first-twice-requires c κs = search needs
-
-enum-known-twice : tie.Need-enum-known-twice
-enum-known-twice c = search needs
-
-enum-told-3 : tie.Need-enum-told-3
-enum-told-3 c = search needs
-
-same-length-2 : tie.Need-same-length-2
-same-length-2 c = search needs
-
-returns-3 : tie.Need-returns-3
-returns-3 c = twice-refused _ _ _ _ (c .before .before .before .before .before .before .before .before .before .before .before .before .before .before .before .before .pre) _ (c .before .before .before .before .before .before .before .before .before .pair-all .ensures) (sym (c .before .before .before .before .before .before .before .before .before .before .before .before .before .first-unnamed .ensures) ∙ c .before .before .before .before .before .before .before .before .before .before .before .enum-told .given .1) _ (sym (c .before .before .before .first-twice .ensures) ∙ c .before .twice .given .1)
-
-same-length-3 : tie.Need-same-length-3
-same-length-3 c = search needs
-
-returns-4 : tie.Need-returns-4
-returns-4 c = repeated-refused _ _ _ _ (c .before .before .before .before .before .before .before .before .before .before .before .before .before .before .before .pre) _ (c .before .before .before .before .before .before .before .before .pair-all .ensures) (sym (c .before .before .before .before .before .before .before .before .before .before .before .before .first-unnamed .ensures) ∙ c .before .before .before .before .before .before .before .before .before .before .enum-told .given .1) _ (c .before .before .before .before .stop .given .1) (sym (c .before .before .first-twice .ensures) ∙ c .enum-told3 .given .1)
+abbrev to-after-stop : tie.After-first-twice → tie.After-stop
+to-after-stop p = search
 
 pub check-corners-spec : {M : Type 1} → statement M
 check-corners-spec =
     tie.close
     (tie.spec
-    first-unnamed-requires
-    enum-known-unnamed
-    returns
-    enum-told
-    pair-all-requires
-    enum-known-stop
-    enum-told-2
-    same-length
-    returns-2
-    first-twice-requires
-    enum-known-twice
-    enum-told-3
-    same-length-2
-    returns-3
-    same-length-3
-    returns-4)
+    (λ c κs. search needs)
+    (λ c. search needs)
+    (λ c.
+    let after-first-unnamed : tie.After-first-unnamed = search in
+    unnamed-refused _ _ _ _ (sym (after-first-unnamed .first-unnamed .ensures) ∙ c .before .unnamed .given .1))
+    (λ c. search needs)
+    (λ c κs. search needs)
+    (λ c. search needs)
+    (λ c. search needs)
+    (λ c. search needs)
+    (λ c.
+    let after-pair-all : tie.After-pair-all = search in
+    woven-done _ _ _ _ (to-start-2 after-pair-all .pre) _ (after-pair-all .pair-all .ensures)
+    (sym (to-after-first-unnamed after-pair-all .first-unnamed .ensures) ∙ (to-after-enum-told after-pair-all) .enum-told .given .1)
+    (c .enum-told2 .given .1))
+    (λ c κs. search needs)
+    (λ c. search needs)
+    (λ c. search needs)
+    (λ c. search needs)
+    (λ c.
+    let after-first-twice : tie.After-first-twice = search in
+    twice-refused _ _ _ _ (to-start-3 after-first-twice .pre) _ (to-after-pair-all after-first-twice .pair-all .ensures)
+    (sym (to-after-first-unnamed-2 after-first-twice .first-unnamed .ensures) ∙ (to-after-enum-told-2 after-first-twice) .enum-told .given .1) _
+    (sym (after-first-twice .first-twice .ensures) ∙ c .before .twice .given .1))
+    (λ c. search needs)
+    (λ c.
+    let after-first-twice : tie.After-first-twice = search in
+    repeated-refused _ _ _ _ (to-start-3 after-first-twice .pre) _ (to-after-pair-all after-first-twice .pair-all .ensures)
+    (sym (to-after-first-unnamed-2 after-first-twice .first-unnamed .ensures) ∙ (to-after-enum-told-2 after-first-twice) .enum-told .given .1) _
+    (to-after-stop after-first-twice .stop .given .1) (sym (after-first-twice .first-twice .ensures) ∙ c .enum-told3 .given .1)))

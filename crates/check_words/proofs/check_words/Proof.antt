@@ -5,51 +5,34 @@ use borrow.Author.Needs.{needs}
 use Rattle.check_words.proofs.check_words.Statement.{statement}
 use Rattle.check_words.proofs.check_words.Tie as tie
 
-all-on-grid-requires : tie.Need-all-on-grid-requires
-all-on-grid-requires c κs = search needs
+abbrev to-after-first-not-finite : tie.After-first-too-far → tie.After-first-not-finite
+to-after-first-not-finite p = search
 
-returns : tie.Need-returns
-returns c = pass-done _ (sym (c .before .all-on-grid .ensures) ∙ c .if1 .taken)
-
-first-not-finite-requires : tie.Need-first-not-finite-requires
-first-not-finite-requires c κs = search needs
-
-enum-known-found : tie.Need-enum-known-found
-enum-known-found c = search needs
-
-returns-2 : tie.Need-returns-2
-returns-2 c = number-refused _ _ (sym (c .before .before .before .first-not-finite .ensures) ∙ c .before .found .given .1)
-
-enum-told : tie.Need-enum-told
-enum-told c = search needs
-
-first-too-far-requires : tie.Need-first-too-far-requires
-first-too-far-requires c κs = search needs
-
-enum-known-far : tie.Need-enum-known-far
-enum-known-far c = search needs
-
-enum-told-2 : tie.Need-enum-told-2
-enum-told-2 c = search needs
-
-returns-3 : tie.Need-returns-3
-returns-3 c = far-refused _ _ (sym (c .before .before .before .before .before .before .first-not-finite .ensures) ∙ c .before .before .before .before .enum-told .given .1) (sym (c .before .before .before .first-too-far .ensures) ∙ c .before .far .given .1)
-
-returns-4 : tie.Need-returns-4
-returns-4 c = words-done _ (sym (c .before .before .before .before .before .first-not-finite .ensures) ∙ c .before .before .before .enum-told .given .1) (sym (c .before .before .first-too-far .ensures) ∙ c .enum-told2 .given .1)
+abbrev to-after-enum-told : tie.After-first-too-far → tie.After-enum-told
+to-after-enum-told p = search
 
 pub check-words-spec : {M : Type 1} → statement M
 check-words-spec =
     tie.close
     (tie.spec
-    all-on-grid-requires
-    returns
-    first-not-finite-requires
-    enum-known-found
-    returns-2
-    enum-told
-    first-too-far-requires
-    enum-known-far
-    enum-told-2
-    returns-3
-    returns-4)
+    (λ c κs. search needs)
+    (λ c. pass-done _ (sym (c .before .all-on-grid .ensures) ∙ c .if1 .taken))
+    (λ c κs. search needs)
+    (λ c. search needs)
+    (λ c.
+    let after-first-not-finite : tie.After-first-not-finite = search in
+    number-refused _ _ (sym (after-first-not-finite .first-not-finite .ensures) ∙ c .before .found .given .1))
+    (λ c. search needs)
+    (λ c κs. search needs)
+    (λ c. search needs)
+    (λ c. search needs)
+    (λ c.
+    let after-first-too-far : tie.After-first-too-far = search in
+    far-refused _ _
+    (sym (to-after-first-not-finite after-first-too-far .first-not-finite .ensures) ∙ (to-after-enum-told after-first-too-far) .enum-told .given .1)
+    (sym (after-first-too-far .first-too-far .ensures) ∙ c .before .far .given .1))
+    (λ c.
+    let after-first-too-far : tie.After-first-too-far = search in
+    words-done _
+    (sym (to-after-first-not-finite after-first-too-far .first-not-finite .ensures) ∙ (to-after-enum-told after-first-too-far) .enum-told .given .1)
+    (sym (after-first-too-far .first-too-far .ensures) ∙ c .enum-told2 .given .1)))

@@ -13,25 +13,16 @@ Inv-loop ring heads links ends stamps base rows₀ n j₀ rows j = Rounding ring
 abbrev μ-loop : tie.MeasureT-loop
 μ-loop ring heads links ends stamps base rows₀ n j₀ rows j = length ring - j
 
-loop-holds : tie.Need-loop-holds Inv-loop μ-loop
-loop-holds c = (round-begins _ _ _ _ _ _ _ (c .before .before .before .pre .0) (c .before .before .before .pre .1), refl)
-
-bars-from-requires : tie.Need-bars-from-requires Inv-loop μ-loop
-bars-from-requires c κs = (c .before .before .loop .inv .0 .room, search needs)
-
-add-j : tie.Need-add-j Inv-loop μ-loop
-add-j c = search needs
-
-loop-less : tie.Need-loop-less Inv-loop μ-loop
-loop-less c = search needs
-
-loop-again : tie.Need-loop-again Inv-loop μ-loop
-loop-again c = (round-more _ _ _ _ _ _ _ _ (c .before .before .before .loop .inv .0) _ (search needs) (c .bars-from .ensures), c .before .before .before .loop .inv .1)
-
-returns : tie.Need-returns Inv-loop μ-loop
-returns c = round-ends _ _ _ _ _ _ _ _ (c .before .loop .inv .0) (search needs)
+abbrev to-at-loop : tie.After-bars-from Inv-loop μ-loop → tie.At-loop Inv-loop μ-loop
+to-at-loop p = search
 
 pub bars-all-spec : {M : Type 1} → statement M
 bars-all-spec =
     tie.close
-    (tie.spec Inv-loop μ-loop loop-holds bars-from-requires add-j loop-less loop-again returns)
+    (tie.spec Inv-loop μ-loop
+    (λ c. let start : tie.Start Inv-loop μ-loop = search in (round-begins _ _ _ _ _ _ _ (start .pre .0) (start .pre .1), refl))
+    (λ c κs. let at-loop : tie.At-loop Inv-loop μ-loop = search in (at-loop .loop .inv .0 .room, search needs))
+    (λ c. search needs)
+    (λ c. search needs)
+    (λ c. let at-loop = to-at-loop c in (round-more _ _ _ _ _ _ _ _ (at-loop .loop .inv .0) _ (search needs) (c .bars-from .ensures), at-loop .loop .inv .1))
+    (λ c. search round-ends))

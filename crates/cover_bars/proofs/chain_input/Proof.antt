@@ -14,89 +14,49 @@ Inv-loop corners heads₀ links₀ ends₀ n h₀ heads links ends h = Inputting
 abbrev μ-loop : tie.MeasureT-loop
 μ-loop corners heads₀ links₀ ends₀ n h₀ heads links ends h = length corners - h
 
-loop-holds : tie.Need-loop-holds Inv-loop μ-loop
-loop-holds c = (input-begins _ _ _ _ (c .before .before .before .pre), refl)
+abbrev to-at-loop : tie.After-chain Inv-loop μ-loop → tie.At-loop Inv-loop μ-loop
+to-at-loop p = search
 
-mul-a : tie.Need-mul-a Inv-loop μ-loop
-mul-a c = search needs
+abbrev to-after-chain : tie.After-chain2 Inv-loop μ-loop → tie.After-chain Inv-loop μ-loop
+to-after-chain p = search
 
-shared-slice-read-a : tie.Need-shared-slice-read-a Inv-loop μ-loop
-shared-slice-read-a c = search needs
-
-add-b : tie.Need-add-b Inv-loop μ-loop
-add-b c = search needs
-
-mul-b : tie.Need-mul-b Inv-loop μ-loop
-mul-b c = search needs
-
-shared-slice-read-b : tie.Need-shared-slice-read-b Inv-loop μ-loop
-shared-slice-read-b c = omega (arith, input-inside _ _ _ _ _ _ _ _ (c .before .before .before .loop .inv .0) (search needs))
-
-add-c : tie.Need-add-c Inv-loop μ-loop
-add-c c = search needs
-
-mul-c : tie.Need-mul-c Inv-loop μ-loop
-mul-c c = search needs
-
-shared-slice-read-c : tie.Need-shared-slice-read-c Inv-loop μ-loop
-shared-slice-read-c c = omega (arith, input-inside _ _ _ _ _ _ _ _ (c .before .before .before .before .loop .inv .0) (search needs))
-
-chain-requires : tie.Need-chain-requires Inv-loop μ-loop
-chain-requires c κs = first-room _ _ _ _ _ _ _ _ (c .before .before .before .before .before .before .before .loop .inv .0) (search needs)
-
-add-chain : tie.Need-add-chain Inv-loop μ-loop
-add-chain c = search needs
-
-chain-requires-2 : tie.Need-chain-requires-2 Inv-loop μ-loop
-chain-requires-2 c κs = second-room _ _ _ _ _ _ _ _ (c .before .before .before .before .before .before .before .before .before .before .before .before .before .before .before .loop .inv .0) (search needs) _ _ _ (c .before .before .before .before .before .before .before .chain .ensures)
-
-add-chain-2 : tie.Need-add-chain-2 Inv-loop μ-loop
-add-chain-2 c = search needs
-
-chain-requires-3 : tie.Need-chain-requires-3 Inv-loop μ-loop
-chain-requires-3 c κs = third-room _ _ _ _ _ _ _ _ (c .before .before .before .before .before .before .before .before .before .before .before .before .before .before .before .before .before .before .before .before .before .before .before .loop .inv .0) (search needs) _ _ _ (c .before .before .before .before .before .before .before .before .before .before .before .before .before .before .before .chain .ensures) _ _ _ (c .before .before .before .before .before .before .before .chain2 .ensures)
-
-add-h : tie.Need-add-h Inv-loop μ-loop
-add-h c = search needs
-
-loop-less : tie.Need-loop-less Inv-loop μ-loop
-loop-less c = omega (arith, input-inside _ _ _ _ _ _ _ _ (c .before .before .before .before .before .before .before .before .before .before .before .before .before .before .before .before .before .before .before .before .before .before .before .before .before .before .before .before .loop .inv .0) (search needs))
-
-loop-again : tie.Need-loop-again Inv-loop μ-loop
-loop-again c = (input-more _ _ _ _ _ _ _ _ (c .before .before .before .before .before .before .before .before .before .before .before .before .before .before .before .before .before .before .before .before .before .before .before .before .before .before .before .before .loop .inv .0) (search needs) _ _ _ (c .before .before .before .before .before .before .before .before .before .before .before .before .before .before .before .before .before .before .before .before .chain .ensures) _ _ _ (c .before .before .before .before .before .before .before .before .before .before .before .before .chain2 .ensures) _ _ _ (c .before .before .before .before .chain3 .ensures), c .before .before .before .before .before .before .before .before .before .before .before .before .before .before .before .before .before .before .before .before .before .before .before .before .before .before .before .before .loop .inv .1)
-
-same-length : tie.Need-same-length Inv-loop μ-loop
-same-length c = c .before .loop .inv .0 .links-kept
-
-same-length-2 : tie.Need-same-length-2 Inv-loop μ-loop
-same-length-2 c = c .before .loop .inv .0 .ends-kept
-
-returns : tie.Need-returns Inv-loop μ-loop
-returns c = input-ends _ _ _ _ _ _ _ _ (c .before .loop .inv .0) (search needs)
+abbrev to-at-loop-2 : tie.After-chain2 Inv-loop μ-loop → tie.At-loop Inv-loop μ-loop
+to-at-loop-2 p = to-at-loop (to-after-chain p)
 
 pub chain-input-spec : {M : Type 1} → statement M
 chain-input-spec =
     tie.close
-    (tie.spec
-    Inv-loop
-    μ-loop
-    loop-holds
-    mul-a
-    shared-slice-read-a
-    add-b
-    mul-b
-    shared-slice-read-b
-    add-c
-    mul-c
-    shared-slice-read-c
-    chain-requires
-    add-chain
-    chain-requires-2
-    add-chain-2
-    chain-requires-3
-    add-h
-    loop-less
-    loop-again
-    same-length
-    same-length-2
-    returns)
+    (tie.spec Inv-loop μ-loop
+    (λ c. let start : tie.Start Inv-loop μ-loop = search in (input-begins _ _ _ _ (start .pre), refl))
+    (λ c. search needs)
+    (λ c. search needs)
+    (λ c. search needs)
+    (λ c. search needs)
+    (λ c. let at-loop : tie.At-loop Inv-loop μ-loop = search in omega (arith, input-inside _ _ _ _ _ _ _ _ (at-loop .loop .inv .0) (search needs)))
+    (λ c. search needs)
+    (λ c. search needs)
+    (λ c. let at-loop : tie.At-loop Inv-loop μ-loop = search in omega (arith, input-inside _ _ _ _ _ _ _ _ (at-loop .loop .inv .0) (search needs)))
+    (λ c κs. search first-room)
+    (λ c. search needs)
+    (λ c κs. search second-room)
+    (λ c. search needs)
+    (λ c κs.
+    let after-chain2 : tie.After-chain2 Inv-loop μ-loop = search in
+    third-room _ _ _ _ _ _ _ _ (to-at-loop-2 after-chain2 .loop .inv .0) (search needs) _ _ _ (to-after-chain after-chain2 .chain .ensures) _ _ _
+    (after-chain2 .chain2 .ensures))
+    (λ c. search needs)
+    (λ c.
+    omega
+    (arith, input-inside _ _ _ _ _ _ _ _ (c .before .before .before .before .before .before .before .before .before .before .before .before .before .before .before .before .before .before .before .before .before .before .before .before .before .before .before .before .loop .inv .0) (search needs)))
+    (λ c. (
+      input-more _ _ _ _ _ _ _ _
+          (c .before .before .before .before .before .before .before .before .before .before .before .before .before .before .before .before .before .before .before .before .before .before .before .before .before .before .before .before .loop .inv .0)
+          (search needs) _ _ _
+          (c .before .before .before .before .before .before .before .before .before .before .before .before .before .before .before .before .before .before .before .before .chain .ensures)
+          _ _ _ (c .before .before .before .before .before .before .before .before .before .before .before .before .chain2 .ensures) _ _ _
+          (c .before .before .before .before .chain3 .ensures),
+      c .before .before .before .before .before .before .before .before .before .before .before .before .before .before .before .before .before .before .before .before .before .before .before .before .before .before .before .before .loop .inv .1,
+    ))
+    (λ c. c .before .loop .inv .0 .links-kept)
+    (λ c. c .before .loop .inv .0 .ends-kept)
+    (λ c. search input-ends))

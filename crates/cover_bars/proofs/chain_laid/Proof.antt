@@ -12,65 +12,45 @@ Inv-loop patches p end heads₀ links₀ ends₀ e q₀ f₀ heads links ends q 
 abbrev μ-loop : tie.MeasureT-loop
 μ-loop patches p end heads₀ links₀ ends₀ e q₀ f₀ heads links ends q f = end - q
 
-loop-holds : tie.Need-loop-holds Inv-loop μ-loop
-loop-holds c = laying-begins _ _ _ _ _ _ _ (c .before .before .before .pre)
+abbrev to-at-loop : tie.After-chain Inv-loop μ-loop → tie.At-loop Inv-loop μ-loop
+to-at-loop p = search
 
-mul-chain : tie.Need-mul-chain Inv-loop μ-loop
-mul-chain c = omega (arith, laying-inside _ _ _ _ _ _ _ _ _ _ _ _ (c .before .before .before .before .loop .inv) (c .before .before .before .loop-test .taken))
-
-shared-slice-read-chain : tie.Need-shared-slice-read-chain Inv-loop μ-loop
-shared-slice-read-chain c = omega (arith, laying-inside _ _ _ _ _ _ _ _ _ _ _ _ (c .before .before .before .before .before .loop .inv) (c .before .before .before .before .loop-test .taken))
-
-add-chain : tie.Need-add-chain Inv-loop μ-loop
-add-chain c = search needs
-
-mul-chain-2 : tie.Need-mul-chain-2 Inv-loop μ-loop
-mul-chain-2 c = omega (arith, laying-inside _ _ _ _ _ _ _ _ _ _ _ _ (c .before .before .before .before .before .loop .inv) (c .before .before .before .before .loop-test .taken))
-
-shared-slice-read-chain-2 : tie.Need-shared-slice-read-chain-2 Inv-loop μ-loop
-shared-slice-read-chain-2 c = omega (arith, laying-inside _ _ _ _ _ _ _ _ _ _ _ _ (c .before .before .before .before .before .before .loop .inv) (c .before .before .before .before .before .loop-test .taken))
-
-chain-requires : tie.Need-chain-requires Inv-loop μ-loop
-chain-requires c κs = laying-room _ _ _ _ _ _ _ _ _ _ _ _ (c .before .before .before .before .before .before .loop .inv) (c .before .before .before .before .before .loop-test .taken)
-
-add-q : tie.Need-add-q Inv-loop μ-loop
-add-q c = omega (arith, laying-inside _ _ _ _ _ _ _ _ _ _ _ _ (c .before .before .before .before .before .before .before .before .before .before .before .loop .inv) (c .before .before .before .before .before .before .before .before .before .before .loop-test .taken))
-
-add-f : tie.Need-add-f Inv-loop μ-loop
-add-f c = omega (arith, laying-inside _ _ _ _ _ _ _ _ _ _ _ _ (c .before .before .before .before .before .before .before .before .before .before .before .loop .inv) (c .before .before .before .before .before .before .before .before .before .before .loop-test .taken))
-
-loop-less : tie.Need-loop-less Inv-loop μ-loop
-loop-less c = omega (arith, laying-inside _ _ _ _ _ _ _ _ _ _ _ _ (c .before .before .before .before .before .before .before .before .before .before .before .loop .inv) (c .before .before .before .before .before .before .before .before .before .before .loop-test .taken))
-
-loop-again : tie.Need-loop-again Inv-loop μ-loop
-loop-again c = laying-more _ _ _ _ _ _ _ _ _ _ _ _ (c .before .before .before .before .before .before .before .before .before .before .before .loop .inv) (c .before .before .before .before .before .before .before .before .before .before .loop-test .taken) _ _ _ (c .before .before .before .before .chain .ensures)
-
-same-length : tie.Need-same-length Inv-loop μ-loop
-same-length c = c .before .loop .inv .links-kept
-
-same-length-2 : tie.Need-same-length-2 Inv-loop μ-loop
-same-length-2 c = c .before .loop .inv .ends-kept
-
-returns : tie.Need-returns Inv-loop μ-loop
-returns c = laying-ends _ _ _ _ _ _ _ _ _ _ _ _ (c .before .loop .inv) (c .loop-test .left)
+abbrev to-turn : tie.After-chain Inv-loop μ-loop → tie.In-loop Inv-loop μ-loop
+to-turn p = search
 
 pub chain-laid-spec : {M : Type 1} → statement M
 chain-laid-spec =
     tie.close
-    (tie.spec
-    Inv-loop
-    μ-loop
-    loop-holds
-    mul-chain
-    shared-slice-read-chain
-    add-chain
-    mul-chain-2
-    shared-slice-read-chain-2
-    chain-requires
-    add-q
-    add-f
-    loop-less
-    loop-again
-    same-length
-    same-length-2
-    returns)
+    (tie.spec Inv-loop μ-loop
+    (λ c. search laying-begins)
+    (λ c.
+    let at-loop : tie.At-loop Inv-loop μ-loop = search in
+    let turn : tie.In-loop Inv-loop μ-loop = search in
+    omega (arith, laying-inside _ _ _ _ _ _ _ _ _ _ _ _ (at-loop .loop .inv) (turn .loop-test .taken)))
+    (λ c.
+    let at-loop : tie.At-loop Inv-loop μ-loop = search in
+    let turn : tie.In-loop Inv-loop μ-loop = search in
+    omega (arith, laying-inside _ _ _ _ _ _ _ _ _ _ _ _ (at-loop .loop .inv) (turn .loop-test .taken)))
+    (λ c. search needs)
+    (λ c.
+    let at-loop : tie.At-loop Inv-loop μ-loop = search in
+    let turn : tie.In-loop Inv-loop μ-loop = search in
+    omega (arith, laying-inside _ _ _ _ _ _ _ _ _ _ _ _ (at-loop .loop .inv) (turn .loop-test .taken)))
+    (λ c.
+    let at-loop : tie.At-loop Inv-loop μ-loop = search in
+    let turn : tie.In-loop Inv-loop μ-loop = search in
+    omega (arith, laying-inside _ _ _ _ _ _ _ _ _ _ _ _ (at-loop .loop .inv) (turn .loop-test .taken)))
+    (λ c κs. search laying-room)
+    (λ c.
+    let after-chain : tie.After-chain Inv-loop μ-loop = search in
+    omega (arith, laying-inside _ _ _ _ _ _ _ _ _ _ _ _ (to-at-loop after-chain .loop .inv) (to-turn after-chain .loop-test .taken)))
+    (λ c.
+    let after-chain : tie.After-chain Inv-loop μ-loop = search in
+    omega (arith, laying-inside _ _ _ _ _ _ _ _ _ _ _ _ (to-at-loop after-chain .loop .inv) (to-turn after-chain .loop-test .taken)))
+    (λ c.
+    let after-chain : tie.After-chain Inv-loop μ-loop = search in
+    omega (arith, laying-inside _ _ _ _ _ _ _ _ _ _ _ _ (to-at-loop after-chain .loop .inv) (to-turn after-chain .loop-test .taken)))
+    (λ c. search laying-more)
+    (λ c. c .before .loop .inv .links-kept)
+    (λ c. c .before .loop .inv .ends-kept)
+    (λ c. search laying-ends))

@@ -14,65 +14,21 @@ Inv-loop ring stamps₀ base rows₀ n j₀ stamps rows j = Stamping ring stamps
 abbrev μ-loop : tie.MeasureT-loop
 μ-loop ring stamps₀ base rows₀ n j₀ stamps rows j = length ring - j
 
-loop-holds : tie.Need-loop-holds Inv-loop μ-loop
-loop-holds c = (stamp-begins _ _ _ _ (c .pre), refl)
-
-cast-stamps : tie.Need-cast-stamps Inv-loop μ-loop
-cast-stamps c = omega (arith, stamp-inside _ _ _ _ _ _ _ (c .before .loop .inv .0) (search needs) .2)
-
-add-stamps : tie.Need-add-stamps Inv-loop μ-loop
-add-stamps c = omega (arith, stamp-inside _ _ _ _ _ _ _ (c .before .loop .inv .0) (search needs) .2)
-
-mul-stamps : tie.Need-mul-stamps Inv-loop μ-loop
-mul-stamps c = search needs
-
-shared-slice-read-stamps : tie.Need-shared-slice-read-stamps Inv-loop μ-loop
-shared-slice-read-stamps c = search needs
-
-cast-stamps-2 : tie.Need-cast-stamps-2 Inv-loop μ-loop
-cast-stamps-2 c = omega (arith, stamp-inside _ _ _ _ _ _ _ (c .before .before .loop .inv .0) (search needs) .0)
-
-mul-stamps-2 : tie.Need-mul-stamps-2 Inv-loop μ-loop
-mul-stamps-2 c = omega (arith, stamp-inside _ _ _ _ _ _ _ (c .before .before .loop .inv .0) (search needs) .0)
-
-element-write-stamps : tie.Need-element-write-stamps Inv-loop μ-loop
-element-write-stamps c = stamp-inside _ _ _ _ _ _ _ (c .before .before .loop .inv .0) (search needs) .0
-
-mul-rows : tie.Need-mul-rows Inv-loop μ-loop
-mul-rows c = search needs
-
-element-write-rows : tie.Need-element-write-rows Inv-loop μ-loop
-element-write-rows c = stamp-inside _ _ _ _ _ _ _ (c .before .before .loop .inv .0) (search needs) .1
-
-add-j : tie.Need-add-j Inv-loop μ-loop
-add-j c = search needs
-
-loop-less : tie.Need-loop-less Inv-loop μ-loop
-loop-less c = search needs
-
-loop-again : tie.Need-loop-again Inv-loop μ-loop
-loop-again c = (stamp-more _ _ _ _ _ _ _ (c .before .before .loop .inv .0) (search needs), c .before .before .loop .inv .1)
-
-returns : tie.Need-returns Inv-loop μ-loop
-returns c = stamp-ends _ _ _ _ _ _ _ (c .before .loop .inv .0) (search needs)
-
 pub stamp-ring-spec : {M : Type 1} → statement M
 stamp-ring-spec =
     tie.close
-    (tie.spec
-    Inv-loop
-    μ-loop
-    loop-holds
-    cast-stamps
-    add-stamps
-    mul-stamps
-    shared-slice-read-stamps
-    cast-stamps-2
-    mul-stamps-2
-    element-write-stamps
-    mul-rows
-    element-write-rows
-    add-j
-    loop-less
-    loop-again
-    returns)
+    (tie.spec Inv-loop μ-loop
+    (λ c. (stamp-begins _ _ _ _ (c .pre), refl))
+    (λ c. omega (arith, stamp-inside _ _ _ _ _ _ _ (c .before .loop .inv .0) (search needs) .2))
+    (λ c. omega (arith, stamp-inside _ _ _ _ _ _ _ (c .before .loop .inv .0) (search needs) .2))
+    (λ c. search needs)
+    (λ c. search needs)
+    (λ c. let at-loop : tie.At-loop Inv-loop μ-loop = search in omega (arith, stamp-inside _ _ _ _ _ _ _ (at-loop .loop .inv .0) (search needs) .0))
+    (λ c. let at-loop : tie.At-loop Inv-loop μ-loop = search in omega (arith, stamp-inside _ _ _ _ _ _ _ (at-loop .loop .inv .0) (search needs) .0))
+    (λ c. let at-loop : tie.At-loop Inv-loop μ-loop = search in stamp-inside _ _ _ _ _ _ _ (at-loop .loop .inv .0) (search needs) .0)
+    (λ c. search needs)
+    (λ c. let at-loop : tie.At-loop Inv-loop μ-loop = search in stamp-inside _ _ _ _ _ _ _ (at-loop .loop .inv .0) (search needs) .1)
+    (λ c. search needs)
+    (λ c. search needs)
+    (λ c. let at-loop : tie.At-loop Inv-loop μ-loop = search in (stamp-more _ _ _ _ _ _ _ (at-loop .loop .inv .0) (search needs), at-loop .loop .inv .1))
+    (λ c. search stamp-ends))

@@ -6,15 +6,9 @@ use Rattle.cover_column.proofs.Laws.Rows.{at-most-square, square-most}
 use Rattle.cover_column.proofs.row_of.Statement.{statement}
 use Rattle.cover_column.proofs.row_of.Tie as tie
 
-mul-result : tie.Need-mul-result
-mul-result c = omega (arith, square-most _ (c .pre))
-
-sub-result : tie.Need-sub-result
-sub-result c = omega (arith, at-most-square (c .args .k))
-
 returns : tie.Need-returns
 unfolding row
 returns c = refl
 
 pub row-of-spec : {M : Type 1} → statement M
-row-of-spec = tie.close (tie.spec mul-result sub-result returns)
+row-of-spec = tie.close (tie.spec (λ c. omega (arith, square-most _ (c .pre))) (λ c. omega (arith, at-most-square (c .args .k))) returns)

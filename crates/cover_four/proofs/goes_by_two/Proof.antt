@@ -5,43 +5,37 @@ use Rattle.cover_four.proofs.Laws.Fours.{goes-barred, goes-alone, goes-
 use Rattle.cover_four.proofs.goes_by_two.Statement.{statement}
 use Rattle.cover_four.proofs.goes_by_two.Tie as tie
 
-shared-slice-read-is-set : tie.Need-shared-slice-read-is-set
-shared-slice-read-is-set c = search needs
+abbrev to-after-is-set : tie.After-is-set2 → tie.After-is-set
+to-after-is-set p = search
 
-is-set-requires : tie.Need-is-set-requires
-is-set-requires c κs = search needs
+abbrev to-else1 : tie.After-is-set2 → tie.Else1
+to-else1 p = search
 
-returns : tie.Need-returns
-returns c = goes-barred _ _ _ (sym (c .before .is-set .ensures) ∙ c .if1 .taken)
+abbrev to-after-by-two : tie.After-by-one → tie.After-by-two
+to-after-by-two p = search
 
-shared-slice-read-is-set-2 : tie.Need-shared-slice-read-is-set-2
-shared-slice-read-is-set-2 c = search needs
+abbrev to-after-is-set2 : tie.After-by-two → tie.After-is-set2
+to-after-is-set2 p = search
 
-is-set-requires-2 : tie.Need-is-set-requires-2
-is-set-requires-2 c κs = search needs
-
-returns-2 : tie.Need-returns-2
-returns-2 c = goes-alone _ _ _ (sym (c .before .before .before .before .is-set .ensures) ∙ c .before .before .before .if1 .left) (sym (c .before .is-set2 .ensures) ∙ c .if2 .taken)
-
-by-two-requires : tie.Need-by-two-requires
-by-two-requires c κs = search needs
-
-by-one-requires : tie.Need-by-one-requires
-by-one-requires c κs = search needs
-
-returns-3 : tie.Need-returns-3
-returns-3 c = goes-lighter _ _ _ (sym (c .before .before .before .before .before .before .is-set .ensures) ∙ c .before .before .before .before .before .if1 .left) (sym (c .before .before .before .is-set2 .ensures) ∙ c .before .before .if2 .left) _ _ (c .before .by-two .ensures) (c .by-one .ensures)
+abbrev to-else2 : tie.After-by-two → tie.Else2
+to-else2 p = search
 
 pub goes-by-two-spec : {M : Type 1} → statement M
 goes-by-two-spec =
     tie.close
     (tie.spec
-    shared-slice-read-is-set
-    is-set-requires
-    returns
-    shared-slice-read-is-set-2
-    is-set-requires-2
-    returns-2
-    by-two-requires
-    by-one-requires
-    returns-3)
+    (λ c. search needs)
+    (λ c κs. search needs)
+    (λ c. goes-barred _ _ _ (sym (c .before .is-set .ensures) ∙ c .if1 .taken))
+    (λ c. search needs)
+    (λ c κs. search needs)
+    (λ c.
+    let after-is-set2 : tie.After-is-set2 = search in
+    goes-alone _ _ _ (sym (to-after-is-set after-is-set2 .is-set .ensures) ∙ (to-else1 after-is-set2) .if1 .left)
+    (sym (c .before .is-set2 .ensures) ∙ c .if2 .taken))
+    (λ c κs. search needs)
+    (λ c κs. search needs)
+    (λ c.
+    let after-by-two = to-after-by-two c in let after-is-set2 = to-after-is-set2 after-by-two in
+    goes-lighter _ _ _ (sym (to-after-is-set after-is-set2 .is-set .ensures) ∙ (to-else1 after-is-set2) .if1 .left)
+    (sym (after-is-set2 .is-set2 .ensures) ∙ (to-else2 after-by-two) .if2 .left) _ _ (c .before .by-two .ensures) (c .by-one .ensures)))

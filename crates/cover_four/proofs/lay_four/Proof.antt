@@ -5,83 +5,79 @@ use Rattle.cover_four.proofs.Laws.Fours.{four-closed, four-across, four
 use Rattle.cover_four.proofs.lay_four.Statement.{statement}
 use Rattle.cover_four.proofs.lay_four.Tie as tie
 
-shared-slice-read-is-set : tie.Need-shared-slice-read-is-set
-shared-slice-read-is-set c = search needs
+abbrev to-start : tie.After-is-set → tie.Start
+to-start p = search
 
-is-set-requires : tie.Need-is-set-requires
-is-set-requires c κs = search needs
+abbrev to-after-lay2 : tie.After-by-two → tie.After-lay2
+to-after-lay2 p = search
 
-returns : tie.Need-returns
-returns c = four-closed _ _ _ _ _ (c .before .before .before .before .before .before .pre) (sym (c .before .is-set .ensures) ∙ c .if1 .taken)
+abbrev to-after-lay : tie.After-lay2 → tie.After-lay
+to-after-lay p = search
 
-goes-by-two-requires : tie.Need-goes-by-two-requires
-goes-by-two-requires c κs = search needs
+abbrev to-after-goes-by-two : tie.After-lay → tie.After-goes-by-two
+to-after-goes-by-two p = search
 
-lay-requires : tie.Need-lay-requires
-lay-requires c κs = search needs
+abbrev to-after-is-set : tie.After-goes-by-two → tie.After-is-set
+to-after-is-set p = search
 
-add-lay : tie.Need-add-lay
-add-lay c = search needs
+abbrev to-else1 : tie.After-goes-by-two → tie.Else1
+to-else1 p = search
 
-lay-requires-2 : tie.Need-lay-requires-2
-lay-requires-2 c κs = search needs
+abbrev to-then2 : tie.After-lay → tie.Then2
+to-then2 p = search
 
-by-two-requires : tie.Need-by-two-requires
-by-two-requires c κs = search needs
+abbrev to-after-goes-by-two-2 : tie.After-is-set2 → tie.After-goes-by-two
+to-after-goes-by-two-2 p = search
 
-same-length : tie.Need-same-length
-same-length c = search needs
+abbrev to-else2 : tie.After-is-set2 → tie.Else2
+to-else2 p = search
 
-returns-2 : tie.Need-returns-2
-returns-2 c = four-two _ _ _ _ _ (c .before .before .before .before .before .before .before .before .before .before .before .before .before .before .before .before .before .pre) (sym (c .before .before .before .before .before .before .before .before .before .before .before .before .is-set .ensures) ∙ c .before .before .before .before .before .before .before .before .before .before .before .if1 .left) (c .before .before .before .before .before .before .before .before .before .before .goes-by-two .ensures .free (c .before .before .before .before .before .before .before .before .before .if2 .taken)) (c .before .before .before .before .before .before .before .before .before .before .goes-by-two .ensures .lighter (c .before .before .before .before .before .before .before .before .before .if2 .taken)) _ _ (c .before .before .before .before .before .before .before .lay .ensures) (c .before .before .before .lay2 .ensures) _ (c .by-two .ensures)
+abbrev to-after-lay4 : tie.After-by-one → tie.After-lay4
+to-after-lay4 p = search
 
-shared-slice-read-is-set-2 : tie.Need-shared-slice-read-is-set-2
-shared-slice-read-is-set-2 c = search needs
+abbrev to-after-lay3 : tie.After-lay4 → tie.After-lay3
+to-after-lay3 p = search
 
-is-set-requires-2 : tie.Need-is-set-requires-2
-is-set-requires-2 c κs = search needs
+abbrev to-after-is-set2 : tie.After-lay3 → tie.After-is-set2
+to-after-is-set2 p = search
 
-returns-3 : tie.Need-returns-3
-returns-3 c = let s = sym (c .before .is-set2 .ensures) ∙ c .if3 .taken in four-across _ _ _ _ _ (c .before .before .before .before .before .before .before .before .before .before .before .pre) s (c .before .before .before .before .goes-by-two .ensures .barred (c .before .before .before .if2 .left) s)
-
-lay-requires-3 : tie.Need-lay-requires-3
-lay-requires-3 c κs = search needs
-
-add-lay-2 : tie.Need-add-lay-2
-add-lay-2 c = search needs
-
-lay-requires-4 : tie.Need-lay-requires-4
-lay-requires-4 c κs = search needs
-
-by-one-requires : tie.Need-by-one-requires
-by-one-requires c κs = search needs
-
-same-length-2 : tie.Need-same-length-2
-same-length-2 c = search needs
-
-returns-4 : tie.Need-returns-4
-returns-4 c = let g = sym (c .before .before .before .before .before .before .before .before .before .before .is-set2 .ensures) ∙ c .before .before .before .before .before .before .before .before .before .if3 .left in four-one _ _ _ _ _ (c .before .before .before .before .before .before .before .before .before .before .before .before .before .before .before .before .before .before .before .before .pre) (sym (c .before .before .before .before .before .before .before .before .before .before .before .before .before .before .before .is-set .ensures) ∙ c .before .before .before .before .before .before .before .before .before .before .before .before .before .before .if1 .left) g (c .before .before .before .before .before .before .before .before .before .before .before .before .before .goes-by-two .ensures .heavier (c .before .before .before .before .before .before .before .before .before .before .before .before .if2 .left) g) _ _ (c .before .before .before .before .before .before .before .lay3 .ensures) (c .before .before .before .lay4 .ensures) _ (c .by-one .ensures)
+abbrev to-else3 : tie.After-lay3 → tie.Else3
+to-else3 p = search
 
 pub lay-four-spec : {M : Type 1} → statement M
 lay-four-spec =
     tie.close
     (tie.spec
-    shared-slice-read-is-set
-    is-set-requires
-    returns
-    goes-by-two-requires
-    lay-requires
-    add-lay
-    lay-requires-2
-    by-two-requires
-    same-length
-    returns-2
-    shared-slice-read-is-set-2
-    is-set-requires-2
-    returns-3
-    lay-requires-3
-    add-lay-2
-    lay-requires-4
-    by-one-requires
-    same-length-2
-    returns-4)
+    (λ c. search needs)
+    (λ c κs. search needs)
+    (λ c. let after-is-set : tie.After-is-set = search in four-closed _ _ _ _ _ (to-start after-is-set .pre) (sym (c .before .is-set .ensures) ∙ c .if1 .taken))
+    (λ c κs. search needs)
+    (λ c κs. search needs)
+    (λ c. search needs)
+    (λ c κs. search needs)
+    (λ c κs. search needs)
+    (λ c. search needs)
+    (λ c.
+    let after-lay2 = to-after-lay2 c in let after-lay = to-after-lay after-lay2 in let after-goes-by-two = to-after-goes-by-two after-lay in
+    let after-is-set = to-after-is-set after-goes-by-two in let then2 = to-then2 after-lay in
+    four-two _ _ _ _ _ (to-start after-is-set .pre) (sym (after-is-set .is-set .ensures) ∙ (to-else1 after-goes-by-two) .if1 .left)
+    (after-goes-by-two .goes-by-two .ensures .free (then2 .if2 .taken)) (after-goes-by-two .goes-by-two .ensures .lighter (then2 .if2 .taken)) _ _
+    (after-lay .lay .ensures) (after-lay2 .lay2 .ensures) _ (c .by-two .ensures))
+    (λ c. search needs)
+    (λ c κs. search needs)
+    (λ c.
+    let after-is-set2 : tie.After-is-set2 = search in let after-goes-by-two = to-after-goes-by-two-2 after-is-set2 in
+    let s = sym (c .before .is-set2 .ensures) ∙ c .if3 .taken in four-across _ _ _ _ _ (to-start (to-after-is-set after-goes-by-two) .pre) s
+    (after-goes-by-two .goes-by-two .ensures .barred (to-else2 after-is-set2 .if2 .left) s))
+    (λ c κs. search needs)
+    (λ c. search needs)
+    (λ c κs. search needs)
+    (λ c κs. search needs)
+    (λ c. search needs)
+    (λ c.
+    let after-lay4 = to-after-lay4 c in let after-lay3 = to-after-lay3 after-lay4 in let after-is-set2 = to-after-is-set2 after-lay3 in
+    let after-goes-by-two = to-after-goes-by-two-2 after-is-set2 in let after-is-set = to-after-is-set after-goes-by-two in
+    let g = sym (after-is-set2 .is-set2 .ensures) ∙ (to-else3 after-lay3) .if3 .left in four-one _ _ _ _ _ (to-start after-is-set .pre)
+    (sym (after-is-set .is-set .ensures) ∙ (to-else1 after-goes-by-two) .if1 .left) g
+    (after-goes-by-two .goes-by-two .ensures .heavier (to-else2 after-is-set2 .if2 .left) g) _ _ (after-lay3 .lay3 .ensures) (after-lay4 .lay4 .ensures) _
+    (c .by-one .ensures)))

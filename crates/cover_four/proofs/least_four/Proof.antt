@@ -5,51 +5,51 @@ use Rattle.cover_four.proofs.Laws.Fours.{least-closed, least-across, le
 use Rattle.cover_four.proofs.least_four.Statement.{statement}
 use Rattle.cover_four.proofs.least_four.Tie as tie
 
-shared-slice-read-is-set : tie.Need-shared-slice-read-is-set
-shared-slice-read-is-set c = search needs
+abbrev to-start : tie.After-is-set → tie.Start
+to-start p = search
 
-is-set-requires : tie.Need-is-set-requires
-is-set-requires c κs = search needs
+abbrev to-after-goes-by-two : tie.After-by-two → tie.After-goes-by-two
+to-after-goes-by-two p = search
 
-returns : tie.Need-returns
-returns c = least-closed _ _ _ (c .before .before .before .before .before .pre) (sym (c .before .is-set .ensures) ∙ c .if1 .taken)
+abbrev to-after-is-set : tie.After-goes-by-two → tie.After-is-set
+to-after-is-set p = search
 
-goes-by-two-requires : tie.Need-goes-by-two-requires
-goes-by-two-requires c κs = search needs
+abbrev to-else1 : tie.After-goes-by-two → tie.Else1
+to-else1 p = search
 
-by-two-requires : tie.Need-by-two-requires
-by-two-requires c κs = search needs
+abbrev to-after-goes-by-two-2 : tie.After-is-set2 → tie.After-goes-by-two
+to-after-goes-by-two-2 p = search
 
-returns-2 : tie.Need-returns-2
-returns-2 c = least-two _ _ _ (c .before .before .before .before .before .before .before .before .pre) (sym (c .before .before .before .before .is-set .ensures) ∙ c .before .before .before .if1 .left) (c .before .before .goes-by-two .ensures .free (c .before .if2 .taken)) (c .before .before .goes-by-two .ensures .lighter (c .before .if2 .taken)) _ (c .by-two .ensures)
+abbrev to-else2 : tie.After-is-set2 → tie.Else2
+to-else2 p = search
 
-shared-slice-read-is-set-2 : tie.Need-shared-slice-read-is-set-2
-shared-slice-read-is-set-2 c = search needs
-
-is-set-requires-2 : tie.Need-is-set-requires-2
-is-set-requires-2 c κs = search needs
-
-returns-3 : tie.Need-returns-3
-returns-3 c = let s = sym (c .before .is-set2 .ensures) ∙ c .if3 .taken in least-across _ _ _ (c .before .before .before .before .before .before .before .before .before .before .pre) s (c .before .before .before .before .goes-by-two .ensures .barred (c .before .before .before .if2 .left) s)
-
-by-one-requires : tie.Need-by-one-requires
-by-one-requires c κs = search needs
-
-returns-4 : tie.Need-returns-4
-returns-4 c = let g = sym (c .before .before .is-set2 .ensures) ∙ c .before .if3 .left in least-one _ _ _ (c .before .before .before .before .before .before .before .before .before .before .before .pre) (sym (c .before .before .before .before .before .before .before .is-set .ensures) ∙ c .before .before .before .before .before .before .if1 .left) g (c .before .before .before .before .before .goes-by-two .ensures .heavier (c .before .before .before .before .if2 .left) g) _ (c .by-one .ensures)
+abbrev to-after-is-set2 : tie.After-by-one → tie.After-is-set2
+to-after-is-set2 p = search
 
 pub least-four-spec : {M : Type 1} → statement M
 least-four-spec =
     tie.close
     (tie.spec
-    shared-slice-read-is-set
-    is-set-requires
-    returns
-    goes-by-two-requires
-    by-two-requires
-    returns-2
-    shared-slice-read-is-set-2
-    is-set-requires-2
-    returns-3
-    by-one-requires
-    returns-4)
+    (λ c. search needs)
+    (λ c κs. search needs)
+    (λ c. let after-is-set : tie.After-is-set = search in least-closed _ _ _ (to-start after-is-set .pre) (sym (c .before .is-set .ensures) ∙ c .if1 .taken))
+    (λ c κs. search needs)
+    (λ c κs. search needs)
+    (λ c.
+    let after-goes-by-two = to-after-goes-by-two c in let after-is-set = to-after-is-set after-goes-by-two in
+    least-two _ _ _ (to-start after-is-set .pre) (sym (after-is-set .is-set .ensures) ∙ (to-else1 after-goes-by-two) .if1 .left)
+    (after-goes-by-two .goes-by-two .ensures .free (c .before .if2 .taken)) (after-goes-by-two .goes-by-two .ensures .lighter (c .before .if2 .taken)) _
+    (c .by-two .ensures))
+    (λ c. search needs)
+    (λ c κs. search needs)
+    (λ c.
+    let after-is-set2 : tie.After-is-set2 = search in let after-goes-by-two = to-after-goes-by-two-2 after-is-set2 in
+    let s = sym (c .before .is-set2 .ensures) ∙ c .if3 .taken in least-across _ _ _ (to-start (to-after-is-set after-goes-by-two) .pre) s
+    (after-goes-by-two .goes-by-two .ensures .barred (to-else2 after-is-set2 .if2 .left) s))
+    (λ c κs. search needs)
+    (λ c.
+    let after-is-set2 = to-after-is-set2 c in let after-goes-by-two = to-after-goes-by-two-2 after-is-set2 in
+    let after-is-set = to-after-is-set after-goes-by-two in
+    let g = sym (after-is-set2 .is-set2 .ensures) ∙ c .before .if3 .left in least-one _ _ _ (to-start after-is-set .pre)
+    (sym (after-is-set .is-set .ensures) ∙ (to-else1 after-goes-by-two) .if1 .left) g
+    (after-goes-by-two .goes-by-two .ensures .heavier (to-else2 after-is-set2 .if2 .left) g) _ (c .by-one .ensures)))

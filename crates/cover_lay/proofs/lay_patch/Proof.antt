@@ -4,59 +4,35 @@ use Rattle.cover_lay.proofs.Laws.Patches.{list-room, lays-some, lays-no
 use Rattle.cover_lay.proofs.lay_patch.Statement.{statement}
 use Rattle.cover_lay.proofs.lay_patch.Tie as tie
 
-lay-four-requires : tie.Need-lay-four-requires
-lay-four-requires c κs = four-room _ _ _ _ _ _ (c .before .before .before .before .before .before .pre) (c .before .if1 .taken)
+abbrev to-start : tie.After-least-weight → tie.Start
+to-start p = search
 
-same-length : tie.Need-same-length
-same-length c = search needs
+abbrev to-after-least-weight : tie.After-list → tie.After-least-weight
+to-after-least-weight p = search
 
-returns : tie.Need-returns
-returns c = search needs
+abbrev to-start-2 : tie.After-list → tie.Start
+to-start-2 p = to-start (to-after-least-weight p)
 
-least-weight-requires : tie.Need-least-weight-requires
-least-weight-requires c κs = search needs
-
-enum-told : tie.Need-enum-told
-enum-told c = search needs
-
-sub-list : tie.Need-sub-list
-sub-list c = search needs
-
-list-requires : tie.Need-list-requires
-list-requires c κs = list-room _ _ _ _ _ _ (c .before .before .before .before .before .before .before .before .before .before .before .before .before .pre) _ _ (c .before .before .before .before .before .before .least-weight .ensures) _ (c .before .before .enum-told .given .1)
-
-enum-told-2 : tie.Need-enum-told-2
-enum-told-2 c = search needs
-
-same-length-2 : tie.Need-same-length-2
-same-length-2 c = search needs
-
-same-length-3 : tie.Need-same-length-3
-same-length-3 c = search needs
-
-returns-2 : tie.Need-returns-2
-returns-2 c = lays-some _ _ _ _ _ _ (c .before .before .before .before .before .before .before .before .before .before .before .before .before .before .before .before .pre) _ _ (c .before .before .before .before .before .before .before .before .before .least-weight .ensures) _ (c .before .before .before .before .before .enum-told .given .1) _ _ (c .before .before .list .ensures)
-
-same-length-4 : tie.Need-same-length-4
-same-length-4 c = search needs
-
-returns-3 : tie.Need-returns-3
-returns-3 c = lays-none _ _ _ _ _ _ (c .before .before .before .before .before .before .before .before .before .before .before .pre) _ _ (c .before .before .before .before .least-weight .ensures) (c .enum-told2 .given .1)
+abbrev to-after-enum-told : tie.After-list → tie.After-enum-told
+to-after-enum-told p = search
 
 pub lay-patch-spec : {M : Type 1} → statement M
 lay-patch-spec =
     tie.close
     (tie.spec
-    lay-four-requires
-    same-length
-    returns
-    least-weight-requires
-    enum-told
-    sub-list
-    list-requires
-    enum-told-2
-    same-length-2
-    same-length-3
-    returns-2
-    same-length-4
-    returns-3)
+    (λ c κs. search four-room)
+    (λ c. search needs)
+    (λ c. search needs)
+    (λ c κs. search needs)
+    (λ c. search needs)
+    (λ c. search needs)
+    (λ c κs. search list-room)
+    (λ c. search needs)
+    (λ c. search needs)
+    (λ c. search needs)
+    (λ c.
+    let after-list : tie.After-list = search in
+    lays-some _ _ _ _ _ _ (to-start-2 after-list .pre) _ _ (to-after-least-weight after-list .least-weight .ensures) _
+    (to-after-enum-told after-list .enum-told .given .1) _ _ (after-list .list .ensures))
+    (λ c. search needs)
+    (λ c. search lays-none))

@@ -13,89 +13,76 @@ Inv-loop px py pz n bars table₀ xs₀ ys₀ zs₀ column₀ k₀ table xs ys z
 abbrev μ-loop : tie.MeasureT-loop
 μ-loop px py pz n bars table₀ xs₀ ys₀ zs₀ column₀ k₀ table xs ys zs column k = n - k
 
-loop-holds : tie.Need-loop-holds Inv-loop μ-loop
-loop-holds c = filling-begins _ _ _ _ _ _ (c .before .before .before .before .before .pre) _ _ _ _ refl refl refl refl
+abbrev to-start : tie.After-multiply Inv-loop μ-loop → tie.Start Inv-loop μ-loop
+to-start p = search
 
-slice-aggregate-multiply : tie.Need-slice-aggregate-multiply Inv-loop μ-loop
-slice-aggregate-multiply c = sym (c .before .before .loop .inv .xs-long)
+abbrev to-after-multiply : tie.After-copy Inv-loop μ-loop → tie.After-multiply Inv-loop μ-loop
+to-after-multiply p = search
 
-slice-aggregate-multiply-2 : tie.Need-slice-aggregate-multiply-2 Inv-loop μ-loop
-slice-aggregate-multiply-2 c = sym (c .before .before .before .loop .inv .ys-long)
+abbrev to-start-2 : tie.After-copy Inv-loop μ-loop → tie.Start Inv-loop μ-loop
+to-start-2 p = to-start (to-after-multiply p)
 
-slice-aggregate-multiply-3 : tie.Need-slice-aggregate-multiply-3 Inv-loop μ-loop
-slice-aggregate-multiply-3 c = sym (c .before .before .before .before .loop .inv .zs-long)
+abbrev to-after-copy : tie.After-sweep Inv-loop μ-loop → tie.After-copy Inv-loop μ-loop
+to-after-copy p = search
 
-slice-aggregate-multiply-4 : tie.Need-slice-aggregate-multiply-4 Inv-loop μ-loop
-slice-aggregate-multiply-4 c = sym (c .before .before .before .before .before .loop .inv .column-long)
+abbrev to-start-3 : tie.After-sweep Inv-loop μ-loop → tie.Start Inv-loop μ-loop
+to-start-3 p = to-start-2 (to-after-copy p)
 
-multiply-requires : tie.Need-multiply-requires Inv-loop μ-loop
-multiply-requires c κs = products-room _ _ _ _ _ _ (c .before .before .before .before .before .before .before .before .before .before .before .pre) _ _ _ _ _ _ (c .before .before .before .before .loop-test .taken) (c .before .before .before .before .before .loop .inv)
+abbrev to-turn : tie.After-multiply Inv-loop μ-loop → tie.In-loop Inv-loop μ-loop
+to-turn p = search
 
-slice-aggregate-copy : tie.Need-slice-aggregate-copy Inv-loop μ-loop
-slice-aggregate-copy c = search needs
+abbrev to-turn-2 : tie.After-copy Inv-loop μ-loop → tie.In-loop Inv-loop μ-loop
+to-turn-2 p = to-turn (to-after-multiply p)
 
-slice-aggregate-copy-2 : tie.Need-slice-aggregate-copy-2 Inv-loop μ-loop
-slice-aggregate-copy-2 c = search needs
+abbrev to-turn-3 : tie.After-sweep Inv-loop μ-loop → tie.In-loop Inv-loop μ-loop
+to-turn-3 p = to-turn-2 (to-after-copy p)
 
-slice-aggregate-copy-3 : tie.Need-slice-aggregate-copy-3 Inv-loop μ-loop
-slice-aggregate-copy-3 c = search needs
+abbrev to-at-loop : tie.After-multiply Inv-loop μ-loop → tie.At-loop Inv-loop μ-loop
+to-at-loop p = search
 
-copy-requires : tie.Need-copy-requires Inv-loop μ-loop
-copy-requires c κs = copy-room _ _ _ _ _ _ (c .before .before .before .before .before .before .before .before .before .before .before .before .before .before .before .before .before .before .before .before .pre) _ _ _ _ _ _ (c .before .before .before .before .before .before .before .before .before .before .before .before .before .loop-test .taken) (c .before .before .before .before .before .before .before .before .before .before .before .before .before .before .loop .inv) _ _ _ _ (c .before .before .before .before .before .before .before .before .multiply .kept .1 .1 .1 .1 .0) (c .before .before .before .before .before .before .before .before .multiply .kept .1 .1 .1 .1 .1 .0) (c .before .before .before .before .before .before .before .before .multiply .kept .1 .1 .1 .1 .1 .1 .0) (c .before .before .before .before .before .before .before .before .multiply .kept .1 .1 .1 .1 .1 .1 .1 .0) (c .before .before .before .before .before .before .before .before .multiply .ensures)
+abbrev to-at-loop-2 : tie.After-copy Inv-loop μ-loop → tie.At-loop Inv-loop μ-loop
+to-at-loop-2 p = to-at-loop (to-after-multiply p)
 
-slice-aggregate-sweep : tie.Need-slice-aggregate-sweep Inv-loop μ-loop
-slice-aggregate-sweep c = search needs
+abbrev to-at-loop-3 : tie.After-sweep Inv-loop μ-loop → tie.At-loop Inv-loop μ-loop
+to-at-loop-3 p = to-at-loop-2 (to-after-copy p)
 
-slice-aggregate-sweep-2 : tie.Need-slice-aggregate-sweep-2 Inv-loop μ-loop
-slice-aggregate-sweep-2 c = search needs
-
-slice-aggregate-sweep-3 : tie.Need-slice-aggregate-sweep-3 Inv-loop μ-loop
-slice-aggregate-sweep-3 c = search needs
-
-slice-aggregate-sweep-4 : tie.Need-slice-aggregate-sweep-4 Inv-loop μ-loop
-slice-aggregate-sweep-4 c = search needs
-
-sweep-requires : tie.Need-sweep-requires Inv-loop μ-loop
-sweep-requires c κs = sweep-room _ _ _ _ _ _ (c .before .before .before .before .before .before .before .before .before .before .before .before .before .before .before .before .before .before .before .before .before .before .before .before .before .before .before .before .pre) _ _ _ _ _ _ (c .before .before .before .before .before .before .before .before .before .before .before .before .before .before .before .before .before .before .before .before .before .loop-test .taken) (c .before .before .before .before .before .before .before .before .before .before .before .before .before .before .before .before .before .before .before .before .before .before .loop .inv) _ _ _ _ (c .before .before .before .before .before .before .before .before .before .before .before .before .before .before .before .before .multiply .kept .1 .1 .1 .1 .0) (c .before .before .before .before .before .before .before .before .before .before .before .before .before .before .before .before .multiply .kept .1 .1 .1 .1 .1 .0) (c .before .before .before .before .before .before .before .before .before .before .before .before .before .before .before .before .multiply .kept .1 .1 .1 .1 .1 .1 .0) (c .before .before .before .before .before .before .before .before .before .before .before .before .before .before .before .before .multiply .kept .1 .1 .1 .1 .1 .1 .1 .0) (c .before .before .before .before .before .before .before .before .before .before .before .before .before .before .before .before .multiply .ensures) _ (c .before .before .before .before .before .before .before .copy .kept .1 .1 .1 .1 .0) (c .before .before .before .before .before .before .before .copy .ensures)
-
-add-k : tie.Need-add-k Inv-loop μ-loop
-add-k c = omega (arith, products-room _ _ _ _ _ _ (c .before .before .before .before .before .before .before .before .before .before .before .before .before .before .before .before .before .before .before .before .before .before .before .before .before .before .before .before .before .before .before .before .pre) _ _ _ _ _ _ (c .before .before .before .before .before .before .before .before .before .before .before .before .before .before .before .before .before .before .before .before .before .before .before .before .before .loop-test .taken) (c .before .before .before .before .before .before .before .before .before .before .before .before .before .before .before .before .before .before .before .before .before .before .before .before .before .before .loop .inv) .short)
-
-loop-less : tie.Need-loop-less Inv-loop μ-loop
-loop-less c = omega (arith, c .before .before .before .before .before .before .before .before .before .before .before .before .before .before .before .before .before .before .before .before .before .before .before .before .before .loop-test .taken)
-
-loop-again : tie.Need-loop-again Inv-loop μ-loop
-loop-again c = filling-on _ _ _ _ _ _ (c .before .before .before .before .before .before .before .before .before .before .before .before .before .before .before .before .before .before .before .before .before .before .before .before .before .before .before .before .before .before .before .before .pre) _ _ _ _ _ _ (c .before .before .before .before .before .before .before .before .before .before .before .before .before .before .before .before .before .before .before .before .before .before .before .before .before .loop-test .taken) (c .before .before .before .before .before .before .before .before .before .before .before .before .before .before .before .before .before .before .before .before .before .before .before .before .before .before .loop .inv) _ _ _ _ (c .before .before .before .before .before .before .before .before .before .before .before .before .before .before .before .before .before .before .before .before .multiply .kept .1 .1 .1 .1 .0) (c .before .before .before .before .before .before .before .before .before .before .before .before .before .before .before .before .before .before .before .before .multiply .kept .1 .1 .1 .1 .1 .0) (c .before .before .before .before .before .before .before .before .before .before .before .before .before .before .before .before .before .before .before .before .multiply .kept .1 .1 .1 .1 .1 .1 .0) (c .before .before .before .before .before .before .before .before .before .before .before .before .before .before .before .before .before .before .before .before .multiply .kept .1 .1 .1 .1 .1 .1 .1 .0) (c .before .before .before .before .before .before .before .before .before .before .before .before .before .before .before .before .before .before .before .before .multiply .ensures) _ (c .before .before .before .before .before .before .before .before .before .before .before .copy .kept .1 .1 .1 .1 .0) (c .before .before .before .before .before .before .before .before .before .before .before .copy .ensures) _ _ (c .before .before .before .sweep .kept .1 .1 .1 .1 .1 .1 .0) (c .before .before .before .sweep .kept .0) (c .before .before .before .sweep .ensures)
-
-same-length : tie.Need-same-length Inv-loop μ-loop
-same-length c = c .before .loop .inv .kept
-
-returns : tie.Need-returns Inv-loop μ-loop
-returns c = filling-ends _ _ _ _ _ _ (c .before .before .before .before .before .before .before .pre) _ _ _ _ _ _ (c .loop-test .left) (c .before .loop .inv)
+abbrev to-after-multiply-2 : tie.After-sweep Inv-loop μ-loop → tie.After-multiply Inv-loop μ-loop
+to-after-multiply-2 p = to-after-multiply (to-after-copy p)
 
 pub fill-spec : {M : Type 1} → statement M
 fill-spec =
     tie.close
-    (tie.spec
-    Inv-loop
-    μ-loop
-    loop-holds
-    slice-aggregate-multiply
-    slice-aggregate-multiply-2
-    slice-aggregate-multiply-3
-    slice-aggregate-multiply-4
-    multiply-requires
-    slice-aggregate-copy
-    slice-aggregate-copy-2
-    slice-aggregate-copy-3
-    copy-requires
-    slice-aggregate-sweep
-    slice-aggregate-sweep-2
-    slice-aggregate-sweep-3
-    slice-aggregate-sweep-4
-    sweep-requires
-    add-k
-    loop-less
-    loop-again
-    same-length
-    returns)
+    (tie.spec Inv-loop μ-loop
+    (λ c. search filling-begins)
+    (λ c. let at-loop : tie.At-loop Inv-loop μ-loop = search in sym (at-loop .loop .inv .xs-long))
+    (λ c. let at-loop : tie.At-loop Inv-loop μ-loop = search in sym (at-loop .loop .inv .ys-long))
+    (λ c. let at-loop : tie.At-loop Inv-loop μ-loop = search in sym (at-loop .loop .inv .zs-long))
+    (λ c. let at-loop : tie.At-loop Inv-loop μ-loop = search in sym (at-loop .loop .inv .column-long))
+    (λ c κs. search products-room)
+    (λ c. search needs)
+    (λ c. search needs)
+    (λ c. search needs)
+    (λ c κs. search copy-room)
+    (λ c. search needs)
+    (λ c. search needs)
+    (λ c. search needs)
+    (λ c. search needs)
+    (λ c κs. search sweep-room)
+    (λ c.
+    let after-sweep : tie.After-sweep Inv-loop μ-loop = search in
+    omega (
+      arith,
+      products-room _ _ _ _ _ _ (to-start-3 after-sweep .pre) _ _ _ _ _ _ (to-turn-3 after-sweep .loop-test .taken)
+          (to-at-loop-3 after-sweep .loop .inv) .short,
+    ))
+    (λ c. let after-sweep : tie.After-sweep Inv-loop μ-loop = search in omega (arith, (to-turn-3 after-sweep) .loop-test .taken))
+    (λ c.
+    let after-sweep : tie.After-sweep Inv-loop μ-loop = search in
+    let after-multiply = to-after-multiply-2 after-sweep in
+    let after-copy = to-after-copy after-sweep in
+    filling-on _ _ _ _ _ _ (to-start-3 after-sweep .pre) _ _ _ _ _ _ (to-turn-3 after-sweep .loop-test .taken) (to-at-loop-3 after-sweep .loop .inv) _ _ _ _
+    (after-multiply .multiply .kept .1 .1 .1 .1 .0) (after-multiply .multiply .kept .1 .1 .1 .1 .1 .0) (after-multiply .multiply .kept .1 .1 .1 .1 .1 .1 .0)
+    (after-multiply .multiply .kept .1 .1 .1 .1 .1 .1 .1 .0) (after-multiply .multiply .ensures) _ (after-copy .copy .kept .1 .1 .1 .1 .0)
+    (after-copy .copy .ensures) _ _ (after-sweep .sweep .kept .1 .1 .1 .1 .1 .1 .0) (after-sweep .sweep .kept .0) (after-sweep .sweep .ensures))
+    (λ c. c .before .loop .inv .kept)
+    (λ c. search filling-ends))

@@ -7,79 +7,62 @@ use borrow.Author.Needs.{needs}
 use Rattle.cover_table.proofs.least_weight.Statement.{statement}
 use Rattle.cover_table.proofs.least_weight.Tie as tie
 
-slice-aggregate-gather : tie.Need-slice-aggregate-gather
-slice-aggregate-gather c = search needs
-
-slice-aggregate-gather-2 : tie.Need-slice-aggregate-gather-2
-slice-aggregate-gather-2 c = search needs
-
-slice-aggregate-gather-3 : tie.Need-slice-aggregate-gather-3
-slice-aggregate-gather-3 c = search needs
-
-gather-requires : tie.Need-gather-requires
-gather-requires c κs = gather-room _ _ _ _ (c .before .before .before .before .before .before .pre) _ _ _ refl refl refl
-
-slice-aggregate-fill : tie.Need-slice-aggregate-fill
-slice-aggregate-fill c = search needs
-
-slice-aggregate-fill-2 : tie.Need-slice-aggregate-fill-2
-slice-aggregate-fill-2 c = search needs
-
-slice-aggregate-fill-3 : tie.Need-slice-aggregate-fill-3
-slice-aggregate-fill-3 c = search needs
-
-fill-requires : tie.Need-fill-requires
-fill-requires c κs = fillable _ _ _ _ (c .before .before .before .before .before .before .before .before .before .before .before .before .before .before .pre) _ _ _ (c .before .before .before .before .before .before .before .gather .ensures)
-
-sub-row-of : tie.Need-sub-row-of
-sub-row-of c = omega (arith, c .before .before .before .before .before .before .before .before .before .before .before .before .before .before .before .before .before .pre .some)
-
-row-of-requires : tie.Need-row-of-requires
-row-of-requires c κs = omega (arith, c .before .before .before .before .before .before .before .before .before .before .before .before .before .before .before .before .before .pre .on .few)
-
-add-least : tie.Need-add-least
-add-least c = let h = place-in _ _ _ _ (c .before .before .before .before .before .before .before .before .before .before .before .before .before .before .before .before .before .before .pre) _ _ _ (c .before .before .before .before .before .before .before .before .before .before .before .gather .ensures) _ (c .before .before .before .fill .kept .1 .1 .1 .1 .1 .0) (c .before .before .before .fill .ensures) _ (c .row-of .ensures) in omega (arith, h, c .before .before .before .fill .kept .1 .1 .1 .1 .1 .0, c .before .before .before .before .before .before .before .before .before .before .before .before .before .before .before .before .before .before .pre .table-long)
-
-mul-least : tie.Need-mul-least
-mul-least c = let h = place-in _ _ _ _ (c .before .before .before .before .before .before .before .before .before .before .before .before .before .before .before .before .before .before .pre) _ _ _ (c .before .before .before .before .before .before .before .before .before .before .before .gather .ensures) _ (c .before .before .before .fill .kept .1 .1 .1 .1 .1 .0) (c .before .before .before .fill .ensures) _ (c .row-of .ensures) in omega (arith, h, c .before .before .before .fill .kept .1 .1 .1 .1 .1 .0, c .before .before .before .before .before .before .before .before .before .before .before .before .before .before .before .before .before .before .pre .table-long)
-
-slice-read-least : tie.Need-slice-read-least
-slice-read-least c = place-in _ _ _ _ (c .before .before .before .before .before .before .before .before .before .before .before .before .before .before .before .before .before .before .before .pre) _ _ _ (c .before .before .before .before .before .before .before .before .before .before .before .before .gather .ensures) _ (c .before .before .before .before .fill .kept .1 .1 .1 .1 .1 .0) (c .before .before .before .before .fill .ensures) _ (c .before .row-of .ensures)
-
-float-to-int-t32 : tie.Need-float-to-int-t32
-float-to-int-t32 c = castable _ _ _ _ (c .before .before .before .before .before .before .before .before .before .before .before .before .before .before .before .before .before .before .before .before .before .pre) _ _ _ (c .before .before .before .before .before .before .before .before .before .before .before .before .before .before .gather .ensures) _ (c .before .before .before .before .before .before .fill .kept .1 .1 .1 .1 .1 .0) (c .before .before .before .before .before .before .fill .ensures) _ (c .before .before .before .row-of .ensures) (c .before .before .before .before .before .before .before .before .before .before .before .before .before .before .before .before .before .before .before .before .before .pre .barred) (c .before .before .before .before .before .before .before .before .before .before .before .before .before .before .before .before .before .before .before .before .before .pre .barring) _ (lit< tt)
-
-same-length : tie.Need-same-length
-same-length c = c .before .before .before .before .before .before .fill .kept .1 .1 .1 .1 .1 .0
-
 returns : tie.Need-returns
 returns c barred b = found-some _ _ _ _ (c .before .before .before .before .before .before .before .before .before .before .before .before .before .before .before .before .before .before .before .before .before .pre) _ _ _ (c .before .before .before .before .before .before .before .before .before .before .before .before .before .before .gather .ensures) _ (c .before .before .before .before .before .before .fill .kept .1 .1 .1 .1 .1 .0) (c .before .before .before .before .before .before .fill .ensures) _ (c .before .before .before .row-of .ensures) barred b _ (lit< tt) (c .before .if1 .taken)
 
-same-length-2 : tie.Need-same-length-2
-same-length-2 c = c .before .before .before .before .before .fill .kept .1 .1 .1 .1 .1 .0
-
 returns-2 : tie.Need-returns-2
 returns-2 c barred b = found-none _ _ _ _ (c .before .before .before .before .before .before .before .before .before .before .before .before .before .before .before .before .before .before .before .before .pre) _ _ _ (c .before .before .before .before .before .before .before .before .before .before .before .before .before .gather .ensures) _ (c .before .before .before .before .before .fill .kept .1 .1 .1 .1 .1 .0) (c .before .before .before .before .before .fill .ensures) _ (c .before .before .row-of .ensures) barred b (c .if1 .left)
+
+abbrev to-start : tie.After-gather → tie.Start
+to-start p = search
+
+abbrev to-after-gather : tie.After-fill → tie.After-gather
+to-after-gather p = search
+
+abbrev to-start-2 : tie.After-fill → tie.Start
+to-start-2 p = to-start (to-after-gather p)
+
+abbrev to-after-fill : tie.After-row-of → tie.After-fill
+to-after-fill p = search
+
+abbrev to-start-3 : tie.After-row-of → tie.Start
+to-start-3 p = to-start-2 (to-after-fill p)
+
+abbrev to-after-gather-2 : tie.After-row-of → tie.After-gather
+to-after-gather-2 p = to-after-gather (to-after-fill p)
 
 pub least-weight-spec : {M : Type 1} → statement M
 least-weight-spec =
     tie.close
     (tie.spec
-    slice-aggregate-gather
-    slice-aggregate-gather-2
-    slice-aggregate-gather-3
-    gather-requires
-    slice-aggregate-fill
-    slice-aggregate-fill-2
-    slice-aggregate-fill-3
-    fill-requires
-    sub-row-of
-    row-of-requires
-    add-least
-    mul-least
-    slice-read-least
-    float-to-int-t32
-    same-length
+    (λ c. search needs)
+    (λ c. search needs)
+    (λ c. search needs)
+    (λ c κs. search gather-room)
+    (λ c. search needs)
+    (λ c. search needs)
+    (λ c. search needs)
+    (λ c κs. search fillable)
+    (λ c. let after-fill : tie.After-fill = search in omega (arith, (to-start-2 after-fill) .pre .some))
+    (λ c κs. let after-fill : tie.After-fill = search in omega (arith, (to-start-2 after-fill) .pre .on .few))
+    (λ c.
+    let start = to-start-3 c in
+    let after-fill = to-after-fill c in
+    let h = place-in _ _ _ _ (start .pre) _ _ _ (to-after-gather-2 c .gather .ensures) _ (after-fill .fill .kept .1 .1 .1 .1 .1 .0)
+    (after-fill .fill .ensures) _ (c .row-of .ensures) in omega (arith, h, after-fill .fill .kept .1 .1 .1 .1 .1 .0, start .pre .table-long))
+    (λ c.
+    let start = to-start-3 c in
+    let after-fill = to-after-fill c in
+    let h = place-in _ _ _ _ (start .pre) _ _ _ (to-after-gather-2 c .gather .ensures) _ (after-fill .fill .kept .1 .1 .1 .1 .1 .0)
+    (after-fill .fill .ensures) _ (c .row-of .ensures) in omega (arith, h, after-fill .fill .kept .1 .1 .1 .1 .1 .0, start .pre .table-long))
+    (λ c. search place-in)
+    (λ c.
+    let after-row-of : tie.After-row-of = search in
+    let start = to-start-3 after-row-of in
+    let after-fill = to-after-fill after-row-of in
+    castable _ _ _ _ (start .pre) _ _ _ (to-after-gather-2 after-row-of .gather .ensures) _ (after-fill .fill .kept .1 .1 .1 .1 .1 .0)
+    (after-fill .fill .ensures) _ (after-row-of .row-of .ensures) (start .pre .barred) (start .pre .barring) _ (lit< tt))
+    (λ c. let after-row-of : tie.After-row-of = search in (to-after-fill after-row-of) .fill .kept .1 .1 .1 .1 .1 .0)
     returns
-    same-length-2
+    (λ c. let after-row-of : tie.After-row-of = search in (to-after-fill after-row-of) .fill .kept .1 .1 .1 .1 .1 .0)
     returns-2)

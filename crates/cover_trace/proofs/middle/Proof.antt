@@ -11,41 +11,26 @@ Inv-loop table i k m₀ m = Seeking table i k m
 abbrev μ-loop : tie.MeasureT-loop
 μ-loop table i k m₀ m = k - m
 
-add-m : tie.Need-add-m Inv-loop μ-loop
-add-m c = search needs
+abbrev to-at-loop : tie.After-is-way Inv-loop μ-loop → tie.At-loop Inv-loop μ-loop
+to-at-loop p = search
 
-loop-holds : tie.Need-loop-holds Inv-loop μ-loop
-loop-holds c = seeking-begins _ _ _ (c .before .pre .1)
-
-is-way-requires : tie.Need-is-way-requires Inv-loop μ-loop
-is-way-requires c κs = (c .before .before .before .pre .0, c .before .loop .inv .low, c .loop-test .taken)
-
-returns : tie.Need-returns Inv-loop μ-loop
-returns c = (c .before .before .before .loop .inv .low, c .before .before .loop-test .taken, sought _ _ _ _ _ (c .before .before .before .loop .inv) (c .before .is-way .ensures) (c .if1 .taken))
-
-add-m-2 : tie.Need-add-m-2 Inv-loop μ-loop
-add-m-2 c = search needs
-
-loop-less : tie.Need-loop-less Inv-loop μ-loop
-loop-less c = search needs
-
-loop-again : tie.Need-loop-again Inv-loop μ-loop
-loop-again c = seeking-more _ _ _ _ _ (c .before .before .loop-test .taken) (c .before .before .before .loop .inv) (c .before .is-way .ensures) (c .if1 .left)
-
-returns-2 : tie.Need-returns-2 Inv-loop μ-loop
-returns-2 c = absurd (always-found _ _ _ _ (c .before .before .before .pre .1) (c .before .before .before .pre .0) (c .loop-test .left) (c .before .loop .inv))
+abbrev to-turn : tie.After-is-way Inv-loop μ-loop → tie.In-loop Inv-loop μ-loop
+to-turn p = search
 
 pub middle-spec : {M : Type 1} → statement M
 middle-spec =
     tie.close
-    (tie.spec
-    Inv-loop
-    μ-loop
-    add-m
-    loop-holds
-    is-way-requires
-    returns
-    add-m-2
-    loop-less
-    loop-again
-    returns-2)
+    (tie.spec Inv-loop μ-loop
+    (λ c. search needs)
+    (λ c. search seeking-begins)
+    (λ c κs. let start : tie.Start Inv-loop μ-loop = search in (start .pre .0, c .before .loop .inv .low, c .loop-test .taken))
+    (λ c.
+    let after-is-way : tie.After-is-way Inv-loop μ-loop = search in
+    let at-loop = to-at-loop after-is-way in
+    (at-loop .loop .inv .low, (to-turn after-is-way) .loop-test .taken, sought _ _ _ _ _ (at-loop .loop .inv) (c .before .is-way .ensures) (c .if1 .taken)))
+    (λ c. search needs)
+    (λ c. search needs)
+    (λ c. search seeking-more)
+    (λ c.
+    let start : tie.Start Inv-loop μ-loop = search in
+    absurd (always-found _ _ _ _ (start .pre .1) (start .pre .0) (c .loop-test .left) (c .before .loop .inv))))

@@ -4,17 +4,20 @@ use Rattle.cover_weight.proofs.Laws.Weighed.{both-short, weight-is}
 use Rattle.cover_weight.proofs.weigh.Statement.{statement}
 use Rattle.cover_weight.proofs.weigh.Tie as tie
 
-minus-requires : tie.Need-minus-requires
-minus-requires c κs = search needs
+abbrev to-start : tie.After-minus → tie.Start
+to-start p = search
 
-minus-requires-2 : tie.Need-minus-requires-2
-minus-requires-2 c κs = search needs
+abbrev to-after-minus : tie.After-minus2 → tie.After-minus
+to-after-minus p = search
 
-sizes-requires : tie.Need-sizes-requires
-sizes-requires c κs = both-short (c .before .before .args .a) (c .before .before .args .b) (c .before .before .args .c) (c .before .minus .ensures) (c .minus2 .ensures) (c .before .before .pre)
-
-returns : tie.Need-returns
-returns c = weight-is (c .before .before .before .args .a) (c .before .before .before .args .b) (c .before .before .before .args .c) (c .before .before .minus .ensures) (c .before .minus2 .ensures) (c .sizes .ensures)
+abbrev to-start-2 : tie.After-minus2 → tie.Start
+to-start-2 p = to-start (to-after-minus p)
 
 pub weigh-spec : {M : Type 1} → statement M
-weigh-spec = tie.close (tie.spec minus-requires minus-requires-2 sizes-requires returns)
+weigh-spec =
+    tie.close
+    (tie.spec
+    (λ c κs. search needs)
+    (λ c κs. search needs)
+    (λ c κs. both-short _ _ _ (c .before .minus .ensures) (c .minus2 .ensures) (to-start-2 c .pre))
+    (λ c. search weight-is))

@@ -4,22 +4,30 @@ use Rattle.cover_weight.proofs.Laws.Named.{three-on-grid, weighs-named}
 use Rattle.cover_weight.proofs.weigh_named.Statement.{statement}
 use Rattle.cover_weight.proofs.weigh_named.Tie as tie
 
-point-at-requires : tie.Need-point-at-requires
-point-at-requires c κs = search needs
+abbrev to-start : tie.After-point-at → tie.Start
+to-start p = search
 
-point-at-requires-2 : tie.Need-point-at-requires-2
-point-at-requires-2 c κs = search needs
+abbrev to-after-point-at : tie.After-point-at2 → tie.After-point-at
+to-after-point-at p = search
 
-point-at-requires-3 : tie.Need-point-at-requires-3
-point-at-requires-3 c κs = search needs
+abbrev to-start-2 : tie.After-point-at2 → tie.Start
+to-start-2 p = to-start (to-after-point-at p)
 
-weigh-requires : tie.Need-weigh-requires
-weigh-requires c κs = three-on-grid _ (c .before .before .before .pre .0) _ _ _ (c .before .before .point-at .ensures) (c .before .point-at2 .ensures) (c .point-at3 .ensures)
+abbrev to-after-point-at2 : tie.After-point-at3 → tie.After-point-at2
+to-after-point-at2 p = search
 
-returns : tie.Need-returns
-returns c = weighs-named _ (c .before .before .before .before .pre .0) _ _ _ (c .before .before .before .point-at .ensures) (c .before .before .point-at2 .ensures) (c .before .point-at3 .ensures) (c .weigh .ensures)
+abbrev to-start-3 : tie.After-point-at3 → tie.Start
+to-start-3 p = to-start-2 (to-after-point-at2 p)
+
+abbrev to-after-point-at-2 : tie.After-point-at3 → tie.After-point-at
+to-after-point-at-2 p = to-after-point-at (to-after-point-at2 p)
 
 pub weigh-named-spec : {M : Type 1} → statement M
 weigh-named-spec =
     tie.close
-    (tie.spec point-at-requires point-at-requires-2 point-at-requires-3 weigh-requires returns)
+    (tie.spec
+    (λ c κs. search needs)
+    (λ c κs. search needs)
+    (λ c κs. search needs)
+    (λ c κs. three-on-grid _ (to-start-3 c .pre .0) _ _ _ (to-after-point-at-2 c .point-at .ensures) (c .before .point-at2 .ensures) (c .point-at3 .ensures))
+    (λ c. search weighs-named))

@@ -5,8 +5,5 @@ use Rattle.grid_coordinate.proofs.Laws.Ends.{off-bits}
 use Rattle.grid_coordinate.proofs.is_off.Statement.{statement}
 use Rattle.grid_coordinate.proofs.is_off.Tie as tie
 
-returns : tie.Need-returns
-returns c = off-bits _ _ refl (lit< tt)
-
 pub is-off-spec : {M : Type 1} → statement M
-is-off-spec = tie.close (tie.spec returns)
+is-off-spec = tie.close (tie.spec (λ c. off-bits _ _ refl (lit< tt)))

@@ -8,32 +8,17 @@ use Rattle.grid_coordinate.proofs.Laws.Coordinates.{lifted-whole, lower
 use Rattle.grid_coordinate.proofs.nearest.Statement.{statement}
 use Rattle.grid_coordinate.proofs.nearest.Tie as tie
 
-float-from-bits-result : tie.Need-float-from-bits-result
-float-from-bits-result c = number _ (λ e. absurd (omega (arith, c .pre)))
-
 int-to-float-result : tie.Need-int-to-float-result
 unfolding lib.Ieee.inFloat
 int-to-float-result c = tt
-
-float-to-int-result : tie.Need-float-to-int-result
-float-to-int-result c = lifted-whole _ (c .before .pre) _ refl (lit≤ tt) (lit≤ tt)
-
-cast-result : tie.Need-cast-result
-cast-result c = search needs
-
-sub-result : tie.Need-sub-result
-sub-result c = lowered-fits _ (c .before .pre) _ refl (lit≤ tt) (lit≤ tt)
-
-returns : tie.Need-returns
-returns c = found _ (c .before .pre) _ refl (lit≤ tt) (lit≤ tt)
 
 pub nearest-spec : {M : Type 1} → statement M
 nearest-spec =
     tie.close
     (tie.spec
-    float-from-bits-result
+    (λ c. number _ (λ e. absurd (omega (arith, c .pre))))
     int-to-float-result
-    float-to-int-result
-    cast-result
-    sub-result
-    returns)
+    (λ c. lifted-whole _ (c .before .pre) _ refl (lit≤ tt) (lit≤ tt))
+    (λ c. search needs)
+    (λ c. lowered-fits _ (c .before .pre) _ refl (lit≤ tt) (lit≤ tt))
+    (λ c. found _ (c .before .pre) _ refl (lit≤ tt) (lit≤ tt)))

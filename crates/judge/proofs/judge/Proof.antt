@@ -7,63 +7,40 @@ use Rattle.judge_surface.proofs.Laws.Judging.{counts-refuse}
 use Rattle.judge.proofs.judge.Statement.{statement}
 use Rattle.judge.proofs.judge.Tie as tie
 
-check-counts-requires : tie.Need-check-counts-requires
-check-counts-requires c κs = search needs
+abbrev to-after-refuses : tie.After-refused → tie.After-refuses
+to-after-refuses p = search
 
-refuses-requires : tie.Need-refuses-requires
-refuses-requires c κs = search needs
+abbrev to-after-check-counts : tie.After-refuses → tie.After-check-counts
+to-after-check-counts p = search
 
-refused-requires : tie.Need-refused-requires
-refused-requires c κs = search needs
-
-returns : tie.Need-returns
-returns c = counts-refuse _ _ _ _ (buffers (c .before .before .before .before .before .before .before .before .before .before .args .grid .now) (c .before .before .before .before .before .before .before .before .before .before .args .rings .now) (c .before .before .before .before .before .before .before .before .before .before .args .lengths .now)) _ _ (c .refused .ensures) (c .before .before .before .check-counts .ensures) (sym (c .before .before .refuses .ensures) ∙ c .before .if1 .taken)
-
-judge-few-requires : tie.Need-judge-few-requires
-judge-few-requires c κs = (counts-pass _ _ _ (c .before .before .before .before .before .before .before .check-counts .ensures) (sym (c .before .before .before .before .before .before .refuses .ensures) ∙ c .before .before .before .before .before .if1 .left), c .before .before .before .before .if2 .taken, c .before .before .before .if3 .taken)
-
-same-length : tie.Need-same-length
-same-length c = search needs
-
-same-length-2 : tie.Need-same-length-2
-same-length-2 c = search needs
-
-same-length-3 : tie.Need-same-length-3
-same-length-3 c = search needs
-
-returns-2 : tie.Need-returns-2
-returns-2 c = search needs
-
-judge-many-requires : tie.Need-judge-many-requires
-judge-many-requires c κs = counts-pass _ _ _ (c .before .before .before .before .before .before .check-counts .ensures) (sym (c .before .before .before .before .before .refuses .ensures) ∙ c .before .before .before .before .if1 .left)
-
-same-length-4 : tie.Need-same-length-4
-same-length-4 c = search needs
-
-same-length-5 : tie.Need-same-length-5
-same-length-5 c = search needs
-
-same-length-6 : tie.Need-same-length-6
-same-length-6 c = search needs
-
-returns-3 : tie.Need-returns-3
-returns-3 c = search needs
+abbrev to-start : tie.After-check-counts → tie.Start
+to-start p = search
 
 pub judge-spec : {M : Type 1} → statement M
 judge-spec =
     tie.close
     (tie.spec
-    check-counts-requires
-    refuses-requires
-    refused-requires
-    returns
-    judge-few-requires
-    same-length
-    same-length-2
-    same-length-3
-    returns-2
-    judge-many-requires
-    same-length-4
-    same-length-5
-    same-length-6
-    returns-3)
+    (λ c κs. search needs)
+    (λ c κs. search needs)
+    (λ c κs. search needs)
+    (λ c.
+    let after-refuses = to-after-refuses c in let after-check-counts = to-after-check-counts after-refuses in let start = to-start after-check-counts in
+    counts-refuse _ _ _ _ (buffers (start .args .grid .now) (start .args .rings .now) (start .args .lengths .now)) _ _ (c .refused .ensures)
+    (after-check-counts .check-counts .ensures) (sym (after-refuses .refuses .ensures) ∙ c .before .if1 .taken))
+    (λ c κs.
+    let after-refuses : tie.After-refuses = search in let else1 : tie.Else1 = search in let then2 : tie.Then2 = search in let then3 : tie.Then3 = search in (
+      counts-pass _ _ _ (to-after-check-counts after-refuses .check-counts .ensures) (sym (after-refuses .refuses .ensures) ∙ else1 .if1 .left),
+      then2 .if2 .taken,
+      then3 .if3 .taken,
+    ))
+    (λ c. search needs)
+    (λ c. search needs)
+    (λ c. search needs)
+    (λ c. search needs)
+    (λ c κs.
+    let after-refuses : tie.After-refuses = search in let else1 : tie.Else1 = search in
+    counts-pass _ _ _ (to-after-check-counts after-refuses .check-counts .ensures) (sym (after-refuses .refuses .ensures) ∙ else1 .if1 .left))
+    (λ c. search needs)
+    (λ c. search needs)
+    (λ c. search needs)
+    (λ c. search needs))

@@ -25,5 +25,6 @@ verdict-spec =
     (λ c κs. search marks-long)
     (λ c κs. search)
     (λ c. search)
-    (λ c κs. let s : tie.Start = search in let m : tie.After-any-middling = search in record { grid = _; input = _; room = s .pre; sight = search (m .any-middling .ensures) })
+    (λ c κs.
+    let s : tie.Start = search in let m : tie.After-any-middling = search in record { grid = _; input = _; room = s .pre; sight = search (m .any-middling .ensures) })
     (λ c. c .verdict-at-sight .ensures _ _))

@@ -26,85 +26,62 @@ found-inside : (c : tie.After-known-told Inv-loop μ-loop)
     → (c .before .seat .given .0 .0 < c .before .seat .given .0 .1 .1 .0) × (c .before .seat .given .0 .1 .1 .0 < c .before .seat .given .0 .1 .0) × (c .before .seat .given .0 .1 .0 < length (c .before .before .before .before .before .before .before .before .before .before .args .ring .now))
 found-inside c = chaining-inside _ _ _ _ _ _ _ _ _ _ _ _ _ (c .before .before .before .before .before .loop .inv) (c .before .before .before .before .loop-test .taken) _ _ _ (seat-found c)
 
-loop-holds : tie.Need-loop-holds Inv-loop μ-loop
-loop-holds c = chaining-begins _ _ _ _ _ _ _ _ (c .before .before .before .before .pre)
+abbrev to-at-loop : tie.After-seat-at Inv-loop μ-loop → tie.At-loop Inv-loop μ-loop
+to-at-loop p = search
 
-seat-at-requires : tie.Need-seat-at-requires Inv-loop μ-loop
-seat-at-requires c κs = (chaining-room _ _ _ _ _ _ _ _ _ _ _ _ _ (c .before .loop .inv) (c .loop-test .taken), c .before .before .before .before .before .before .pre .ringed .stamped .long)
+abbrev to-turn : tie.After-seat-at Inv-loop μ-loop → tie.In-loop Inv-loop μ-loop
+to-turn p = search
 
-enum-known-seat : tie.Need-enum-known-seat Inv-loop μ-loop
-enum-known-seat c = search needs
+abbrev to-after-seat-at : tie.After-chain Inv-loop μ-loop → tie.After-seat-at Inv-loop μ-loop
+to-after-seat-at p = search
 
-enum-told : tie.Need-enum-told Inv-loop μ-loop
-enum-told c = search needs
+abbrev to-at-loop-2 : tie.After-chain Inv-loop μ-loop → tie.At-loop Inv-loop μ-loop
+to-at-loop-2 p = to-at-loop (to-after-seat-at p)
 
-same-length : tie.Need-same-length Inv-loop μ-loop
-same-length c = c .before .before .before .before .loop .inv .links-kept
+abbrev to-turn-2 : tie.After-chain Inv-loop μ-loop → tie.In-loop Inv-loop μ-loop
+to-turn-2 p = to-turn (to-after-seat-at p)
 
-same-length-2 : tie.Need-same-length-2 Inv-loop μ-loop
-same-length-2 c = c .before .before .before .before .loop .inv .ends-kept
-
-returns : tie.Need-returns Inv-loop μ-loop
-returns c = chaining-stops _ _ _ _ _ _ _ _ _ _ _ _ _ (c .before .before .before .before .loop .inv) (c .before .before .before .loop-test .taken) (subst (SeatFound _ _ _ _) (c .enum-told .given .1) (c .before .before .seat-at .ensures))
-
-mul-chain : tie.Need-mul-chain Inv-loop μ-loop
-mul-chain c = omega (arith, found-inside (c .before .before .before))
-
-shared-slice-read-chain : tie.Need-shared-slice-read-chain Inv-loop μ-loop
-shared-slice-read-chain c = omega (arith, found-inside (c .before .before .before .before))
-
-mul-chain-2 : tie.Need-mul-chain-2 Inv-loop μ-loop
-mul-chain-2 c = omega (arith, found-inside (c .before .before .before .before))
-
-shared-slice-read-chain-2 : tie.Need-shared-slice-read-chain-2 Inv-loop μ-loop
-shared-slice-read-chain-2 c = omega (arith, found-inside (c .before .before .before .before .before))
-
-chain-requires : tie.Need-chain-requires Inv-loop μ-loop
-chain-requires c κs = chaining-chain _ _ _ _ _ _ _ _ _ _ _ _ _ (c .before .before .before .before .before .before .before .before .before .before .loop .inv) (c .before .before .before .before .before .before .before .before .before .loop-test .taken) _ _ (omega (arith, found-inside (c .before .before .before .before .before))) (omega (arith, found-inside (c .before .before .before .before .before)))
-
-add-q : tie.Need-add-q Inv-loop μ-loop
-add-q c = omega (arith, chaining-room _ _ _ _ _ _ _ _ _ _ _ _ _ (c .before .before .before .before .before .before .before .before .before .before .before .before .before .before .before .loop .inv) (c .before .before .before .before .before .before .before .before .before .before .before .before .before .before .loop-test .taken))
-
-add-f : tie.Need-add-f Inv-loop μ-loop
-add-f c = omega (arith, chaining-few _ _ _ _ _ _ _ _ _ _ _ _ _ (c .before .before .before .before .before .before .before .before .before .before .before .before .before .before .before .loop .inv) (c .before .before .before .before .before .before .before .before .before .before .before .before .before .before .loop-test .taken))
-
-loop-less : tie.Need-loop-less Inv-loop μ-loop
-loop-less c = omega (arith, chaining-room _ _ _ _ _ _ _ _ _ _ _ _ _ (c .before .before .before .before .before .before .before .before .before .before .before .before .before .before .before .loop .inv) (c .before .before .before .before .before .before .before .before .before .before .before .before .before .before .loop-test .taken))
-
-loop-again : tie.Need-loop-again Inv-loop μ-loop
-loop-again c = chaining-more _ _ _ _ _ _ _ _ _ _ _ _ _ (c .before .before .before .before .before .before .before .before .before .before .before .before .before .before .before .loop .inv) (c .before .before .before .before .before .before .before .before .before .before .before .before .before .before .loop-test .taken) _ _ _ (seat-found (c .before .before .before .before .before .before .before .before .before .before)) _ _ _ (c .before .before .before .before .chain .ensures)
-
-same-length-3 : tie.Need-same-length-3 Inv-loop μ-loop
-same-length-3 c = c .before .loop .inv .links-kept
-
-same-length-4 : tie.Need-same-length-4 Inv-loop μ-loop
-same-length-4 c = c .before .loop .inv .ends-kept
-
-returns-2 : tie.Need-returns-2 Inv-loop μ-loop
-returns-2 c = chaining-ends _ _ _ _ _ _ _ _ _ _ _ _ _ (c .before .loop .inv) (c .loop-test .left)
+abbrev to-after-chain-arg : tie.After-chain Inv-loop μ-loop → tie.After-chain-arg Inv-loop μ-loop
+to-after-chain-arg p = search
 
 pub chain-cover-spec : {M : Type 1} → statement M
 chain-cover-spec =
     tie.close
-    (tie.spec
-    Inv-loop
-    μ-loop
-    loop-holds
-    seat-at-requires
-    enum-known-seat
-    enum-told
-    same-length
-    same-length-2
-    returns
-    mul-chain
-    shared-slice-read-chain
-    mul-chain-2
-    shared-slice-read-chain-2
-    chain-requires
-    add-q
-    add-f
-    loop-less
-    loop-again
-    same-length-3
-    same-length-4
-    returns-2)
+    (tie.spec Inv-loop μ-loop
+    (λ c. search chaining-begins)
+    (λ c κs.
+    let start : tie.Start Inv-loop μ-loop = search in
+    (chaining-room _ _ _ _ _ _ _ _ _ _ _ _ _ (c .before .loop .inv) (c .loop-test .taken), start .pre .ringed .stamped .long))
+    (λ c. search needs)
+    (λ c. search needs)
+    (λ c. let after-seat-at : tie.After-seat-at Inv-loop μ-loop = search in (to-at-loop after-seat-at) .loop .inv .links-kept)
+    (λ c. let after-seat-at : tie.After-seat-at Inv-loop μ-loop = search in (to-at-loop after-seat-at) .loop .inv .ends-kept)
+    (λ c.
+    let after-seat-at : tie.After-seat-at Inv-loop μ-loop = search in
+    chaining-stops _ _ _ _ _ _ _ _ _ _ _ _ _ (to-at-loop after-seat-at .loop .inv) (to-turn after-seat-at .loop-test .taken)
+    (subst (SeatFound _ _ _ _) (c .enum-told .given .1) (after-seat-at .seat-at .ensures)))
+    (λ c. let after-chain-arg : tie.After-chain-arg Inv-loop μ-loop = search in omega (arith, found-inside (after-chain-arg .before)))
+    (λ c. let after-chain-arg : tie.After-chain-arg Inv-loop μ-loop = search in omega (arith, found-inside (after-chain-arg .before)))
+    (λ c. let after-chain-arg : tie.After-chain-arg Inv-loop μ-loop = search in omega (arith, found-inside (after-chain-arg .before)))
+    (λ c. let after-chain-arg : tie.After-chain-arg Inv-loop μ-loop = search in omega (arith, found-inside (after-chain-arg .before)))
+    (λ c κs.
+    let after-seat-at : tie.After-seat-at Inv-loop μ-loop = search in
+    let after-chain-arg : tie.After-chain-arg Inv-loop μ-loop = search in
+    chaining-chain _ _ _ _ _ _ _ _ _ _ _ _ _ (to-at-loop after-seat-at .loop .inv) (to-turn after-seat-at .loop-test .taken) _ _
+    (omega (arith, found-inside (after-chain-arg .before))) (omega (arith, found-inside (after-chain-arg .before))))
+    (λ c.
+    let after-chain : tie.After-chain Inv-loop μ-loop = search in
+    omega (arith, chaining-room _ _ _ _ _ _ _ _ _ _ _ _ _ (to-at-loop-2 after-chain .loop .inv) (to-turn-2 after-chain .loop-test .taken)))
+    (λ c.
+    let after-chain : tie.After-chain Inv-loop μ-loop = search in
+    omega (arith, chaining-few _ _ _ _ _ _ _ _ _ _ _ _ _ (to-at-loop-2 after-chain .loop .inv) (to-turn-2 after-chain .loop-test .taken)))
+    (λ c.
+    let after-chain : tie.After-chain Inv-loop μ-loop = search in
+    omega (arith, chaining-room _ _ _ _ _ _ _ _ _ _ _ _ _ (to-at-loop-2 after-chain .loop .inv) (to-turn-2 after-chain .loop-test .taken)))
+    (λ c.
+    let after-chain : tie.After-chain Inv-loop μ-loop = search in
+    chaining-more _ _ _ _ _ _ _ _ _ _ _ _ _ (to-at-loop-2 after-chain .loop .inv) (to-turn-2 after-chain .loop-test .taken) _ _ _
+    (seat-found (to-after-chain-arg after-chain .before)) _ _ _ (after-chain .chain .ensures))
+    (λ c. c .before .loop .inv .links-kept)
+    (λ c. c .before .loop .inv .ends-kept)
+    (λ c. search chaining-ends))

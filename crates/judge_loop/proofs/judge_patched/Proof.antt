@@ -5,55 +5,52 @@ use Rattle.judge_loop.proofs.Laws.Judging.{bars-room, cover-room, chain
 use Rattle.judge_loop.proofs.judge_patched.Statement.{statement}
 use Rattle.judge_loop.proofs.judge_patched.Tie as tie
 
-bars-of-requires : tie.Need-bars-of-requires
-bars-of-requires c κs = let t = c .before .before .before .before .before .before .before .before .before .before .pre in bars-room _ _ _ _ _ _ _ _ _ _ (t .0) (t .1)
+abbrev to-start : tie.After-bars-of → tie.Start
+to-start p = search
 
-judge-cover-requires : tie.Need-judge-cover-requires
-judge-cover-requires c κs = let t = c .before .before .before .before .before .before .before .before .before .before .before .before .before .before .pre in cover-room _ _ _ _ _ _ _ _ _ _ (t .0) (t .1) _ _ (c .before .before .before .bars-of .ensures) _ (t .2)
+abbrev to-after-bars-of : tie.After-judge-cover → tie.After-bars-of
+to-after-bars-of p = search
 
-enum-told : tie.Need-enum-told
-enum-told c = search needs
+abbrev to-start-2 : tie.After-judge-cover → tie.Start
+to-start-2 p = to-start (to-after-bars-of p)
 
-same-length : tie.Need-same-length
-same-length c = search needs
+abbrev to-after-judge-cover : tie.After-chain-cover → tie.After-judge-cover
+to-after-judge-cover p = search
 
-same-length-2 : tie.Need-same-length-2
-same-length-2 c = search needs
+abbrev to-start-3 : tie.After-chain-cover → tie.Start
+to-start-3 p = to-start-2 (to-after-judge-cover p)
 
-same-length-3 : tie.Need-same-length-3
-same-length-3 c = search needs
+abbrev to-after-bars-of-2 : tie.After-chain-cover → tie.After-bars-of
+to-after-bars-of-2 p = to-after-bars-of (to-after-judge-cover p)
 
-returns : tie.Need-returns
-returns c = let t = c .before .before .before .before .before .before .before .before .before .before .before .before .before .before .before .before .before .before .pre in patched-faulty _ _ _ _ _ _ _ _ _ _ (t .0) (t .1) _ _ (c .before .before .before .before .before .before .before .bars-of .ensures) _ (t .2) _ _ (c .before .before .before .judge-cover .ensures) (not-done _ (c .match .keys2)) _
-
-chain-cover-requires : tie.Need-chain-cover-requires
-chain-cover-requires c κs = let t = c .before .before .before .before .before .before .before .before .before .before .before .before .before .before .before .before .before .before .before .before .before .before .before .pre in chain-room _ _ _ _ _ _ _ _ _ _ (t .0) (t .1) _ _ (c .before .before .before .before .before .before .before .before .before .before .before .before .bars-of .ensures) _ (t .2)
-
-same-length-4 : tie.Need-same-length-4
-same-length-4 c = search needs
-
-same-length-5 : tie.Need-same-length-5
-same-length-5 c = search needs
-
-same-length-6 : tie.Need-same-length-6
-same-length-6 c = search needs
-
-returns-2 : tie.Need-returns-2
-returns-2 c = let t = c .before .before .before .before .before .before .before .before .before .before .before .before .before .before .before .before .before .before .before .before .before .before .before .before .before .before .before .before .pre in patched-right _ _ _ _ _ _ _ _ _ _ (t .0) (t .1) _ _ (c .before .before .before .before .before .before .before .before .before .before .before .before .before .before .before .before .before .bars-of .ensures) _ (t .2) _ _ (c .before .before .before .before .before .before .before .before .before .before .before .before .before .judge-cover .ensures) _ (c .before .before .before .before .before .before .before .before .before .before .before .before .table .given) _ _ _ _ (c .before .before .before .before .chain-cover .ensures)
+abbrev to-after-table : tie.After-chain-cover → tie.After-table
+to-after-table p = search
 
 pub judge-patched-spec : {M : Type 1} → statement M
 judge-patched-spec =
     tie.close
     (tie.spec
-    bars-of-requires
-    judge-cover-requires
-    enum-told
-    same-length
-    same-length-2
-    same-length-3
-    returns
-    chain-cover-requires
-    same-length-4
-    same-length-5
-    same-length-6
-    returns-2)
+    (λ c κs. let start : tie.Start = search in let t = start .pre in bars-room _ _ _ _ _ _ _ _ _ _ (t .0) (t .1))
+    (λ c κs.
+    let after-bars-of : tie.After-bars-of = search in
+    let t = (to-start after-bars-of) .pre in cover-room _ _ _ _ _ _ _ _ _ _ (t .0) (t .1) _ _ (after-bars-of .bars-of .ensures) _ (t .2))
+    (λ c. search needs)
+    (λ c. search needs)
+    (λ c. search needs)
+    (λ c. search needs)
+    (λ c.
+    let after-judge-cover : tie.After-judge-cover = search in
+    let t = (to-start-2 after-judge-cover) .pre in patched-faulty _ _ _ _ _ _ _ _ _ _ (t .0) (t .1) _ _
+    (to-after-bars-of after-judge-cover .bars-of .ensures) _ (t .2) _ _ (after-judge-cover .judge-cover .ensures) (not-done _ (c .match .keys2)) _)
+    (λ c κs.
+    let after-judge-cover : tie.After-judge-cover = search in
+    let t = (to-start-2 after-judge-cover) .pre in chain-room _ _ _ _ _ _ _ _ _ _ (t .0) (t .1) _ _ (to-after-bars-of after-judge-cover .bars-of .ensures) _
+    (t .2))
+    (λ c. search needs)
+    (λ c. search needs)
+    (λ c. search needs)
+    (λ c.
+    let after-chain-cover : tie.After-chain-cover = search in
+    let t = (to-start-3 after-chain-cover) .pre in patched-right _ _ _ _ _ _ _ _ _ _ (t .0) (t .1) _ _
+    (to-after-bars-of-2 after-chain-cover .bars-of .ensures) _ (t .2) _ _ (to-after-judge-cover after-chain-cover .judge-cover .ensures) _
+    (to-after-table after-chain-cover .table .given) _ _ _ _ (after-chain-cover .chain-cover .ensures)))

@@ -21,73 +21,66 @@ seat-found : (c : tie.After-known-told Inv-loop μ-loop)
     → SeatFound (c .before .before .before .before .before .before .before .args .set .now) (c .before .before .before .before .before .loop .q) (c .before .before .before .before .before .before .before .args .stamps .now) (c .before .before .before .before .before .before .before .args .base) (Of (c .before .seat .given .0 .0) (c .before .seat .given .0 .1 .0) (c .before .seat .given .0 .1 .1 .0))
 seat-found c = subst (SeatFound _ _ _ _) (c .before .seat .given .1) (c .before .before .before .seat-at .ensures)
 
-loop-holds : tie.Need-loop-holds Inv-loop μ-loop
-loop-holds c = closing-begins _ _ _ _ (c .before .pre .0)
+abbrev to-at-loop : tie.After-seat-at Inv-loop μ-loop → tie.At-loop Inv-loop μ-loop
+to-at-loop p = search
 
-seat-at-requires : tie.Need-seat-at-requires Inv-loop μ-loop
-seat-at-requires c κs = (closing-room _ _ _ _ _ (c .before .loop .inv) (c .loop-test .taken), c .before .before .before .pre .1)
+abbrev to-turn : tie.After-seat-at Inv-loop μ-loop → tie.In-loop Inv-loop μ-loop
+to-turn p = search
 
-enum-known-seat : tie.Need-enum-known-seat Inv-loop μ-loop
-enum-known-seat c = search needs
+abbrev to-after-is-set-arg : tie.After-is-set Inv-loop μ-loop → tie.After-is-set-arg Inv-loop μ-loop
+to-after-is-set-arg p = search
 
-enum-told : tie.Need-enum-told Inv-loop μ-loop
-enum-told c = search needs
+abbrev to-after-seat-at : tie.After-is-set Inv-loop μ-loop → tie.After-seat-at Inv-loop μ-loop
+to-after-seat-at p = search
 
-returns : tie.Need-returns Inv-loop μ-loop
-returns c = closing-seatless _ _ _ _ _ (c .before .before .before .before .loop .inv) (c .before .before .before .loop-test .taken) (subst (SeatFound _ _ _ _) (c .enum-told .given .1) (c .before .before .seat-at .ensures))
+abbrev to-at-loop-2 : tie.After-is-set Inv-loop μ-loop → tie.At-loop Inv-loop μ-loop
+to-at-loop-2 p = to-at-loop (to-after-seat-at p)
 
-mul-is-set : tie.Need-mul-is-set Inv-loop μ-loop
-mul-is-set c = omega (arith, seat-found c .fits)
+abbrev to-after-is-set : tie.After-is-set2 Inv-loop μ-loop → tie.After-is-set Inv-loop μ-loop
+to-after-is-set p = search
 
-element-copy-out-is-set : tie.Need-element-copy-out-is-set Inv-loop μ-loop
-element-copy-out-is-set c = omega (arith, seat-found c .fits)
+abbrev to-at-loop-3 : tie.After-is-set2 Inv-loop μ-loop → tie.At-loop Inv-loop μ-loop
+to-at-loop-3 p = to-at-loop-2 (to-after-is-set p)
 
-is-set-requires : tie.Need-is-set-requires Inv-loop μ-loop
-is-set-requires c κs = omega (arith, seat-found (c .before) .fits)
+abbrev to-turn-2 : tie.After-is-set Inv-loop μ-loop → tie.In-loop Inv-loop μ-loop
+to-turn-2 p = to-turn (to-after-seat-at p)
 
-mul-is-set-2 : tie.Need-mul-is-set-2 Inv-loop μ-loop
-mul-is-set-2 c = omega (arith, seat-found (c .before .before) .fits)
+abbrev to-turn-3 : tie.After-is-set2 Inv-loop μ-loop → tie.In-loop Inv-loop μ-loop
+to-turn-3 p = to-turn-2 (to-after-is-set p)
 
-element-copy-out-is-set-2 : tie.Need-element-copy-out-is-set-2 Inv-loop μ-loop
-element-copy-out-is-set-2 c = omega (arith, seat-found (c .before .before) .fits)
-
-is-set-requires-2 : tie.Need-is-set-requires-2 Inv-loop μ-loop
-is-set-requires-2 c κs = omega (arith, seat-found (c .before .before .before) .fits)
-
-returns-2 : tie.Need-returns-2 Inv-loop μ-loop
-returns-2 c = closing-stops _ _ _ _ _ (c .before .before .before .before .before .before .before .before .before .before .loop .inv) _ _ _ (c .before .before .before .before .before .before .before .before .before .loop-test .taken) (seat-found (c .before .before .before .before .before)) _ _ (c .before .before .before .is-set .ensures) (c .before .is-set2 .ensures) (c .if1 .taken)
-
-add-q : tie.Need-add-q Inv-loop μ-loop
-add-q c = omega (arith, closing-room _ _ _ _ _ (c .before .before .before .before .before .before .before .before .before .before .loop .inv) (c .before .before .before .before .before .before .before .before .before .loop-test .taken))
-
-loop-less : tie.Need-loop-less Inv-loop μ-loop
-loop-less c = search needs
-
-loop-again : tie.Need-loop-again Inv-loop μ-loop
-loop-again c = closing-more _ _ _ _ _ (c .before .before .before .before .before .before .before .before .before .before .loop .inv) _ _ _ (c .before .before .before .before .before .before .before .before .before .loop-test .taken) (seat-found (c .before .before .before .before .before)) _ _ (c .before .before .before .is-set .ensures) (c .before .is-set2 .ensures) (c .if1 .left)
-
-returns-3 : tie.Need-returns-3 Inv-loop μ-loop
-returns-3 c = closing-ends _ _ _ _ _ (c .before .loop .inv) (c .loop-test .left)
+abbrev to-after-is-set-arg-2 : tie.After-is-set2 Inv-loop μ-loop → tie.After-is-set-arg Inv-loop μ-loop
+to-after-is-set-arg-2 p = to-after-is-set-arg (to-after-is-set p)
 
 pub closed-spec : {M : Type 1} → statement M
 closed-spec =
     tie.close
-    (tie.spec
-    Inv-loop
-    μ-loop
-    loop-holds
-    seat-at-requires
-    enum-known-seat
-    enum-told
-    returns
-    mul-is-set
-    element-copy-out-is-set
-    is-set-requires
-    mul-is-set-2
-    element-copy-out-is-set-2
-    is-set-requires-2
-    returns-2
-    add-q
-    loop-less
-    loop-again
-    returns-3)
+    (tie.spec Inv-loop μ-loop
+    (λ c. search closing-begins)
+    (λ c κs. let start : tie.Start Inv-loop μ-loop = search in (closing-room _ _ _ _ _ (c .before .loop .inv) (c .loop-test .taken), start .pre .1))
+    (λ c. search needs)
+    (λ c. search needs)
+    (λ c.
+    let after-seat-at : tie.After-seat-at Inv-loop μ-loop = search in
+    closing-seatless _ _ _ _ _ (to-at-loop after-seat-at .loop .inv) (to-turn after-seat-at .loop-test .taken)
+    (subst (SeatFound _ _ _ _) (c .enum-told .given .1) (after-seat-at .seat-at .ensures)))
+    (λ c. omega (arith, seat-found c .fits))
+    (λ c. omega (arith, seat-found c .fits))
+    (λ c κs. omega (arith, seat-found (c .before) .fits))
+    (λ c. omega (arith, seat-found (c .before .before) .fits))
+    (λ c. omega (arith, seat-found (c .before .before) .fits))
+    (λ c κs. let after-is-set : tie.After-is-set Inv-loop μ-loop = search in omega (arith, seat-found (to-after-is-set-arg after-is-set .before) .fits))
+    (λ c.
+    let after-is-set2 : tie.After-is-set2 Inv-loop μ-loop = search in
+    closing-stops _ _ _ _ _ (to-at-loop-3 after-is-set2 .loop .inv) _ _ _ (to-turn-3 after-is-set2 .loop-test .taken)
+    (seat-found (to-after-is-set-arg-2 after-is-set2 .before)) _ _ (to-after-is-set after-is-set2 .is-set .ensures) (c .before .is-set2 .ensures)
+    (c .if1 .taken))
+    (λ c.
+    let after-is-set2 : tie.After-is-set2 Inv-loop μ-loop = search in
+    omega (arith, closing-room _ _ _ _ _ (to-at-loop-3 after-is-set2 .loop .inv) (to-turn-3 after-is-set2 .loop-test .taken)))
+    (λ c. search needs)
+    (λ c.
+    let after-is-set2 : tie.After-is-set2 Inv-loop μ-loop = search in
+    closing-more _ _ _ _ _ (to-at-loop-3 after-is-set2 .loop .inv) _ _ _ (to-turn-3 after-is-set2 .loop-test .taken)
+    (seat-found (to-after-is-set-arg-2 after-is-set2 .before)) _ _ (to-after-is-set after-is-set2 .is-set .ensures) (c .before .is-set2 .ensures)
+    (c .if1 .left))
+    (λ c. search closing-ends))

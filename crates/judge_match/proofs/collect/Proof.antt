@@ -21,65 +21,39 @@ seat-found : (c : tie.After-known-told Inv-loop μ-loop)
     → SeatFound (c .before .before .before .before .before .before .before .args .set .now) (c .before .before .before .before .before .loop .q) (c .before .before .before .before .before .before .before .args .stamps .now) (c .before .before .before .before .before .before .before .args .base) (Of (c .before .seat .given .0 .0) (c .before .seat .given .0 .1 .0) (c .before .seat .given .0 .1 .1 .0))
 seat-found c = subst (SeatFound _ _ _ _) (c .before .seat .given .1) (c .before .before .before .seat-at .ensures)
 
-loop-holds : tie.Need-loop-holds Inv-loop μ-loop
-loop-holds c = collecting-begins _ _ _ _ (c .before .pre .0) (c .before .pre .2)
+abbrev to-at-loop : tie.After-seat-at Inv-loop μ-loop → tie.At-loop Inv-loop μ-loop
+to-at-loop p = search
 
-seat-at-requires : tie.Need-seat-at-requires Inv-loop μ-loop
-seat-at-requires c κs = (collecting-room _ _ _ _ _ _ (c .before .loop .inv) (c .loop-test .taken), c .before .before .before .pre .1)
+abbrev to-turn : tie.After-seat-at Inv-loop μ-loop → tie.In-loop Inv-loop μ-loop
+to-turn p = search
 
-enum-known-seat : tie.Need-enum-known-seat Inv-loop μ-loop
-enum-known-seat c = search needs
+abbrev to-after-seat-at : tie.After-with Inv-loop μ-loop → tie.After-seat-at Inv-loop μ-loop
+to-after-seat-at p = search
 
-enum-told : tie.Need-enum-told Inv-loop μ-loop
-enum-told c = search needs
+abbrev to-at-loop-2 : tie.After-with Inv-loop μ-loop → tie.At-loop Inv-loop μ-loop
+to-at-loop-2 p = to-at-loop (to-after-seat-at p)
 
-returns : tie.Need-returns Inv-loop μ-loop
-returns c = collecting-stops _ _ _ _ _ _ (c .before .before .before .before .loop .inv) (c .before .before .before .loop-test .taken) (subst (SeatFound _ _ _ _) (c .enum-told .given .1) (c .before .before .seat-at .ensures))
-
-mul-with : tie.Need-mul-with Inv-loop μ-loop
-mul-with c = omega (arith, seat-found c .fits)
-
-element-copy-out-with : tie.Need-element-copy-out-with Inv-loop μ-loop
-element-copy-out-with c = omega (arith, seat-found c .fits)
-
-with-requires : tie.Need-with-requires Inv-loop μ-loop
-with-requires c κs = omega (arith, seat-found (c .before) .fits)
-
-mul-has : tie.Need-mul-has Inv-loop μ-loop
-mul-has c = omega (arith, seat-found (c .before .before) .fits)
-
-element-write-has : tie.Need-element-write-has Inv-loop μ-loop
-element-write-has c = omega (arith, seat-found (c .before .before) .fits)
-
-add-q : tie.Need-add-q Inv-loop μ-loop
-add-q c = omega (arith, collecting-room _ _ _ _ _ _ (c .before .before .before .before .before .before .before .loop .inv) (c .before .before .before .before .before .before .loop-test .taken))
-
-loop-less : tie.Need-loop-less Inv-loop μ-loop
-loop-less c = search needs
-
-loop-again : tie.Need-loop-again Inv-loop μ-loop
-loop-again c = collecting-more _ _ _ _ _ _ (c .before .before .before .before .before .before .before .loop .inv) _ _ _ _ (c .before .before .before .before .before .before .loop-test .taken) (seat-found (c .before .before)) (c .with .ensures)
-
-returns-2 : tie.Need-returns-2 Inv-loop μ-loop
-returns-2 c = collecting-ends _ _ _ _ _ _ (c .before .loop .inv) (c .loop-test .left)
+abbrev to-turn-2 : tie.After-with Inv-loop μ-loop → tie.In-loop Inv-loop μ-loop
+to-turn-2 p = to-turn (to-after-seat-at p)
 
 pub collect-spec : {M : Type 1} → statement M
 collect-spec =
     tie.close
-    (tie.spec
-    Inv-loop
-    μ-loop
-    loop-holds
-    seat-at-requires
-    enum-known-seat
-    enum-told
-    returns
-    mul-with
-    element-copy-out-with
-    with-requires
-    mul-has
-    element-write-has
-    add-q
-    loop-less
-    loop-again
-    returns-2)
+    (tie.spec Inv-loop μ-loop
+    (λ c. search collecting-begins)
+    (λ c κs. let start : tie.Start Inv-loop μ-loop = search in (collecting-room _ _ _ _ _ _ (c .before .loop .inv) (c .loop-test .taken), start .pre .1))
+    (λ c. search needs)
+    (λ c. search needs)
+    (λ c.
+    let after-seat-at : tie.After-seat-at Inv-loop μ-loop = search in
+    collecting-stops _ _ _ _ _ _ (to-at-loop after-seat-at .loop .inv) (to-turn after-seat-at .loop-test .taken)
+    (subst (SeatFound _ _ _ _) (c .enum-told .given .1) (after-seat-at .seat-at .ensures)))
+    (λ c. omega (arith, seat-found c .fits))
+    (λ c. omega (arith, seat-found c .fits))
+    (λ c κs. omega (arith, seat-found (c .before) .fits))
+    (λ c. omega (arith, seat-found (c .before .before) .fits))
+    (λ c. omega (arith, seat-found (c .before .before) .fits))
+    (λ c. omega (arith, collecting-room _ _ _ _ _ _ (to-at-loop-2 c .loop .inv) (to-turn-2 c .loop-test .taken)))
+    (λ c. search needs)
+    (λ c. collecting-more _ _ _ _ _ _ (to-at-loop-2 c .loop .inv) _ _ _ _ (to-turn-2 c .loop-test .taken) (seat-found (c .before .before)) (c .with .ensures))
+    (λ c. search collecting-ends))

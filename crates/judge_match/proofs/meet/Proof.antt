@@ -3,8 +3,5 @@ use Rattle.judge_match.proofs.Laws.Meets.{meet-is}
 use Rattle.judge_match.proofs.meet.Statement.{statement}
 use Rattle.judge_match.proofs.meet.Tie as tie
 
-returns : tie.Need-returns
-returns c = meet-is _ _ _ (c .fits .both) (c .fits .row) (c .fits .bar)
-
 pub meet-spec : {M : Type 1} → statement M
-meet-spec = tie.close (tie.spec returns)
+meet-spec = tie.close (tie.spec (λ c. meet-is _ _ _ (c .fits .both) (c .fits .row) (c .fits .bar)))

@@ -4,17 +4,14 @@ use Rattle.judge_sight.proofs.Laws.Threes.{sight-three}
 use Rattle.judge_sight.proofs.judge_at_sight.Statement.{statement}
 use Rattle.judge_sight.proofs.judge_at_sight.Tie as tie
 
-judge-long-requires : tie.Need-judge-long-requires
-judge-long-requires c κs = search needs
-
-returns : tie.Need-returns
-returns c = c .judge-long .ensures _ (c .before .if1 .taken) (c .before .before .before .before .args .set .now) (c .before .before .before .before .args .at)
-
-judge-three-requires : tie.Need-judge-three-requires
-judge-three-requires c κs = sight-three _ _ _ (c .before .before .before .pre) (c .if1 .left)
-
-returns-2 : tie.Need-returns-2
-returns-2 c = c .judge-three .ensures
+abbrev to-start : tie.After-judge-long → tie.Start
+to-start p = search
 
 pub judge-at-sight-spec : {M : Type 1} → statement M
-judge-at-sight-spec = tie.close (tie.spec judge-long-requires returns judge-three-requires returns-2)
+judge-at-sight-spec =
+    tie.close
+    (tie.spec
+    (λ c κs. search needs)
+    (λ c. let start = to-start c in c .judge-long .ensures _ (c .before .if1 .taken) (start .args .set .now) (start .args .at))
+    (λ c κs. let start : tie.Start = search in sight-three _ _ _ (start .pre) (c .if1 .left))
+    (λ c. c .judge-three .ensures))

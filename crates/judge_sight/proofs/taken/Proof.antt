@@ -6,17 +6,11 @@ use Rattle.judge_rules.proofs.Laws.Filled.{taken-patched, taken-none}
 use Rattle.judge_sight.proofs.taken.Statement.{statement}
 use Rattle.judge_sight.proofs.taken.Tie as tie
 
-sub-result : tie.Need-sub-result
-sub-result c = search needs
-
-mul-result : tie.Need-mul-result
-mul-result c = search needs
-
-returns : tie.Need-returns
-returns c = λ ring e. ap (λ (k : ℕ). 3 * (k - 2)) (sym e) ∙ sym (taken-patched ring _ (c .if1 .taken))
-
-returns-2 : tie.Need-returns-2
-returns-2 c = λ ring e. sym (taken-none ring _ (c .if1 .left))
-
 pub taken-spec : {M : Type 1} → statement M
-taken-spec = tie.close (tie.spec sub-result mul-result returns returns-2)
+taken-spec =
+    tie.close
+    (tie.spec
+    (λ c. search needs)
+    (λ c. search needs)
+    (λ c. λ ring e. ap (λ (k : ℕ). 3 * (k - 2)) (sym e) ∙ sym (taken-patched ring _ (c .if1 .taken)))
+    (λ c. λ ring e. sym (taken-none ring _ (c .if1 .left))))

@@ -107,12 +107,17 @@ judge-with-spec =
     (λ c κs. search needs)
     (λ c κs. search needs)
     (λ c. let t : tie.After-turns = search in t .turns .given)
-    (λ c. let t : tie.After-turns = search in content-refuse _ _ _ _ (lent-here (entry t)) (entry t .pre .scratch .counts) _ _ _ (c .refused .ensures) (t .before .check .ensures) (sym (c .before .before .refuses .ensures) ∙ c .before .if1 .taken))
+    (λ c.
+    let t : tie.After-turns = search in content-refuse _ _ _ _ (lent-here (entry t)) (entry t .pre .scratch .counts) _ _ _ (c .refused .ensures)
+    (t .before .check .ensures) (sym (c .before .before .refuses .ensures) ∙ c .before .if1 .taken))
     (λ c κs.
     let p : tie.Else1 = search in
     let k = known-here p in
-    let s = entry (checked p) in
-    (ready k _ _ _ (still-long (s .pre .scratch .turns-long) (checked p .turns .given)) (s .pre .rings-long) (s .pre .lengths-long) (s .pre .marks-long), lent-long k _ _ (s .pre .scratch .path-long) (s .pre .scratch .places-long)))
+    let s = entry (checked p) in (
+      ready k _ _ _ (still-long (s .pre .scratch .turns-long) (checked p .turns .given)) (s .pre .rings-long) (s .pre .lengths-long) (s .pre .marks-long),
+      lent-long k _ _
+          (s .pre .scratch .path-long) (s .pre .scratch .places-long),
+    ))
     (λ c κs. search needs)
     (λ c. let n : tie.After-marks = search in let l = turns-listed n in l .turns2 .given ∙ checked (passed l) .turns .given)
     (λ c. let l : tie.After-path = search in l .path .given)
@@ -123,10 +128,13 @@ judge-with-spec =
     (λ c.
     let n : tie.After-marks = search in
     let l = turns-listed n in
-    states-refuse _ _ _ _ (lent-here (entry (checked (passed l)))) (known-here (passed l)) _ _ _ _ _ _ _ (l .before .list-with .ensures .0) _ (c .refused2 .ensures) (c .before .if2 .taken))
+    states-refuse _ _ _ _ (lent-here (entry (checked (passed l)))) (known-here (passed l)) _ _ _ _ _ _ _ (l .before .list-with .ensures .0) _ (c .refused2 .ensures)
+    (c .before .if2 .taken))
     (λ c κs. let p : tie.Else2 = search in grid-ready (known-here (passed (turns-listed (listed p)))))
     (λ c κs. let g : tie.After-grid = search in let l = turns-listed (listed (counted g)) in rings-room (known-here (passed l)) (l .before .list-with .ensures .0))
-    (λ c κs. let r : tie.After-rings = search in let l = turns-listed (listed (counted (gridded r))) in lengths-room (known-here (passed l)) (l .before .list-with .ensures .0))
+    (λ c κs.
+    let r : tie.After-rings = search in let l = turns-listed (listed (counted (gridded r))) in lengths-room (known-here (passed l))
+    (l .before .list-with .ensures .0))
     grid-there
     (λ c. as-long _ _ (grid-there (c .before)))
     rings-there
@@ -140,7 +148,10 @@ judge-with-spec =
     let l = turns-listed n in
     let p = passed l in
     let s = entry (checked p) in
-    mark-room (known-here p) (lists-laid (turns-listed (listed (counted (gridded (ringed q)))) .before .list-with .ensures .0) _ _ _ _ (ringed q .before .lay-front .ensures) (q .before .lay-front2 .ensures)) (g .before .lay-grid .ensures) (l .before .list-with .ensures .1) (still-long (still-long (s .pre .scratch .turns-long) (checked p .turns .given)) (l .turns2 .given))
+    mark-room (known-here p)
+    (lists-laid (turns-listed (listed (counted (gridded (ringed q)))) .before .list-with .ensures .0) _ _ _ _ (ringed q .before .lay-front .ensures)
+    (q .before .lay-front2 .ensures))
+    (g .before .lay-grid .ensures) (l .before .list-with .ensures .1) (still-long (still-long (s .pre .scratch .turns-long) (checked p .turns .given)) (l .turns2 .given))
     (still-long (s .pre .scratch .path-long) (path-listed n .path .given)) (still-long (s .pre .scratch .pieces-long) (places-listed n .places .given)))
     grid-still
     (λ c. as-long _ _ (grid-still (c .before)))
@@ -155,8 +166,12 @@ judge-with-spec =
     let e = counted g in
     let p = passed (turns-listed (listed e)) in
     let s = entry (checked p) in
-    verdict-room (s .args .words .now) (s .args .corners .now) (lent-here s) (known-here p) (lists-laid (turns-listed (listed (counted (gridded (ringed q)))) .before .list-with .ensures .0) _ _ _ _ (ringed q .before .lay-front .ensures) (q .before .lay-front2 .ensures)) (g .before .lay-grid .ensures) (m .before .mark .ensures) _ (e .if2 .left))
-    (λ c. let m = marked c in let l = turns-listed (listed (counted (gridded (ringed (laid m))))) in m .turns3 .given ∙ l .turns2 .given ∙ checked (passed l) .turns .given)
+    verdict-room (s .args .words .now) (s .args .corners .now) (lent-here s) (known-here p)
+    (lists-laid (turns-listed (listed (counted (gridded (ringed q)))) .before .list-with .ensures .0) _ _ _ _ (ringed q .before .lay-front .ensures)
+    (q .before .lay-front2 .ensures))
+    (g .before .lay-grid .ensures) (m .before .mark .ensures) _ (e .if2 .left))
+    (λ c.
+    let m = marked c in let l = turns-listed (listed (counted (gridded (ringed (laid m))))) in m .turns3 .given ∙ l .turns2 .given ∙ checked (passed l) .turns .given)
     (λ c. let m = path-marked c in m .path2 .given ∙ path-listed (listed (counted (gridded (ringed (laid (m .before .before)))))) .path .given)
     (λ c. let m = places-marked c in m .places2 .given ∙ places-listed (listed (counted (gridded (ringed (laid (m .before .before .before .before)))))) .places .given)
     (λ c. found-listed (listed (counted (gridded (ringed (laid (marked c)))))) .found .given)
@@ -172,4 +187,7 @@ judge-with-spec =
     let e = counted g in
     let p = passed (turns-listed (listed e)) in
     let s = entry (checked p) in
-    judges (s .args .words .now) (s .args .corners .now) (lent-here s) (known-here p) (lists-laid (turns-listed (listed (counted (gridded (ringed q)))) .before .list-with .ensures .0) _ _ _ _ (ringed q .before .lay-front .ensures) (q .before .lay-front2 .ensures)) (g .before .lay-grid .ensures) (m .before .mark .ensures) _ (e .if2 .left) _ _ (c .verdict .ensures)))
+    judges (s .args .words .now) (s .args .corners .now) (lent-here s) (known-here p)
+    (lists-laid (turns-listed (listed (counted (gridded (ringed q)))) .before .list-with .ensures .0) _ _ _ _ (ringed q .before .lay-front .ensures)
+    (q .before .lay-front2 .ensures))
+    (g .before .lay-grid .ensures) (m .before .mark .ensures) _ (e .if2 .left) _ _ (c .verdict .ensures)))

@@ -14,89 +14,56 @@ Inv-loop corners h turns₀ path₀ places₀ rings₀ lengths₀ firsts₀ at�
 abbrev μ-loop : tie.MeasureT-loop
 μ-loop corners h turns₀ path₀ places₀ rings₀ lengths₀ firsts₀ at₀ e₀ turns path places rings lengths firsts at e = length corners - (at .vertices + at .path)
 
-loop-holds : tie.Need-loop-holds Inv-loop μ-loop
-loop-holds c = going-begins _ _ _ _ _ _ _ _ _ (c .before .before .before .before .before .before .before .pre)
+abbrev to-start : tie.After-grow Inv-loop μ-loop → tie.Start Inv-loop μ-loop
+to-start p = search
 
-mul-if1 : tie.Need-mul-if1 Inv-loop μ-loop
-mul-if1 c = omega (arith, going-index _ _ _ _ _ _ _ _ _ (c .before .before .before .before .before .before .before .before .pre) _ _ _ _ _ _ _ _ (c .loop .inv))
+abbrev to-after-grow : tie.After-turned Inv-loop μ-loop → tie.After-grow Inv-loop μ-loop
+to-after-grow p = search
 
-slice-read-if1 : tie.Need-slice-read-if1 Inv-loop μ-loop
-slice-read-if1 c = going-index _ _ _ _ _ _ _ _ _ (c .before .before .before .before .before .before .before .before .before .pre) _ _ _ _ _ _ _ _ (c .before .loop .inv)
+abbrev to-start-2 : tie.After-turned Inv-loop μ-loop → tie.Start Inv-loop μ-loop
+to-start-2 p = to-start (to-after-grow p)
 
-mul-f : tie.Need-mul-f Inv-loop μ-loop
-mul-f c = omega (arith, going-index _ _ _ _ _ _ _ _ _ (c .before .before .before .before .before .before .before .before .before .before .pre) _ _ _ _ _ _ _ _ (c .before .before .loop .inv))
+abbrev to-at-loop : tie.After-grow Inv-loop μ-loop → tie.At-loop Inv-loop μ-loop
+to-at-loop p = search
 
-slice-read-f : tie.Need-slice-read-f Inv-loop μ-loop
-slice-read-f c = going-index _ _ _ _ _ _ _ _ _ (c .before .before .before .before .before .before .before .before .before .before .before .pre) _ _ _ _ _ _ _ _ (c .before .before .before .loop .inv)
+abbrev to-at-loop-2 : tie.After-turned Inv-loop μ-loop → tie.At-loop Inv-loop μ-loop
+to-at-loop-2 p = to-at-loop (to-after-grow p)
 
-sub-f : tie.Need-sub-f Inv-loop μ-loop
-sub-f c = search needs
+abbrev to-then1 : tie.After-grow Inv-loop μ-loop → tie.Then1 Inv-loop μ-loop
+to-then1 p = search
 
-cast-f : tie.Need-cast-f Inv-loop μ-loop
-cast-f c = omega (arith, c .slice-known8 .given (c .before .before .before .loop .e))
-
-mul-turns : tie.Need-mul-turns Inv-loop μ-loop
-mul-turns c = omega (arith, going-index _ _ _ _ _ _ _ _ _ (c .before .before .before .before .before .before .before .before .before .before .before .pre) _ _ _ _ _ _ _ _ (c .before .before .before .loop .inv))
-
-slice-write-turns : tie.Need-slice-write-turns Inv-loop μ-loop
-slice-write-turns c = going-index _ _ _ _ _ _ _ _ _ (c .before .before .before .before .before .before .before .before .before .before .before .pre) _ _ _ _ _ _ _ _ (c .before .before .before .loop .inv)
-
-grow-requires : tie.Need-grow-requires Inv-loop μ-loop
-grow-requires c κs = going-room _ _ _ _ _ _ _ _ _ (c .before .before .before .before .before .before .before .before .before .before .before .before .before .before .before .before .pre) _ _ _ _ _ _ _ _ (c .before .before .before .before .before .before .before .before .loop .inv) (c .before .before .before .before .before .before .if1 .taken) _ refl
-
-turned-requires : tie.Need-turned-requires Inv-loop μ-loop
-turned-requires c κs = going-landing _ _ _ _ _ _ _ _ _ (c .before .before .before .before .before .before .before .before .before .before .before .before .before .before .before .before .before .before .before .before .before .before .before .before .before .before .before .before .pre) _ _ _ _ _ _ _ _ (c .before .before .before .before .before .before .before .before .before .before .before .before .before .before .before .before .before .before .before .before .loop .inv) (c .before .before .before .before .before .before .before .before .before .before .before .before .before .before .before .before .before .before .if1 .taken) _ refl
-
-loop-less : tie.Need-loop-less Inv-loop μ-loop
-loop-less c = going-less _ _ _ _ _ _ _ _ _ (c .before .before .before .before .before .before .before .before .before .before .before .before .before .before .before .before .before .before .before .before .before .before .before .before .before .before .before .before .before .pre) _ _ _ _ _ _ _ _ (c .before .before .before .before .before .before .before .before .before .before .before .before .before .before .before .before .before .before .before .before .before .loop .inv) (c .before .before .before .before .before .before .before .before .before .before .before .before .before .before .before .before .before .before .before .if1 .taken) _ refl _ _ _ _ _ _ (c .before .before .before .before .before .before .before .before .before .before .before .before .grow .ensures)
-
-loop-again : tie.Need-loop-again Inv-loop μ-loop
-loop-again c = going-on _ _ _ _ _ _ _ _ _ (c .before .before .before .before .before .before .before .before .before .before .before .before .before .before .before .before .before .before .before .before .before .before .before .before .before .before .before .before .before .pre) _ _ _ _ _ _ _ _ (c .before .before .before .before .before .before .before .before .before .before .before .before .before .before .before .before .before .before .before .before .before .loop .inv) (c .before .before .before .before .before .before .before .before .before .before .before .before .before .before .before .before .before .before .before .if1 .taken) _ refl _ _ _ _ _ _ (c .before .before .before .before .before .before .before .before .before .before .before .before .grow .ensures) _ (c .turned .ensures) (c .before .before .before .before .before .before .before .before .before .before .before .before .grow .kept .1 .1 .1 .0) (c .before .before .before .before .before .before .before .before .before .before .before .before .grow .kept .1 .1 .1 .1 .0) (c .before .before .before .before .before .before .before .before .before .before .before .before .grow .kept .1 .1 .1 .1 .1 .0) (c .before .before .before .before .before .before .before .before .before .before .before .before .grow .kept .1 .1 .1 .1 .1 .1 .0) (c .before .before .before .before .before .before .before .before .before .before .before .before .grow .kept .1 .1 .1 .1 .1 .1 .1 .0)
-
-same-length : tie.Need-same-length Inv-loop μ-loop
-same-length c = c .before .before .loop .inv .turns-same
-
-same-length-2 : tie.Need-same-length-2 Inv-loop μ-loop
-same-length-2 c = c .before .before .loop .inv .path-same
-
-same-length-3 : tie.Need-same-length-3 Inv-loop μ-loop
-same-length-3 c = c .before .before .loop .inv .places-same
-
-same-length-4 : tie.Need-same-length-4 Inv-loop μ-loop
-same-length-4 c = c .before .before .loop .inv .rings-same
-
-same-length-5 : tie.Need-same-length-5 Inv-loop μ-loop
-same-length-5 c = c .before .before .loop .inv .lengths-same
-
-same-length-6 : tie.Need-same-length-6 Inv-loop μ-loop
-same-length-6 c = c .before .before .loop .inv .firsts-same
-
-returns : tie.Need-returns Inv-loop μ-loop
-returns c = going-ends _ _ _ _ _ _ _ _ _ (c .before .before .before .before .before .before .before .before .before .before .pre) _ _ _ _ _ _ _ _ (c .before .before .loop .inv) (c .if1 .left)
+abbrev to-then1-2 : tie.After-turned Inv-loop μ-loop → tie.Then1 Inv-loop μ-loop
+to-then1-2 p = to-then1 (to-after-grow p)
 
 pub list-cycle-spec : {M : Type 1} → statement M
 list-cycle-spec =
     tie.close
-    (tie.spec
-    Inv-loop
-    μ-loop
-    loop-holds
-    mul-if1
-    slice-read-if1
-    mul-f
-    slice-read-f
-    sub-f
-    cast-f
-    mul-turns
-    slice-write-turns
-    grow-requires
-    turned-requires
-    loop-less
-    loop-again
-    same-length
-    same-length-2
-    same-length-3
-    same-length-4
-    same-length-5
-    same-length-6
-    returns)
+    (tie.spec Inv-loop μ-loop
+    (λ c. search going-begins)
+    (λ c. let start : tie.Start Inv-loop μ-loop = search in omega (arith, going-index _ _ _ _ _ _ _ _ _ (start .pre) _ _ _ _ _ _ _ _ (c .loop .inv)))
+    (λ c. search going-index)
+    (λ c.
+    let start : tie.Start Inv-loop μ-loop = search in
+    let at-loop : tie.At-loop Inv-loop μ-loop = search in
+    omega (arith, going-index _ _ _ _ _ _ _ _ _ (start .pre) _ _ _ _ _ _ _ _ (at-loop .loop .inv)))
+    (λ c. search going-index)
+    (λ c. search needs)
+    (λ c. let at-loop : tie.At-loop Inv-loop μ-loop = search in omega (arith, c .slice-known8 .given (at-loop .loop .e)))
+    (λ c.
+    let start : tie.Start Inv-loop μ-loop = search in
+    let at-loop : tie.At-loop Inv-loop μ-loop = search in
+    omega (arith, going-index _ _ _ _ _ _ _ _ _ (start .pre) _ _ _ _ _ _ _ _ (at-loop .loop .inv)))
+    (λ c. search going-index)
+    (λ c κs. search going-room)
+    (λ c κs. search going-landing)
+    (λ c.
+    going-less _ _ _ _ _ _ _ _ _ (to-start-2 c .pre) _ _ _ _ _ _ _ _ (to-at-loop-2 c .loop .inv) (to-then1-2 c .if1 .taken) _ refl _ _ _ _ _ _
+    (to-after-grow c .grow .ensures))
+    (λ c. search going-on)
+    (λ c. let at-loop : tie.At-loop Inv-loop μ-loop = search in at-loop .loop .inv .turns-same)
+    (λ c. let at-loop : tie.At-loop Inv-loop μ-loop = search in at-loop .loop .inv .path-same)
+    (λ c. let at-loop : tie.At-loop Inv-loop μ-loop = search in at-loop .loop .inv .places-same)
+    (λ c. let at-loop : tie.At-loop Inv-loop μ-loop = search in at-loop .loop .inv .rings-same)
+    (λ c. let at-loop : tie.At-loop Inv-loop μ-loop = search in at-loop .loop .inv .lengths-same)
+    (λ c. let at-loop : tie.At-loop Inv-loop μ-loop = search in at-loop .loop .inv .firsts-same)
+    (λ c. search going-ends))

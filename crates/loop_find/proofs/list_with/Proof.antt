@@ -32,7 +32,9 @@ list-with-spec =
     (λ c κs. let t : Turn = search in search (through-room, t .before .loop .inv, entry t .pre, t .loop-test))
     (λ c. search needs)
     (λ c. search needs)
-    (λ c. let t : Turn = search in let l : tie.After-list-cycle Inv-loop μ-loop = search in search (through-on, t .before .loop .inv, entry t .pre, t .loop-test, l .list-cycle))
+    (λ c.
+    let t : Turn = search in let l : tie.After-list-cycle Inv-loop μ-loop = search in search
+    (through-on, t .before .loop .inv, entry t .pre, t .loop-test, l .list-cycle))
     (λ c. search needs)
     (λ c. search needs)
     (λ c. search needs)

@@ -14,41 +14,15 @@ Inv-loop turns h all₀ i₀ all i = (h ≤ i) × (i ≤ h + 8) × (all ≡ true
 abbrev μ-loop : tie.MeasureT-loop
 μ-loop turns h all₀ i₀ all i = h + 8 - i
 
-loop-holds : tie.Need-loop-holds Inv-loop μ-loop
-loop-holds c = (search needs, search needs, λ t. quiet-none _ _)
-
-add-loop : tie.Need-add-loop Inv-loop μ-loop
-add-loop c = search needs
-
-mul-all : tie.Need-mul-all Inv-loop μ-loop
-mul-all c = search needs
-
-shared-slice-read-all : tie.Need-shared-slice-read-all Inv-loop μ-loop
-shared-slice-read-all c = search needs
-
-add-i : tie.Need-add-i Inv-loop μ-loop
-add-i c = search needs
-
-loop-less : tie.Need-loop-less Inv-loop μ-loop
-loop-less c = search needs
-
-loop-again : tie.Need-loop-again Inv-loop μ-loop
-loop-again c = (search needs, search needs, all-quiet _ _ _ _ (c .before .before .loop .inv .2))
-
-returns : tie.Need-returns Inv-loop μ-loop
-returns c = quiet-end _ _ _ _ _ (c .before .loop .inv .2) (search needs)
-
 pub is-quiet-spec : {M : Type 1} → statement M
 is-quiet-spec =
     tie.close
-    (tie.spec
-    Inv-loop
-    μ-loop
-    loop-holds
-    add-loop
-    mul-all
-    shared-slice-read-all
-    add-i
-    loop-less
-    loop-again
-    returns)
+    (tie.spec Inv-loop μ-loop
+    (λ c. (search needs, search needs, λ t. quiet-none _ _))
+    (λ c. search needs)
+    (λ c. search needs)
+    (λ c. search needs)
+    (λ c. search needs)
+    (λ c. search needs)
+    (λ c. let at-loop : tie.At-loop Inv-loop μ-loop = search in (search needs, search needs, all-quiet _ _ _ _ (at-loop .loop .inv .2)))
+    (λ c. quiet-end _ _ _ _ _ (c .before .loop .inv .2) (search needs)))

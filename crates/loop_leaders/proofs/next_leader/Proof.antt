@@ -12,45 +12,25 @@ Inv-loop turns h n i₀ i = (h ≤ i) × (i ≤ n) × Quiet turns h i
 abbrev μ-loop : tie.MeasureT-loop
 μ-loop turns h n i₀ i = n - i
 
-skip-quiet-requires : tie.Need-skip-quiet-requires Inv-loop μ-loop
-skip-quiet-requires c κs = search needs
-
-loop-holds : tie.Need-loop-holds Inv-loop μ-loop
-loop-holds c = c .skip-quiet .ensures
-
-mul-if1 : tie.Need-mul-if1 Inv-loop μ-loop
-mul-if1 c = search needs
-
-shared-slice-read-if1 : tie.Need-shared-slice-read-if1 Inv-loop μ-loop
-shared-slice-read-if1 c = search needs
-
-returns : tie.Need-returns Inv-loop μ-loop
-returns c = (quiet-after _ _ _ (c .before .before .before .loop .inv .2) (c .before .before .before .before .before .before .pre .2) (c .if1 .taken) (c .before .before .before .loop .inv .0), search needs, c .before .before .before .loop .inv .2)
-
-add-i : tie.Need-add-i Inv-loop μ-loop
-add-i c = search needs
-
-loop-less : tie.Need-loop-less Inv-loop μ-loop
-loop-less c = search needs
-
-loop-again : tie.Need-loop-again Inv-loop μ-loop
-loop-again c = (search needs, search needs, quiet-more _ _ _ (c .before .before .before .loop .inv .2) (c .if1 .left))
-
-returns-2 : tie.Need-returns-2 Inv-loop μ-loop
-returns-2 c = (search needs, search needs, c .before .loop .inv .2)
+abbrev to-start : tie.After-skip-quiet Inv-loop μ-loop → tie.Start Inv-loop μ-loop
+to-start p = search
 
 pub next-leader-spec : {M : Type 1} → statement M
 next-leader-spec =
     tie.close
-    (tie.spec
-    Inv-loop
-    μ-loop
-    skip-quiet-requires
-    loop-holds
-    mul-if1
-    shared-slice-read-if1
-    returns
-    add-i
-    loop-less
-    loop-again
-    returns-2)
+    (tie.spec Inv-loop μ-loop
+    (λ c κs. search needs)
+    (λ c. c .skip-quiet .ensures)
+    (λ c. search needs)
+    (λ c. search needs)
+    (λ c.
+    let at-loop : tie.At-loop Inv-loop μ-loop = search in
+    let after-skip-quiet : tie.After-skip-quiet Inv-loop μ-loop = search in (
+      quiet-after _ _ _ (at-loop .loop .inv .2) (to-start after-skip-quiet .pre .2) (c .if1 .taken) (at-loop .loop .inv .0),
+      search needs,
+      at-loop .loop .inv .2,
+    ))
+    (λ c. search needs)
+    (λ c. search needs)
+    (λ c. let at-loop : tie.At-loop Inv-loop μ-loop = search in (search needs, search needs, quiet-more _ _ _ (at-loop .loop .inv .2) (c .if1 .left)))
+    (λ c. (search needs, search needs, c .before .loop .inv .2)))

@@ -12,45 +12,19 @@ Inv-loop turns f e₀ e = Jumps turns f e
 abbrev μ-loop : tie.MeasureT-loop
 μ-loop turns f e₀ e = away turns (length turns) e
 
-loop-holds : tie.Need-loop-holds Inv-loop μ-loop
-loop-holds c = jumps-begin _ _
-
-mul-if1 : tie.Need-mul-if1 Inv-loop μ-loop
-mul-if1 c = omega (arith, jumps-below _ _ _ (c .loop .inv) (c .before .pre))
-
-shared-slice-read-if1 : tie.Need-shared-slice-read-if1 Inv-loop μ-loop
-shared-slice-read-if1 c = jumps-below _ _ _ (c .before .loop .inv) (c .before .before .pre)
-
-mul-e : tie.Need-mul-e Inv-loop μ-loop
-mul-e c = omega (arith, jumps-below _ _ _ (c .before .before .loop .inv) (c .before .before .before .pre))
-
-shared-slice-read-e : tie.Need-shared-slice-read-e Inv-loop μ-loop
-shared-slice-read-e c = jumps-below _ _ _ (c .before .before .before .loop .inv) (c .before .before .before .before .pre)
-
-cast-e : tie.Need-cast-e Inv-loop μ-loop
-cast-e c = search needs
-
-loop-less : tie.Need-loop-less Inv-loop μ-loop
-loop-less c = jumps-less _ _ _ (c .before .before .before .loop .inv) (c .before .before .before .before .pre) (c .before .if1 .taken)
-
-loop-again : tie.Need-loop-again Inv-loop μ-loop
-loop-again c = jumps-more _ _ _ (c .before .before .before .loop .inv) (c .before .if1 .taken)
-
-returns : tie.Need-returns Inv-loop μ-loop
-returns c = jumps-end _ _ _ (c .before .before .loop .inv) (c .if1 .left)
-
 pub turned-spec : {M : Type 1} → statement M
 turned-spec =
     tie.close
-    (tie.spec
-    Inv-loop
-    μ-loop
-    loop-holds
-    mul-if1
-    shared-slice-read-if1
-    mul-e
-    shared-slice-read-e
-    cast-e
-    loop-less
-    loop-again
-    returns)
+    (tie.spec Inv-loop μ-loop
+    (λ c. search jumps-begin)
+    (λ c. omega (arith, jumps-below _ _ _ (c .loop .inv) (c .before .pre)))
+    (λ c. search jumps-below)
+    (λ c.
+    let at-loop : tie.At-loop Inv-loop μ-loop = search in
+    let start : tie.Start Inv-loop μ-loop = search in
+    omega (arith, jumps-below _ _ _ (at-loop .loop .inv) (start .pre)))
+    (λ c. search jumps-below)
+    (λ c. search needs)
+    (λ c. search jumps-less)
+    (λ c. search jumps-more)
+    (λ c. search jumps-end))

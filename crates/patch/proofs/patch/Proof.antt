@@ -6,87 +6,48 @@ use Rattle.patch_surface.proofs.Laws.Patching.{counts-refuse}
 use Rattle.patch.proofs.patch.Statement.{statement}
 use Rattle.patch.proofs.patch.Tie as tie
 
-check-counts-requires : tie.Need-check-counts-requires
-check-counts-requires c κs = tt
+abbrev to-after-refuses : tie.After-refused → tie.After-refuses
+to-after-refuses p = search
 
-refuses-requires : tie.Need-refuses-requires
-refuses-requires c κs = tt
+abbrev to-after-check-counts : tie.After-refuses → tie.After-check-counts
+to-after-check-counts p = search
 
-refused-requires : tie.Need-refused-requires
-refused-requires c κs = tt
-
-returns : tie.Need-returns
-returns c = counts-refuse _ _ (buffers (c .before .before .before .before .before .before .before .before .before .before .before .args .grid .now) (c .before .before .before .before .before .before .before .before .before .before .before .args .rings .now) (c .before .before .before .before .before .before .before .before .before .before .before .args .lengths .now) (c .before .before .before .before .before .before .before .before .before .before .before .args .states .now) (c .before .before .before .before .before .before .before .before .before .before .before .args .weights .now) (c .before .before .before .before .before .before .before .before .before .before .before .args .patches .now)) _ _ (c .refused .ensures) (c .before .before .before .check-counts .ensures) (sym (c .before .before .refuses .ensures) ∙ c .before .if1 .taken)
-
-patch-few-requires : tie.Need-patch-few-requires
-patch-few-requires c κs = (counts-pass _ _ _ (c .before .before .before .before .before .before .before .before .before .before .check-counts .ensures) (sym (c .before .before .before .before .before .before .before .before .before .refuses .ensures) ∙ c .before .before .before .before .before .before .before .before .if1 .left), c .before .before .before .before .before .before .before .if2 .taken, c .before .before .before .before .before .before .if3 .taken)
-
-same-length : tie.Need-same-length
-same-length c = c .before .before .before .before .before .before .before .before .before .before .grid .given
-
-same-length-2 : tie.Need-same-length-2
-same-length-2 c = c .before .before .before .before .before .before .before .before .before .rings .given
-
-same-length-3 : tie.Need-same-length-3
-same-length-3 c = c .before .before .before .before .before .before .before .lengths .given
-
-same-length-4 : tie.Need-same-length-4
-same-length-4 c = c .before .before .before .before .before .states .given
-
-same-length-5 : tie.Need-same-length-5
-same-length-5 c = c .before .before .before .weights .given
-
-same-length-6 : tie.Need-same-length-6
-same-length-6 c = c .before .patches .given
-
-returns-2 : tie.Need-returns-2
-returns-2 c = c .before .before .before .before .before .before .before .before .before .before .before .patch-few .ensures
-
-patch-many-requires : tie.Need-patch-many-requires
-patch-many-requires c κs = counts-pass _ _ _ (c .before .before .before .before .before .before .before .before .before .check-counts .ensures) (sym (c .before .before .before .before .before .before .before .before .refuses .ensures) ∙ c .before .before .before .before .before .before .before .if1 .left)
-
-same-length-7 : tie.Need-same-length-7
-same-length-7 c = c .before .before .before .before .before .before .before .before .before .before .grid2 .given
-
-same-length-8 : tie.Need-same-length-8
-same-length-8 c = c .before .before .before .before .before .before .before .before .before .rings2 .given
-
-same-length-9 : tie.Need-same-length-9
-same-length-9 c = c .before .before .before .before .before .before .before .lengths2 .given
-
-same-length-10 : tie.Need-same-length-10
-same-length-10 c = c .before .before .before .before .before .states2 .given
-
-same-length-11 : tie.Need-same-length-11
-same-length-11 c = c .before .before .before .weights2 .given
-
-same-length-12 : tie.Need-same-length-12
-same-length-12 c = c .before .patches2 .given
-
-returns-3 : tie.Need-returns-3
-returns-3 c = c .before .before .before .before .before .before .before .before .before .before .before .patch-many .ensures
+abbrev to-start : tie.After-check-counts → tie.Start
+to-start p = search
 
 pub patch-spec : {M : Type 1} → statement M
 patch-spec =
     tie.close
     (tie.spec
-    check-counts-requires
-    refuses-requires
-    refused-requires
-    returns
-    patch-few-requires
-    same-length
-    same-length-2
-    same-length-3
-    same-length-4
-    same-length-5
-    same-length-6
-    returns-2
-    patch-many-requires
-    same-length-7
-    same-length-8
-    same-length-9
-    same-length-10
-    same-length-11
-    same-length-12
-    returns-3)
+    (λ c κs. tt)
+    (λ c κs. tt)
+    (λ c κs. tt)
+    (λ c.
+    let after-refuses = to-after-refuses c in let after-check-counts = to-after-check-counts after-refuses in let start = to-start after-check-counts in
+    counts-refuse _ _
+    (buffers (start .args .grid .now) (start .args .rings .now) (start .args .lengths .now) (start .args .states .now) (start .args .weights .now)
+    (start .args .patches .now))
+    _ _ (c .refused .ensures) (after-check-counts .check-counts .ensures) (sym (after-refuses .refuses .ensures) ∙ c .before .if1 .taken))
+    (λ c κs.
+    let after-refuses : tie.After-refuses = search in let else1 : tie.Else1 = search in let then2 : tie.Then2 = search in let then3 : tie.Then3 = search in (
+      counts-pass _ _ _ (to-after-check-counts after-refuses .check-counts .ensures) (sym (after-refuses .refuses .ensures) ∙ else1 .if1 .left),
+      then2 .if2 .taken,
+      then3 .if3 .taken,
+    ))
+    (λ c. let after-grid : tie.After-grid = search in after-grid .grid .given)
+    (λ c. let after-rings : tie.After-rings = search in after-rings .rings .given)
+    (λ c. let after-lengths : tie.After-lengths = search in after-lengths .lengths .given)
+    (λ c. let after-states : tie.After-states = search in after-states .states .given)
+    (λ c. let after-weights : tie.After-weights = search in after-weights .weights .given)
+    (λ c. c .before .patches .given)
+    (λ c. let after-patch-few : tie.After-patch-few = search in after-patch-few .patch-few .ensures)
+    (λ c κs.
+    let after-refuses : tie.After-refuses = search in let else1 : tie.Else1 = search in
+    counts-pass _ _ _ (to-after-check-counts after-refuses .check-counts .ensures) (sym (after-refuses .refuses .ensures) ∙ else1 .if1 .left))
+    (λ c. let after-grid2 : tie.After-grid2 = search in after-grid2 .grid2 .given)
+    (λ c. let after-rings2 : tie.After-rings2 = search in after-rings2 .rings2 .given)
+    (λ c. let after-lengths2 : tie.After-lengths2 = search in after-lengths2 .lengths2 .given)
+    (λ c. let after-states2 : tie.After-states2 = search in after-states2 .states2 .given)
+    (λ c. let after-weights2 : tie.After-weights2 = search in after-weights2 .weights2 .given)
+    (λ c. c .before .patches2 .given)
+    (λ c. let after-patch-many : tie.After-patch-many = search in after-patch-many .patch-many .ensures))

@@ -6,83 +6,79 @@ use Rattle.patch_middling.proofs.Laws.Middling.{bars-room, patch-room, 
 use Rattle.patch_middling.proofs.patch_middling.Statement.{statement}
 use Rattle.patch_middling.proofs.patch_middling.Tie as tie
 
-bars-of-requires : tie.Need-bars-of-requires
-bars-of-requires c κs = bars-room _ _ _ _ _ _ _ _ _ _ _ _ (c .before .before .before .before .before .before .before .before .before .before .pre .0) (c .before .before .before .before .before .before .before .before .before .before .pre .1)
+abbrev to-start : tie.After-bars-of → tie.Start
+to-start p = search
 
-lay-patch-requires : tie.Need-lay-patch-requires
-lay-patch-requires c κs = patch-room _ _ _ _ _ _ _ _ _ _ _ _ (c .before .before .before .before .before .before .before .before .before .before .before .before .before .before .before .pre .0) (c .before .before .before .before .before .before .before .before .before .before .before .before .before .before .before .pre .1) _ _ (c .before .before .before .before .bars-of .ensures)
+abbrev to-after-bars-of : tie.After-lay-patch → tie.After-bars-of
+to-after-bars-of p = search
 
-enum-told : tie.Need-enum-told
-enum-told c = search needs
+abbrev to-start-2 : tie.After-lay-patch → tie.Start
+to-start-2 p = to-start (to-after-bars-of p)
 
-unpatched-requires : tie.Need-unpatched-requires
-unpatched-requires c κs = search needs
+abbrev to-after-lay-patch : tie.After-unpatched → tie.After-lay-patch
+to-after-lay-patch p = search
 
-enum-known-least : tie.Need-enum-known-least
-enum-known-least c = search needs
+abbrev to-start-3 : tie.After-unpatched → tie.Start
+to-start-3 p = to-start-2 (to-after-lay-patch p)
 
-sub-end : tie.Need-sub-end
-sub-end c = omega (arith, c .before .before .before .before .before .before .before .before .before .before .before .before .before .before .before .before .before .before .before .before .before .before .before .pre .0 .ring-of .three)
+abbrev to-after-bars-of-2 : tie.After-unpatched → tie.After-bars-of
+to-after-bars-of-2 p = to-after-bars-of (to-after-lay-patch p)
 
-mul-end : tie.Need-mul-end
-mul-end c = search needs
+abbrev to-after-table : tie.After-unpatched → tie.After-table
+to-after-table p = search
 
-add-end : tie.Need-add-end
-add-end c = omega (arith, c .before .before .before .before .before .before .before .before .before .before .before .before .before .before .before .before .before .before .before .before .before .before .before .pre .0 .patches-room, c .before .before .before .before .before .before .before .before .before .before .before .before .before .before .before .before .before .before .before .before .before .before .before .good .1 .1 .1 .1 .1 .1 .1 .1 .1 .0 .0)
+abbrev to-after-lay-patch-2 : tie.After-chain-laid → tie.After-lay-patch
+to-after-lay-patch-2 p = search
 
-chain-laid-requires : tie.Need-chain-laid-requires
-chain-laid-requires c κs = laid-room _ _ _ _ _ _ _ _ _ _ _ _ (c .before .before .before .before .before .before .before .before .before .before .before .before .before .before .before .before .before .before .before .before .before .before .before .before .before .before .before .pre .0) (c .before .before .before .before .before .before .before .before .before .before .before .before .before .before .before .before .before .before .before .before .before .before .before .before .before .before .before .pre .1) _ _ (c .before .before .before .before .before .before .before .before .before .before .before .before .before .before .before .before .bars-of .ensures) _ _ (c .before .before .before .before .before .before .before .before .before .before .before .lay-patch .ensures) _ (c .before .before .before .before .before .least .given .1)
+abbrev to-start-4 : tie.After-chain-laid → tie.Start
+to-start-4 p = to-start-2 (to-after-lay-patch-2 p)
 
-same-length : tie.Need-same-length
-same-length c = search needs
+abbrev to-after-bars-of-3 : tie.After-chain-laid → tie.After-bars-of
+to-after-bars-of-3 p = to-after-bars-of (to-after-lay-patch-2 p)
 
-same-length-2 : tie.Need-same-length-2
-same-length-2 c = search needs
+abbrev to-after-least : tie.After-chain-laid → tie.After-least
+to-after-least p = search
 
-same-length-3 : tie.Need-same-length-3
-same-length-3 c = search needs
-
-same-length-4 : tie.Need-same-length-4
-same-length-4 c = search needs
-
-returns : tie.Need-returns
-returns c = let r = c .unpatched .ensures in takes-none _ _ _ _ _ _ _ _ _ _ _ _ (c .before .before .before .before .before .before .before .before .before .before .before .before .before .before .before .before .before .before .before .before .before .before .before .pre .0) (c .before .before .before .before .before .before .before .before .before .before .before .before .before .before .before .before .before .before .before .before .before .before .before .pre .1) _ _ (c .before .before .before .before .before .before .before .before .before .before .before .before .bars-of .ensures) _ _ (c .before .before .before .before .before .before .before .lay-patch .ensures) (c .before .enum-told .given .1) _ (c .before .before .before .before .before .before .table .given) _ (r .0) (r .1) (r .2) (r .3)
-
-same-length-5 : tie.Need-same-length-5
-same-length-5 c = search needs
-
-same-length-6 : tie.Need-same-length-6
-same-length-6 c = search needs
-
-same-length-7 : tie.Need-same-length-7
-same-length-7 c = search needs
-
-same-length-8 : tie.Need-same-length-8
-same-length-8 c = search needs
-
-returns-2 : tie.Need-returns-2
-returns-2 c = takes-some _ _ _ _ _ _ _ _ _ _ _ _ (c .before .before .before .before .before .before .before .before .before .before .before .before .before .before .before .before .before .before .before .before .before .before .before .before .before .before .before .before .before .before .before .before .pre .0) (c .before .before .before .before .before .before .before .before .before .before .before .before .before .before .before .before .before .before .before .before .before .before .before .before .before .before .before .before .before .before .before .before .pre .1) _ _ (c .before .before .before .before .before .before .before .before .before .before .before .before .before .before .before .before .before .before .before .before .before .bars-of .ensures) _ _ (c .before .before .before .before .before .before .before .before .before .before .before .before .before .before .before .before .lay-patch .ensures) _ (c .before .before .before .before .before .before .before .before .before .before .least .given .1) _ (c .before .before .before .before .before .before .before .before .before .before .before .before .before .before .before .table .given) _ _ _ _ (c .before .before .before .before .chain-laid .ensures) _ refl refl refl refl
+abbrev to-after-table-2 : tie.After-chain-laid → tie.After-table
+to-after-table-2 p = search
 
 pub patch-middling-spec : {M : Type 1} → statement M
 patch-middling-spec =
     tie.close
     (tie.spec
-    bars-of-requires
-    lay-patch-requires
-    enum-told
-    unpatched-requires
-    enum-known-least
-    sub-end
-    mul-end
-    add-end
-    chain-laid-requires
-    same-length
-    same-length-2
-    same-length-3
-    same-length-4
-    returns
-    same-length-5
-    same-length-6
-    same-length-7
-    same-length-8
-    returns-2)
+    (λ c κs. search bars-room)
+    (λ c κs. search patch-room)
+    (λ c. search needs)
+    (λ c κs. search needs)
+    (λ c. search needs)
+    (λ c. let after-lay-patch : tie.After-lay-patch = search in omega (arith, (to-start-2 after-lay-patch) .pre .0 .ring-of .three))
+    (λ c. search needs)
+    (λ c.
+    let after-lay-patch : tie.After-lay-patch = search in
+    let start = to-start-2 after-lay-patch in
+    omega (arith, start .pre .0 .patches-room, start .good .1 .1 .1 .1 .1 .1 .1 .1 .1 .0 .0))
+    (λ c κs.
+    let after-lay-patch : tie.After-lay-patch = search in
+    let start = to-start-2 after-lay-patch in
+    let after-least : tie.After-least = search in
+    laid-room _ _ _ _ _ _ _ _ _ _ _ _ (start .pre .0) (start .pre .1) _ _ (to-after-bars-of after-lay-patch .bars-of .ensures) _ _
+    (after-lay-patch .lay-patch .ensures) _ (after-least .least .given .1))
+    (λ c. search needs)
+    (λ c. search needs)
+    (λ c. search needs)
+    (λ c. search needs)
+    (λ c.
+    let start = to-start-3 c in
+    let r = c .unpatched .ensures in
+    takes-none _ _ _ _ _ _ _ _ _ _ _ _ (start .pre .0) (start .pre .1) _ _ (to-after-bars-of-2 c .bars-of .ensures) _ _
+    (to-after-lay-patch c .lay-patch .ensures) (c .before .enum-told .given .1) _ (to-after-table c .table .given) _ (r .0) (r .1) (r .2) (r .3))
+    (λ c. search needs)
+    (λ c. search needs)
+    (λ c. search needs)
+    (λ c. search needs)
+    (λ c.
+    let after-chain-laid : tie.After-chain-laid = search in
+    let start = to-start-4 after-chain-laid in
+    takes-some _ _ _ _ _ _ _ _ _ _ _ _ (start .pre .0) (start .pre .1) _ _ (to-after-bars-of-3 after-chain-laid .bars-of .ensures) _ _
+    (to-after-lay-patch-2 after-chain-laid .lay-patch .ensures) _ (to-after-least after-chain-laid .least .given .1) _
+    (to-after-table-2 after-chain-laid .table .given) _ _ _ _ (after-chain-laid .chain-laid .ensures) _ refl refl refl refl))

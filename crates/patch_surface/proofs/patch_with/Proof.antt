@@ -88,14 +88,19 @@ patch-with-spec =
     (λ c κs. search needs)
     (λ c κs. search needs)
     (λ c. let t : tie.After-turns = search in t .turns .given)
-    (λ c. let t : tie.After-turns = search in content-refuse _ _ (lent-here (entry t)) (entry t .pre .counts) _ _ _ (c .refused .ensures) (t .before .check .ensures) (sym (c .before .before .refuses .ensures) ∙ c .before .if1 .taken))
+    (λ c.
+    let t : tie.After-turns = search in content-refuse _ _ (lent-here (entry t)) (entry t .pre .counts) _ _ _ (c .refused .ensures) (t .before .check .ensures)
+    (sym (c .before .before .refuses .ensures) ∙ c .before .if1 .taken))
     (λ c κs. grid-ready (known-here (c .before)))
     (λ c κs.
     let g : tie.After-grid = search in
     let p = passed g in
     let k = known-here p in
-    let s = entry (checked p) in
-    (listing-ready (s .args .words .now) (s .args .corners .now) (lent-here s) k (still-long (s .pre .turns-long) (checked p .turns .given)), lent-long k _ _ (s .pre .path-long) (s .pre .places-long)))
+    let s = entry (checked p) in (
+      listing-ready (s .args .words .now) (s .args .corners .now) (lent-here s) k (still-long (s .pre .turns-long) (checked p .turns .given)),
+      lent-long k _ _
+          (s .pre .path-long) (s .pre .places-long),
+    ))
     grid-there
     (λ c. as-long _ _ (grid-there (c .before)))
     rings-there
@@ -109,7 +114,8 @@ patch-with-spec =
     let p = passed (gridded l) in
     let s = entry (checked p) in
     mark-room (known-here p) (l .before .list-with .ensures .0) (gridded l .before .lay-grid .ensures) (l .before .list-with .ensures .1)
-    (still-long (still-long (s .pre .turns-long) (checked p .turns .given)) (l .turns2 .given)) (still-long (s .pre .path-long) (a .path .given)) (still-long (s .pre .pieces-long) (q .places .given)))
+    (still-long (still-long (s .pre .turns-long) (checked p .turns .given)) (l .turns2 .given)) (still-long (s .pre .path-long) (a .path .given))
+    (still-long (s .pre .pieces-long) (q .places .given)))
     grid-still
     (λ c. as-long _ _ (grid-still (c .before)))
     rings-still
@@ -121,14 +127,18 @@ patch-with-spec =
     let l = listed m in
     let p = passed (gridded l) in
     let s = entry (checked p) in
-    course-room (s .args .words .now) (s .args .corners .now) (lent-here s) (known-here p) (l .before .list-with .ensures .0) (gridded l .before .lay-grid .ensures) (m .before .mark .ensures))
-    (λ c. let r : tie.After-patch-all = search in let m = marked r in let l = listed m in m .turns3 .given ∙ l .turns2 .given ∙ checked (passed (gridded l)) .turns .given)
+    course-room (s .args .words .now) (s .args .corners .now) (lent-here s) (known-here p) (l .before .list-with .ensures .0) (gridded l .before .lay-grid .ensures)
+    (m .before .mark .ensures))
+    (λ c.
+    let r : tie.After-patch-all = search in let m = marked r in let l = listed m in m .turns3 .given ∙ l .turns2 .given ∙ checked (passed (gridded l)) .turns .given)
     (λ c. let r : tie.After-patch-all = search in let m = placed r in m .before .before .path2 .given ∙ places-listed m .before .before .path .given)
     (λ c. let r : tie.After-patch-all = search in let m = placed r in m .places2 .given ∙ places-listed m .places .given)
     (λ c. let r : tie.After-patch-all = search in gridded (listed (marked r)) .grid .given)
     (λ c. let r : tie.After-patch-all = search in states-listed (placed r) .before .before .before .before .rings .given)
     (λ c. let r : tie.After-patch-all = search in states-listed (placed r) .before .before .lengths .given)
-    (λ c. let n : tie.After-states3 = search in let m = states-marked (n .before) in n .states3 .given ∙ m .states2 .given ∙ states-listed (m .before .before) .states .given)
+    (λ c.
+    let n : tie.After-states3 = search in let m = states-marked (n .before) in n .states3 .given ∙ m .states2 .given ∙ states-listed
+    (m .before .before) .states .given)
     (λ c. search needs)
     (λ c. search needs)
     (λ c.
@@ -137,4 +147,5 @@ patch-with-spec =
     let l = listed m in
     let p = passed (gridded l) in
     let s = entry (checked p) in
-    done-is (s .args .words .now) (s .args .corners .now) (lent-here s) (known-here p) (l .before .list-with .ensures .0) (gridded l .before .lay-grid .ensures) (m .before .mark .ensures) _ _ _ _ (r .patch-all .ensures)))
+    done-is (s .args .words .now) (s .args .corners .now) (lent-here s) (known-here p) (l .before .list-with .ensures .0) (gridded l .before .lay-grid .ensures)
+    (m .before .mark .ensures) _ _ _ _ (r .patch-all .ensures)))

@@ -8,63 +8,40 @@ use Rattle.program_judge.proofs.Laws.Sets.{refused-hears, judged-hears}
 use Rattle.program_judge.proofs.hear_set.Statement.{statement}
 use Rattle.program_judge.proofs.hear_set.Tie as tie
 
-add-lines : tie.Need-add-lines
-add-lines c = search needs
+abbrev to-after-read-set : tie.After-refuses → tie.After-read-set
+to-after-read-set p = search
 
-add-lines-2 : tie.Need-add-lines-2
-add-lines-2 c = search needs
+abbrev to-after-refuses : tie.After-judge → tie.After-refuses
+to-after-refuses p = search
 
-cast-lines : tie.Need-cast-lines
-cast-lines c = search needs
-
-slice-aggregate-read-set : tie.Need-slice-aggregate-read-set
-slice-aggregate-read-set c = search needs
-
-slice-aggregate-read-set-2 : tie.Need-slice-aggregate-read-set-2
-slice-aggregate-read-set-2 c = search needs
-
-read-set-requires : tie.Need-read-set-requires
-read-set-requires c κs = search needs
-
-refuses-requires : tie.Need-refuses-requires
-refuses-requires c κs = search needs
-
-returns : tie.Need-returns
-returns c = refused-hears _ _ _ _ _ _ _ (c .before .before .before .before .read-set .ensures) (lit≤ tt) (lit≤ tt) (sym (c .before .refuses .ensures) ∙ c .if1 .taken) refl
-
-array-share-prefix-states : tie.Need-array-share-prefix-states
-array-share-prefix-states c = read-set-within _ _ _ _ _ (c .before .before .before .before .read-set .ensures) .states-in
-
-slice-aggregate-judge : tie.Need-slice-aggregate-judge
-slice-aggregate-judge c = sym (length-take-le _ _ (read-set-within _ _ _ _ _ (c .before .before .before .before .before .read-set .ensures) .states-in))
-
-array-share-prefix-set : tie.Need-array-share-prefix-set
-array-share-prefix-set c = read-set-within _ _ _ _ _ (c .before .before .before .before .before .read-set .ensures) .corners-in
-
-slice-aggregate-judge-2 : tie.Need-slice-aggregate-judge-2
-slice-aggregate-judge-2 c = sym (length-take-le _ _ (read-set-within _ _ _ _ _ (c .before .before .before .before .before .before .read-set .ensures) .corners-in))
-
-judge-requires : tie.Need-judge-requires
-judge-requires c κs = search needs
-
-returns-2 : tie.Need-returns-2
-returns-2 c = judged-hears _ _ _ _ _ _ _ (c .before .before .before .before .before .before .before .read-set .ensures) (lit≤ tt) (lit≤ tt) _ (sym (c .before .before .before .before .refuses .ensures) ∙ c .before .before .before .if1 .left) (c .judge .ensures)
+abbrev to-else1 : tie.After-judge → tie.Else1
+to-else1 p = search
 
 pub hear-set-spec : {M : Type 1} → statement M
 hear-set-spec =
     tie.close
     (tie.spec
-    add-lines
-    add-lines-2
-    cast-lines
-    slice-aggregate-read-set
-    slice-aggregate-read-set-2
-    read-set-requires
-    refuses-requires
-    returns
-    array-share-prefix-states
-    slice-aggregate-judge
-    array-share-prefix-set
-    slice-aggregate-judge-2
-    judge-requires
-    returns-2)
+    (λ c. search needs)
+    (λ c. search needs)
+    (λ c. search needs)
+    (λ c. search needs)
+    (λ c. search needs)
+    (λ c κs. search needs)
+    (λ c κs. search needs)
+    (λ c.
+    let after-refuses : tie.After-refuses = search in
+    refused-hears _ _ _ _ _ _ _ (to-after-read-set after-refuses .read-set .ensures) (lit≤ tt) (lit≤ tt) (sym (c .before .refuses .ensures) ∙ c .if1 .taken)
+    refl)
+    (λ c. let after-refuses : tie.After-refuses = search in read-set-within _ _ _ _ _ (to-after-read-set after-refuses .read-set .ensures) .states-in)
+    (λ c.
+    let after-refuses : tie.After-refuses = search in
+    sym (length-take-le _ _ (read-set-within _ _ _ _ _ (to-after-read-set after-refuses .read-set .ensures) .states-in)))
+    (λ c. let after-refuses : tie.After-refuses = search in read-set-within _ _ _ _ _ (to-after-read-set after-refuses .read-set .ensures) .corners-in)
+    (λ c.
+    let after-refuses : tie.After-refuses = search in
+    sym (length-take-le _ _ (read-set-within _ _ _ _ _ (to-after-read-set after-refuses .read-set .ensures) .corners-in)))
+    (λ c κs. search needs)
+    (λ c.
+    let after-refuses = to-after-refuses c in
+    judged-hears _ _ _ _ _ _ _ (to-after-read-set after-refuses .read-set .ensures) (lit≤ tt) (lit≤ tt) _
+    (sym (after-refuses .refuses .ensures) ∙ (to-else1 c) .if1 .left) (c .judge .ensures)))

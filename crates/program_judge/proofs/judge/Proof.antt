@@ -10,27 +10,20 @@ use Rattle.program_judge.proofs.Laws.Answered.{answered}
 use Rattle.program_judge.proofs.judge.Statement.{statement}
 use Rattle.program_judge.proofs.judge.Tie as tie
 
-slice-aggregate-judge : tie.Need-slice-aggregate-judge
-slice-aggregate-judge c = search needs
-
-slice-aggregate-judge-2 : tie.Need-slice-aggregate-judge-2
-slice-aggregate-judge-2 c = search needs
-
-slice-aggregate-judge-3 : tie.Need-slice-aggregate-judge-3
-slice-aggregate-judge-3 c = search needs
-
-judge-requires : tie.Need-judge-requires
-judge-requires c κs = search needs
-
-returns : tie.Need-returns
-returns c = answered _ _ _ _ (buffers (replicate limits.words (pos 0)) (replicate limits.corners 0) (replicate limits.triangles 0)) (outcome (c .before .before .before .judge .result) (buffers (c .before .before .before .judge .last .1 .1 .1 .1 .0) (c .before .before .before .judge .last .1 .1 .1 .1 .1 .0) (c .before .before .before .judge .last .1 .1 .1 .1 .1 .1 .0))) (c .before .before .before .before .before .before .before .before .before .before .before .pre .0) (c .before .before .before .before .before .before .before .before .before .before .before .pre .1) (lit≤ tt) (lit≤ tt) (lit≤ tt) (c .before .before .before .judge .ensures)
+abbrev to-start : tie.After-judge → tie.Start
+to-start p = search
 
 pub judge-spec : {M : Type 1} → statement M
 judge-spec =
     tie.close
     (tie.spec
-    slice-aggregate-judge
-    slice-aggregate-judge-2
-    slice-aggregate-judge-3
-    judge-requires
-    returns)
+    (λ c. search needs)
+    (λ c. search needs)
+    (λ c. search needs)
+    (λ c κs. search needs)
+    (λ c.
+    let after-judge : tie.After-judge = search in let start = to-start after-judge in
+    answered _ _ _ _ (buffers (replicate limits.words (pos 0)) (replicate limits.corners 0) (replicate limits.triangles 0))
+    (outcome (after-judge .judge .result)
+    (buffers (after-judge .judge .last .1 .1 .1 .1 .0) (after-judge .judge .last .1 .1 .1 .1 .1 .0) (after-judge .judge .last .1 .1 .1 .1 .1 .1 .0)))
+    (start .pre .0) (start .pre .1) (lit≤ tt) (lit≤ tt) (lit≤ tt) (after-judge .judge .ensures)))

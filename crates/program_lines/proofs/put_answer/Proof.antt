@@ -5,35 +5,27 @@ use Rattle.program_lines.proofs.Laws.Answering.{answer-short, answer-pu
 use Rattle.program_lines.proofs.put_answer.Statement.{statement}
 use Rattle.program_lines.proofs.put_answer.Tie as tie
 
-number-requires : tie.Need-number-requires
-number-requires c κs = search needs
+abbrev to-after-place : tie.After-put-two → tie.After-place
+to-after-place p = search
 
-cast-number : tie.Need-cast-number
-cast-number c = search needs
+abbrev to-after-number : tie.After-place → tie.After-number
+to-after-number p = search
 
-place-requires : tie.Need-place-requires
-place-requires c κs = search needs
-
-slice-aggregate-put-two : tie.Need-slice-aggregate-put-two
-slice-aggregate-put-two c = search needs
-
-put-two-requires : tie.Need-put-two-requires
-put-two-requires c κs = answer-short (c .before .before .before .before .before .args .out .now) (c .before .before .before .number .result) (c .before .before .place .result) (omega arith) (omega arith) (c .before .before .before .before .before .pre)
-
-same-length : tie.Need-same-length
-same-length c = search needs
-
-returns : tie.Need-returns
-returns c = answer-put (c .before .before .before .before .before .before .before .before .args .answer) (c .before .before .before .before .before .before .number .result) (c .before .before .before .before .before .place .result) _ (c .before .before .before .before .before .before .before .before .args .out .now) _ (c .before .before .before .before .before .before .number .ensures) (c .before .before .before .before .before .place .ensures) (omega arith) (omega arith) (c .before .before .put-two .ensures .0) (c .before .before .put-two .ensures .1)
+abbrev to-start : tie.After-number → tie.Start
+to-start p = search
 
 pub put-answer-spec : {M : Type 1} → statement M
 put-answer-spec =
     tie.close
     (tie.spec
-    number-requires
-    cast-number
-    place-requires
-    slice-aggregate-put-two
-    put-two-requires
-    same-length
-    returns)
+    (λ c κs. search needs)
+    (λ c. search needs)
+    (λ c κs. search needs)
+    (λ c. search needs)
+    (λ c κs. search answer-short)
+    (λ c. search needs)
+    (λ c.
+    let after-put-two : tie.After-put-two = search in let after-place = to-after-place after-put-two in let after-number = to-after-number after-place in
+    let start = to-start after-number in
+    answer-put (start .args .answer) (after-number .number .result) (after-place .place .result) _ (start .args .out .now) _ (after-number .number .ensures)
+    (after-place .place .ensures) (omega arith) (omega arith) (after-put-two .put-two .ensures .0) (after-put-two .put-two .ensures .1)))

@@ -5,17 +5,16 @@ use Rattle.program_lines.proofs.Laws.Answering.{count-room, count-short
 use Rattle.program_lines.proofs.put_count.Statement.{statement}
 use Rattle.program_lines.proofs.put_count.Tie as tie
 
-slice-aggregate-put-one : tie.Need-slice-aggregate-put-one
-slice-aggregate-put-one c = search needs
-
-put-one-requires : tie.Need-put-one-requires
-put-one-requires c κs = count-room (c .before .before .before .args .loops) (omega arith) (c .before .before .before .args .at) (c .before .before .before .args .out .now) (c .before .before .before .pre)
-
-same-length : tie.Need-same-length
-same-length c = search needs
-
-returns : tie.Need-returns
-returns c = (c .before .before .put-one .ensures, omega (arith, count-short (c .before .before .before .before .before .before .args .loops) (omega arith), c .before .before .put-one .ensures .1))
+abbrev to-start : tie.After-put-one → tie.Start
+to-start p = search
 
 pub put-count-spec : {M : Type 1} → statement M
-put-count-spec = tie.close (tie.spec slice-aggregate-put-one put-one-requires same-length returns)
+put-count-spec =
+    tie.close
+    (tie.spec
+    (λ c. search needs)
+    (λ c κs. search count-room)
+    (λ c. search needs)
+    (λ c.
+    let after-put-one : tie.After-put-one = search in
+    (after-put-one .put-one .ensures, omega (arith, count-short (to-start after-put-one .args .loops) (omega arith), after-put-one .put-one .ensures .1))))

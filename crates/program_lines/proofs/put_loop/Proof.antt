@@ -4,31 +4,27 @@ use Rattle.program_lines.proofs.Laws.Loops.{counts-room, ring-room, pat
 use Rattle.program_lines.proofs.put_loop.Statement.{statement}
 use Rattle.program_lines.proofs.put_loop.Tie as tie
 
-slice-aggregate-put-three : tie.Need-slice-aggregate-put-three
-slice-aggregate-put-three c = search needs
+abbrev to-after-put-ring : tie.After-put-patch → tie.After-put-ring
+to-after-put-ring p = search
 
-put-three-requires : tie.Need-put-three-requires
-put-three-requires c κs = counts-room (c .before .before .before .before .before .args .ring .now) (c .before .before .before .before .before .args .state) (c .before .before .before .before .before .args .weight) (c .before .before .before .before .before .args .patch .now) (c .before .before .before .before .before .args .out .now) (c .before .before .before .before .before .args .at) (c .before .before .before .before .before .pre)
+abbrev to-after-put-three : tie.After-put-ring → tie.After-put-three
+to-after-put-three p = search
 
-put-ring-requires : tie.Need-put-ring-requires
-put-ring-requires c κs = ring-room (c .before .before .before .before .before .before .before .before .before .args .ring .now) (c .before .before .before .before .before .before .before .before .before .args .state) (c .before .before .before .before .before .before .before .before .before .args .weight) (c .before .before .before .before .before .before .before .before .before .args .patch .now) (c .before .before .before .before .before .before .before .before .before .args .out .now) (c .before .before .before .before .before .before .before .before .before .args .at) (c .before .before .before .before .before .before .before .before .before .pre) (c .before .before .before .put-three .ensures .0) (c .before .before .before .put-three .ensures .1)
-
-put-patch-requires : tie.Need-put-patch-requires
-put-patch-requires c κs = patch-fits (c .before .before .before .before .before .before .before .before .before .before .before .before .before .args .ring .now) (c .before .before .before .before .before .before .before .before .before .before .before .before .before .args .state) (c .before .before .before .before .before .before .before .before .before .before .before .before .before .args .weight) (c .before .before .before .before .before .before .before .before .before .before .before .before .before .args .patch .now) (c .before .before .before .before .before .before .before .before .before .before .before .before .before .args .out .now) (c .before .before .before .before .before .before .before .before .before .before .before .before .before .args .at) (c .before .before .before .before .before .before .before .before .before .before .before .before .before .pre) (c .before .before .before .before .before .before .before .put-three .ensures .0) (c .before .before .before .before .before .before .before .put-three .ensures .1) (c .before .before .before .put-ring .ensures .0) (c .before .before .before .put-ring .ensures .1)
-
-same-length : tie.Need-same-length
-same-length c = search needs
-
-returns : tie.Need-returns
-returns c = patch-last (c .before .before .before .before .before .before .before .before .before .before .before .before .before .before .before .before .args .ring .now) (c .before .before .before .before .before .before .before .before .before .before .before .before .before .before .before .before .args .state) (c .before .before .before .before .before .before .before .before .before .before .before .before .before .before .before .before .args .weight) (c .before .before .before .before .before .before .before .before .before .before .before .before .before .before .before .before .args .patch .now) (c .before .before .before .before .before .before .before .before .before .before .before .before .before .before .before .before .args .out .now) (c .before .before .before .before .before .before .before .before .before .before .before .before .before .before .before .before .args .at) (c .before .before .before .before .before .before .before .before .before .before .before .before .before .before .before .before .pre) (c .before .before .before .before .before .before .before .before .before .before .put-three .ensures .0) (c .before .before .before .before .before .before .before .before .before .before .put-three .ensures .1) (c .before .before .before .before .before .before .put-ring .ensures .0) (c .before .before .before .before .before .before .put-ring .ensures .1) (c .before .before .put-patch .ensures .0) (c .before .before .put-patch .ensures .1)
+abbrev to-start : tie.After-put-three → tie.Start
+to-start p = search
 
 pub put-loop-spec : {M : Type 1} → statement M
 put-loop-spec =
     tie.close
     (tie.spec
-    slice-aggregate-put-three
-    put-three-requires
-    put-ring-requires
-    put-patch-requires
-    same-length
-    returns)
+    (λ c. search needs)
+    (λ c κs. search counts-room)
+    (λ c κs. search ring-room)
+    (λ c κs. search patch-fits)
+    (λ c. search needs)
+    (λ c.
+    let after-put-patch : tie.After-put-patch = search in let after-put-ring = to-after-put-ring after-put-patch in
+    let after-put-three = to-after-put-three after-put-ring in
+    patch-last _ _ _ _ _ _ (to-start after-put-three .pre) (after-put-three .put-three .ensures .0) (after-put-three .put-three .ensures .1)
+    (after-put-ring .put-ring .ensures .0) (after-put-ring .put-ring .ensures .1) (after-put-patch .put-patch .ensures .0)
+    (after-put-patch .put-patch .ensures .1)))

@@ -6,39 +6,20 @@ use Rattle.program_lines.proofs.Laws.Digits.{ended-put}
 use Rattle.program_lines.proofs.put_number.Statement.{statement}
 use Rattle.program_lines.proofs.put_number.Tie as tie
 
-size-of-requires : tie.Need-size-of-requires
-size-of-requires c κs = search needs
-
-put-digits-requires : tie.Need-put-digits-requires
-put-digits-requires c κs = (omega (arith, c .before .size-of .ensures), rw (c .before .size-of .ensures) (size-fits (c .before .before .before .args .n)))
-
-add-out : tie.Need-add-out
-add-out c = search needs
-
-slice-write-out : tie.Need-slice-write-out
-slice-write-out c = search needs
-
-add-result : tie.Need-add-result
-add-result c = search needs
-
-add-result-2 : tie.Need-add-result-2
-add-result-2 c = search needs
-
-same-length : tie.Need-same-length
-same-length c = search needs
-
-returns : tie.Need-returns
-returns c = ended-put _ _ _ _ _ _ (omega arith) (c .before .before .before .before .size-of .ensures) (c .before .before .put-digits .ensures)
+abbrev to-after-size-of : tie.After-put-digits → tie.After-size-of
+to-after-size-of p = search
 
 pub put-number-spec : {M : Type 1} → statement M
 put-number-spec =
     tie.close
     (tie.spec
-    size-of-requires
-    put-digits-requires
-    add-out
-    slice-write-out
-    add-result
-    add-result-2
-    same-length
-    returns)
+    (λ c κs. search needs)
+    (λ c κs. (omega (arith, c .before .size-of .ensures), rw (c .before .size-of .ensures) (size-fits _)))
+    (λ c. search needs)
+    (λ c. search needs)
+    (λ c. search needs)
+    (λ c. search needs)
+    (λ c. search needs)
+    (λ c.
+    let after-put-digits : tie.After-put-digits = search in
+    ended-put _ _ _ _ _ _ (omega arith) (to-after-size-of after-put-digits .size-of .ensures) (after-put-digits .put-digits .ensures)))

@@ -7,21 +7,25 @@ use Rattle.program_lines.proofs.Laws.Lines.{joined-none, line-begins, k
 use Rattle.program_lines.proofs.put_one.Statement.{statement}
 use Rattle.program_lines.proofs.put_one.Tie as tie
 
-put-bytes-requires : tie.Need-put-bytes-requires
-put-bytes-requires c κs = line-begins (c .before .before .before .args .key .now) ((c .before .before .before .args .a) ∷ []) (c .before .before .before .args .out .now) (c .before .before .before .args .at) (c .before .before .before .pre)
+abbrev to-start : tie.After-put-bytes → tie.Start
+to-start p = search
 
-add-put-number : tie.Need-add-put-number
-add-put-number c = search needs
-
-put-number-requires : tie.Need-put-number-requires
-put-number-requires c κs = last-room (c .before .before .before .before .before .before .before .args .a) (key-put (c .before .before .before .before .before .before .before .args .key .now) ((c .before .before .before .before .before .before .before .args .a) ∷ []) (c .before .before .before .before .before .before .before .args .out .now) (c .before .before .before .before .before .before .before .args .at) (c .before .before .before .before .before .before .before .pre) (c .before .before .before .put-bytes .ensures) refl)
-
-same-length : tie.Need-same-length
-same-length c = search needs
-
-returns : tie.Need-returns
-returns c = laying-ends (last-put (c .before .before .before .before .before .before .before .before .before .before .args .a) (key-put (c .before .before .before .before .before .before .before .before .before .before .args .key .now) ((c .before .before .before .before .before .before .before .before .before .before .args .a) ∷ []) (c .before .before .before .before .before .before .before .before .before .before .args .out .now) (c .before .before .before .before .before .before .before .before .before .before .args .at) (c .before .before .before .before .before .before .before .before .before .before .pre) (c .before .before .before .before .before .before .put-bytes .ensures) refl) (c .before .before .put-number .ensures .0) (c .before .before .put-number .ensures .1)) joined-none
+abbrev to-after-put-bytes : tie.After-put-number → tie.After-put-bytes
+to-after-put-bytes p = search
 
 pub put-one-spec : {M : Type 1} → statement M
 put-one-spec =
-    tie.close (tie.spec put-bytes-requires add-put-number put-number-requires same-length returns)
+    tie.close
+    (tie.spec
+    (λ c κs. search line-begins)
+    (λ c. search needs)
+    (λ c κs.
+    let after-put-bytes : tie.After-put-bytes = search in
+    last-room _ (key-put _ (_ ∷ []) _ _ (to-start after-put-bytes .pre) (after-put-bytes .put-bytes .ensures) refl))
+    (λ c. search needs)
+    (λ c.
+    let after-put-number : tie.After-put-number = search in let after-put-bytes = to-after-put-bytes after-put-number in
+    laying-ends
+    (last-put _ (key-put _ (_ ∷ []) _ _ (to-start after-put-bytes .pre) (after-put-bytes .put-bytes .ensures) refl) (after-put-number .put-number .ensures .0)
+    (after-put-number .put-number .ensures .1))
+    joined-none))

@@ -17,65 +17,48 @@ Inv-loop out₀ at ring place₀ i₀ out place i = (i ≤ length ring) × Layin
 abbrev μ-loop : tie.MeasureT-loop
 μ-loop out₀ at ring place₀ i₀ out place i = length ring - i
 
-slice-aggregate-put-bytes : tie.Need-slice-aggregate-put-bytes Inv-loop μ-loop
-slice-aggregate-put-bytes c = search needs
+abbrev to-start : tie.After-put-bytes Inv-loop μ-loop → tie.Start Inv-loop μ-loop
+to-start p = search
 
-put-bytes-requires : tie.Need-put-bytes-requires Inv-loop μ-loop
-put-bytes-requires c κs = line-begins ring= (c .before .before .before .before .args .ring .now) (c .before .before .before .before .args .out .now) (c .before .before .before .before .args .at) (c .before .before .before .before .pre)
+abbrev to-at-loop : tie.After-put-number Inv-loop μ-loop → tie.At-loop Inv-loop μ-loop
+to-at-loop p = search
 
-add-place : tie.Need-add-place Inv-loop μ-loop
-add-place c = search needs
+abbrev to-turn : tie.After-put-number Inv-loop μ-loop → tie.In-loop Inv-loop μ-loop
+to-turn p = search
 
-loop-holds : tie.Need-loop-holds Inv-loop μ-loop
-loop-holds c = (omega arith, laying-left (key-put ring= (c .before .before .before .before .before .before .before .args .ring .now) (c .before .before .before .before .before .before .before .args .out .now) (c .before .before .before .before .before .before .before .args .at) (c .before .before .before .before .before .before .before .pre) (c .before .before .put-bytes .ensures) refl))
-
-add-if1 : tie.Need-add-if1 Inv-loop μ-loop
-add-if1 c = search needs
-
-mul-put-number : tie.Need-mul-put-number Inv-loop μ-loop
-mul-put-number c = search needs
-
-shared-slice-read-put-number : tie.Need-shared-slice-read-put-number Inv-loop μ-loop
-shared-slice-read-put-number c = search needs
-
-cast-put-number : tie.Need-cast-put-number Inv-loop μ-loop
-cast-put-number c = omega (arith, c .shared-slice-known2 .given (c .before .before .before .before .loop .i))
-
-put-number-requires : tie.Need-put-number-requires Inv-loop μ-loop
-put-number-requires c κs = number-room (c .before .before .before .before .loop .inv .1) (c .before .before .before .loop-test .taken) (c .before .before .if1 .end) (⊎-elim (λ w. by-comma (w .0 .taken) (w .1)) (λ w. by-feed (w .0 .left) (w .1)) (c .before .before .if1 .came))
-
-add-i : tie.Need-add-i Inv-loop μ-loop
-add-i c = search needs
-
-loop-less : tie.Need-loop-less Inv-loop μ-loop
-loop-less c = search needs
-
-loop-again : tie.Need-loop-again Inv-loop μ-loop
-loop-again c = (search needs, number-put (c .before .before .before .before .before .before .before .loop .inv .1) (c .before .before .before .before .before .before .loop-test .taken) (c .before .before .before .before .before .if1 .end) (⊎-elim (λ w. by-comma (w .0 .taken) (w .1)) (λ w. by-feed (w .0 .left) (w .1)) (c .before .before .before .before .before .if1 .came)) (c .before .before .put-number .ensures .0) (c .before .before .put-number .ensures .1))
-
-same-length : tie.Need-same-length Inv-loop μ-loop
-same-length c = search needs
-
-returns : tie.Need-returns Inv-loop μ-loop
-returns c = let e = laying-ends (c .before .loop .inv .1) (joined-over (c .before .before .before .before .before .before .before .before .before .args .ring .now) (c .before .loop .i) (c .loop-test .left)) in laying-ends (laying-last (key-put ring= (c .before .before .before .before .before .before .before .before .before .args .ring .now) (c .before .before .before .before .before .before .before .before .before .args .out .now) (c .before .before .before .before .before .before .before .before .before .args .at) (c .before .before .before .before .before .before .before .before .before .pre) (c .before .before .before .before .put-bytes .ensures) refl) (e .0) (e .1)) refl
+abbrev to-joined1 : tie.After-put-number Inv-loop μ-loop → tie.Joined1 Inv-loop μ-loop
+to-joined1 p = search
 
 pub put-ring-spec : {M : Type 1} → statement M
 put-ring-spec =
     tie.close
-    (tie.spec
-    Inv-loop
-    μ-loop
-    slice-aggregate-put-bytes
-    put-bytes-requires
-    add-place
-    loop-holds
-    add-if1
-    mul-put-number
-    shared-slice-read-put-number
-    cast-put-number
-    put-number-requires
-    add-i
-    loop-less
-    loop-again
-    same-length
-    returns)
+    (tie.spec Inv-loop μ-loop
+    (λ c. search needs)
+    (λ c κs. search line-begins)
+    (λ c. search needs)
+    (λ c.
+    let after-put-bytes : tie.After-put-bytes Inv-loop μ-loop = search in
+    (omega arith, laying-left (key-put ring= _ _ _ (to-start after-put-bytes .pre) (after-put-bytes .put-bytes .ensures) refl)))
+    (λ c. search needs)
+    (λ c. search needs)
+    (λ c. search needs)
+    (λ c. let at-loop : tie.At-loop Inv-loop μ-loop = search in omega (arith, c .shared-slice-known2 .given (at-loop .loop .i)))
+    (λ c κs.
+    let at-loop : tie.At-loop Inv-loop μ-loop = search in let turn : tie.In-loop Inv-loop μ-loop = search in
+    let joined1 : tie.Joined1 Inv-loop μ-loop = search in
+    number-room (at-loop .loop .inv .1) (turn .loop-test .taken) (joined1 .if1 .end)
+    (⊎-elim (λ w. by-comma (w .0 .taken) (w .1)) (λ w. by-feed (w .0 .left) (w .1)) (joined1 .if1 .came)))
+    (λ c. search needs)
+    (λ c. search needs)
+    (λ c.
+    let after-put-number : tie.After-put-number Inv-loop μ-loop = search in let joined1 = to-joined1 after-put-number in (
+      search needs,
+      number-put (to-at-loop after-put-number .loop .inv .1) (to-turn after-put-number .loop-test .taken) (joined1 .if1 .end)
+          (⊎-elim (λ w. by-comma (w .0 .taken) (w .1)) (λ w. by-feed (w .0 .left) (w .1)) (joined1 .if1 .came)) (after-put-number .put-number .ensures .0)
+          (after-put-number .put-number .ensures .1),
+    ))
+    (λ c. search needs)
+    (λ c.
+    let after-put-bytes : tie.After-put-bytes Inv-loop μ-loop = search in
+    let e = laying-ends (c .before .loop .inv .1) (joined-over _ (c .before .loop .i) (c .loop-test .left)) in laying-ends
+    (laying-last (key-put ring= _ _ _ (to-start after-put-bytes .pre) (after-put-bytes .put-bytes .ensures) refl) (e .0) (e .1)) refl))

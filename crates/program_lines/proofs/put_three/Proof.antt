@@ -7,35 +7,49 @@ use Rattle.program_lines.proofs.Laws.Lines.{joined-none, line-begins, k
 use Rattle.program_lines.proofs.put_three.Statement.{statement}
 use Rattle.program_lines.proofs.put_three.Tie as tie
 
-put-bytes-requires : tie.Need-put-bytes-requires
-put-bytes-requires c κs = line-begins (c .before .before .before .args .key .now) ((c .before .before .before .args .a) ∷ (c .before .before .before .args .b) ∷ (c .before .before .before .args .c) ∷ []) (c .before .before .before .args .out .now) (c .before .before .before .args .at) (c .before .before .before .pre)
+abbrev to-start : tie.After-put-bytes → tie.Start
+to-start p = search
 
-add-put-number : tie.Need-add-put-number
-add-put-number c = search needs
+abbrev to-after-put-bytes : tie.After-put-number → tie.After-put-bytes
+to-after-put-bytes p = search
 
-put-number-requires : tie.Need-put-number-requires
-put-number-requires c κs = next-room (c .before .before .before .before .before .before .before .args .a) (c .before .before .before .before .before .before .before .args .b) ((c .before .before .before .before .before .before .before .args .c) ∷ []) (key-put (c .before .before .before .before .before .before .before .args .key .now) ((c .before .before .before .before .before .before .before .args .a) ∷ (c .before .before .before .before .before .before .before .args .b) ∷ (c .before .before .before .before .before .before .before .args .c) ∷ []) (c .before .before .before .before .before .before .before .args .out .now) (c .before .before .before .before .before .before .before .args .at) (c .before .before .before .before .before .before .before .pre) (c .before .before .before .put-bytes .ensures) refl)
+abbrev to-after-put-number : tie.After-put-number2 → tie.After-put-number
+to-after-put-number p = search
 
-put-number-requires-2 : tie.Need-put-number-requires-2
-put-number-requires-2 c κs = next-room (c .before .before .before .before .before .before .before .before .before .before .before .args .b) (c .before .before .before .before .before .before .before .before .before .before .before .args .c) [] (next-put (c .before .before .before .before .before .before .before .before .before .before .before .args .a) (c .before .before .before .before .before .before .before .before .before .before .before .args .b) ((c .before .before .before .before .before .before .before .before .before .before .before .args .c) ∷ []) (key-put (c .before .before .before .before .before .before .before .before .before .before .before .args .key .now) ((c .before .before .before .before .before .before .before .before .before .before .before .args .a) ∷ (c .before .before .before .before .before .before .before .before .before .before .before .args .b) ∷ (c .before .before .before .before .before .before .before .before .before .before .before .args .c) ∷ []) (c .before .before .before .before .before .before .before .before .before .before .before .args .out .now) (c .before .before .before .before .before .before .before .before .before .before .before .args .at) (c .before .before .before .before .before .before .before .before .before .before .before .pre) (c .before .before .before .before .before .before .before .put-bytes .ensures) refl) (c .before .before .before .put-number .ensures .0) (c .before .before .before .put-number .ensures .1))
-
-put-number-requires-3 : tie.Need-put-number-requires-3
-put-number-requires-3 c κs = last-room (c .before .before .before .before .before .before .before .before .before .before .before .before .before .before .before .args .c) (next-put (c .before .before .before .before .before .before .before .before .before .before .before .before .before .before .before .args .b) (c .before .before .before .before .before .before .before .before .before .before .before .before .before .before .before .args .c) [] (next-put (c .before .before .before .before .before .before .before .before .before .before .before .before .before .before .before .args .a) (c .before .before .before .before .before .before .before .before .before .before .before .before .before .before .before .args .b) ((c .before .before .before .before .before .before .before .before .before .before .before .before .before .before .before .args .c) ∷ []) (key-put (c .before .before .before .before .before .before .before .before .before .before .before .before .before .before .before .args .key .now) ((c .before .before .before .before .before .before .before .before .before .before .before .before .before .before .before .args .a) ∷ (c .before .before .before .before .before .before .before .before .before .before .before .before .before .before .before .args .b) ∷ (c .before .before .before .before .before .before .before .before .before .before .before .before .before .before .before .args .c) ∷ []) (c .before .before .before .before .before .before .before .before .before .before .before .before .before .before .before .args .out .now) (c .before .before .before .before .before .before .before .before .before .before .before .before .before .before .before .args .at) (c .before .before .before .before .before .before .before .before .before .before .before .before .before .before .before .pre) (c .before .before .before .before .before .before .before .before .before .before .before .put-bytes .ensures) refl) (c .before .before .before .before .before .before .before .put-number .ensures .0) (c .before .before .before .before .before .before .before .put-number .ensures .1)) (c .before .before .before .put-number2 .ensures .0) (c .before .before .before .put-number2 .ensures .1))
-
-same-length : tie.Need-same-length
-same-length c = search needs
-
-returns : tie.Need-returns
-returns c = laying-ends (last-put (c .before .before .before .before .before .before .before .before .before .before .before .before .before .before .before .before .before .before .args .c) (next-put (c .before .before .before .before .before .before .before .before .before .before .before .before .before .before .before .before .before .before .args .b) (c .before .before .before .before .before .before .before .before .before .before .before .before .before .before .before .before .before .before .args .c) [] (next-put (c .before .before .before .before .before .before .before .before .before .before .before .before .before .before .before .before .before .before .args .a) (c .before .before .before .before .before .before .before .before .before .before .before .before .before .before .before .before .before .before .args .b) ((c .before .before .before .before .before .before .before .before .before .before .before .before .before .before .before .before .before .before .args .c) ∷ []) (key-put (c .before .before .before .before .before .before .before .before .before .before .before .before .before .before .before .before .before .before .args .key .now) ((c .before .before .before .before .before .before .before .before .before .before .before .before .before .before .before .before .before .before .args .a) ∷ (c .before .before .before .before .before .before .before .before .before .before .before .before .before .before .before .before .before .before .args .b) ∷ (c .before .before .before .before .before .before .before .before .before .before .before .before .before .before .before .before .before .before .args .c) ∷ []) (c .before .before .before .before .before .before .before .before .before .before .before .before .before .before .before .before .before .before .args .out .now) (c .before .before .before .before .before .before .before .before .before .before .before .before .before .before .before .before .before .before .args .at) (c .before .before .before .before .before .before .before .before .before .before .before .before .before .before .before .before .before .before .pre) (c .before .before .before .before .before .before .before .before .before .before .before .before .before .before .put-bytes .ensures) refl) (c .before .before .before .before .before .before .before .before .before .before .put-number .ensures .0) (c .before .before .before .before .before .before .before .before .before .before .put-number .ensures .1)) (c .before .before .before .before .before .before .put-number2 .ensures .0) (c .before .before .before .before .before .before .put-number2 .ensures .1)) (c .before .before .put-number3 .ensures .0) (c .before .before .put-number3 .ensures .1)) joined-none
+abbrev to-after-put-number2 : tie.After-put-number3 → tie.After-put-number2
+to-after-put-number2 p = search
 
 pub put-three-spec : {M : Type 1} → statement M
 put-three-spec =
     tie.close
     (tie.spec
-    put-bytes-requires
-    add-put-number
-    put-number-requires
-    put-number-requires-2
-    put-number-requires-3
-    same-length
-    returns)
+    (λ c κs. search line-begins)
+    (λ c. search needs)
+    (λ c κs.
+    let after-put-bytes : tie.After-put-bytes = search in
+    next-room _ _ (_ ∷ []) (key-put _ (_ ∷ _ ∷ _ ∷ []) _ _ (to-start after-put-bytes .pre) (after-put-bytes .put-bytes .ensures) refl))
+    (λ c κs.
+    let after-put-number : tie.After-put-number = search in let after-put-bytes = to-after-put-bytes after-put-number in
+    next-room _ _ []
+    (next-put _ _ (_ ∷ []) (key-put _ (_ ∷ _ ∷ _ ∷ []) _ _ (to-start after-put-bytes .pre) (after-put-bytes .put-bytes .ensures) refl)
+    (after-put-number .put-number .ensures .0) (after-put-number .put-number .ensures .1)))
+    (λ c κs.
+    let after-put-number2 : tie.After-put-number2 = search in let after-put-number = to-after-put-number after-put-number2 in
+    let after-put-bytes = to-after-put-bytes after-put-number in
+    last-room _
+    (next-put _ _ []
+    (next-put _ _ (_ ∷ []) (key-put _ (_ ∷ _ ∷ _ ∷ []) _ _ (to-start after-put-bytes .pre) (after-put-bytes .put-bytes .ensures) refl)
+    (after-put-number .put-number .ensures .0) (after-put-number .put-number .ensures .1))
+    (after-put-number2 .put-number2 .ensures .0) (after-put-number2 .put-number2 .ensures .1)))
+    (λ c. search needs)
+    (λ c.
+    let after-put-number3 : tie.After-put-number3 = search in let after-put-number2 = to-after-put-number2 after-put-number3 in
+    let after-put-number = to-after-put-number after-put-number2 in let after-put-bytes = to-after-put-bytes after-put-number in
+    laying-ends
+    (last-put _
+    (next-put _ _ []
+    (next-put _ _ (_ ∷ []) (key-put _ (_ ∷ _ ∷ _ ∷ []) _ _ (to-start after-put-bytes .pre) (after-put-bytes .put-bytes .ensures) refl)
+    (after-put-number .put-number .ensures .0) (after-put-number .put-number .ensures .1))
+    (after-put-number2 .put-number2 .ensures .0) (after-put-number2 .put-number2 .ensures .1))
+    (after-put-number3 .put-number3 .ensures .0) (after-put-number3 .put-number3 .ensures .1))
+    joined-none))

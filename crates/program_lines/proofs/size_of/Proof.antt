@@ -14,21 +14,12 @@ Inv-loop n size₀ v₀ size v = size + numeral.size v ≡ numeral.size n + 1
 abbrev μ-loop : tie.MeasureT-loop
 μ-loop n size₀ v₀ size v = v
 
-loop-holds : tie.Need-loop-holds Inv-loop μ-loop
-loop-holds c = omega arith
-
-add-size : tie.Need-add-size Inv-loop μ-loop
-add-size c = omega (arith, size-word (c .before .before .args .n) (omega arith))
-
-loop-less : tie.Need-loop-less Inv-loop μ-loop
-loop-less c = search needs
-
-loop-again : tie.Need-loop-again Inv-loop μ-loop
-loop-again c = sized-more _ _ _ (c .loop-test .taken) (c .before .loop .inv)
-
-returns : tie.Need-returns Inv-loop μ-loop
-returns c = sized-end _ _ _ (c .loop-test .left) (c .before .loop .inv)
-
 pub size-of-spec : {M : Type 1} → statement M
 size-of-spec =
-    tie.close (tie.spec Inv-loop μ-loop loop-holds add-size loop-less loop-again returns)
+    tie.close
+    (tie.spec Inv-loop μ-loop
+    (λ c. omega arith)
+    (λ c. let start : tie.Start Inv-loop μ-loop = search in omega (arith, size-word (start .args .n) (omega arith)))
+    (λ c. search needs)
+    (λ c. search sized-more)
+    (λ c. search sized-end))

@@ -6,43 +6,58 @@ use Rattle.program_roll.proofs.Laws.Beginning.{refusal-begins, count-be
 use Rattle.program_roll.proofs.begin.Statement.{statement}
 use Rattle.program_roll.proofs.begin.Tie as tie
 
-put-answer-requires : tie.Need-put-answer-requires
-put-answer-requires c κs = search needs
+abbrev to-after-put-answer : tie.After-refuses → tie.After-put-answer
+to-after-put-answer p = search
 
-refuses-requires : tie.Need-refuses-requires
-refuses-requires c κs = search needs
+abbrev to-after-refuses : tie.After-start → tie.After-refuses
+to-after-refuses p = search
 
-start-requires : tie.Need-start-requires
-start-requires c κs = search needs
+abbrev to-after-put-answer-2 : tie.After-start → tie.After-put-answer
+to-after-put-answer-2 p = to-after-put-answer (to-after-refuses p)
 
-same-length : tie.Need-same-length
-same-length c = search needs
+abbrev to-after-refuses-2 : tie.After-put-count → tie.After-refuses
+to-after-refuses-2 p = search
 
-returns : tie.Need-returns
-returns c = (refusal-begins _ _ _ _ _ (c .before .before .before .before .before .put-answer .ensures .0 .0) (c .before .before .before .before .before .put-answer .ensures .0 .1) (sym (c .before .before .refuses .ensures) ∙ c .before .if1 .taken) _ (c .start .ensures), omega (arith, c .start .ensures .3, c .before .before .before .before .before .put-answer .ensures .1))
+abbrev to-after-put-answer-3 : tie.After-put-count → tie.After-put-answer
+to-after-put-answer-3 p = to-after-put-answer (to-after-refuses-2 p)
 
-put-count-requires : tie.Need-put-count-requires
-put-count-requires c κs = search needs
+abbrev to-after-put-count : tie.After-start2 → tie.After-put-count
+to-after-put-count p = search
 
-start-requires-2 : tie.Need-start-requires-2
-start-requires-2 c κs = search needs
+abbrev to-after-put-answer-4 : tie.After-start2 → tie.After-put-answer
+to-after-put-answer-4 p = to-after-put-answer-3 (to-after-put-count p)
 
-same-length-2 : tie.Need-same-length-2
-same-length-2 c = search needs
+abbrev to-after-refuses-3 : tie.After-start2 → tie.After-refuses
+to-after-refuses-3 p = to-after-refuses-2 (to-after-put-count p)
 
-returns-2 : tie.Need-returns-2
-returns-2 c = (count-begins _ _ _ _ _ (c .before .before .before .before .before .before .before .before .before .put-answer .ensures .0 .0) (c .before .before .before .before .before .before .before .before .before .put-answer .ensures .0 .1) (sym (c .before .before .before .before .before .before .refuses .ensures) ∙ c .before .before .before .before .before .if1 .left) _ _ (c .before .before .before .put-count .ensures .0 .0) (c .before .before .before .put-count .ensures .0 .1) _ (c .start2 .ensures), omega (arith, c .start2 .ensures .3, c .before .before .before .before .before .before .before .before .before .put-answer .ensures .1, c .before .before .before .put-count .ensures .1))
+abbrev to-else1 : tie.After-put-count → tie.Else1
+to-else1 p = search
+
+abbrev to-else1-2 : tie.After-start2 → tie.Else1
+to-else1-2 p = to-else1 (to-after-put-count p)
 
 pub begin-spec : {M : Type 1} → statement M
 begin-spec =
     tie.close
     (tie.spec
-    put-answer-requires
-    refuses-requires
-    start-requires
-    same-length
-    returns
-    put-count-requires
-    start-requires-2
-    same-length-2
-    returns-2)
+    (λ c κs. search needs)
+    (λ c κs. search needs)
+    (λ c κs. search needs)
+    (λ c. search needs)
+    (λ c.
+    let after-put-answer = to-after-put-answer-2 c in (
+      refusal-begins _ _ _ _ _ (after-put-answer .put-answer .ensures .0 .0) (after-put-answer .put-answer .ensures .0 .1)
+          (sym (to-after-refuses c .refuses .ensures) ∙ c .before .if1 .taken) _ (c .start .ensures),
+      omega (arith, c .start .ensures .3, after-put-answer .put-answer .ensures .1),
+    ))
+    (λ c κs. search needs)
+    (λ c κs. search needs)
+    (λ c. search needs)
+    (λ c.
+    let after-put-answer = to-after-put-answer-4 c in
+    let after-put-count = to-after-put-count c in (
+      count-begins _ _ _ _ _ (after-put-answer .put-answer .ensures .0 .0) (after-put-answer .put-answer .ensures .0 .1)
+          (sym (to-after-refuses-3 c .refuses .ensures) ∙ (to-else1-2 c) .if1 .left) _ _ (after-put-count .put-count .ensures .0 .0)
+          (after-put-count .put-count .ensures .0 .1) _ (c .start2 .ensures),
+      omega (arith, c .start2 .ensures .3, after-put-answer .put-answer .ensures .1, after-put-count .put-count .ensures .1),
+    )))

@@ -14,45 +14,54 @@ Inv-loop out₀ loops rings lengths states weights patches m₀ out m = (length 
 abbrev μ-loop : tie.MeasureT-loop
 μ-loop out₀ loops rings lengths states weights patches m₀ out m = loops - m .loops
 
-loop-holds : tie.Need-loop-holds Inv-loop μ-loop
-loop-holds c = (refl, filling-begins widest (c .before .before .before .before .before .before .args .rings .now) (c .before .before .before .before .before .before .args .lengths .now) (c .before .before .before .before .before .before .args .states .now) (c .before .before .before .before .before .before .args .weights .now) (c .before .before .before .before .before .before .args .patches .now) (c .before .before .before .before .before .before .args .loops) _ _ (c .before .before .before .before .before .before .pre .0))
+abbrev to-then1 : tie.After-put-next Inv-loop μ-loop → tie.Then1 Inv-loop μ-loop
+to-then1 p = search
 
-add-if2 : tie.Need-add-if2 Inv-loop μ-loop
-add-if2 c = omega (arith, filling-within widest (c .before .before .before .before .before .before .before .before .before .before .args .rings .now) (c .before .before .before .before .before .before .before .before .before .before .args .lengths .now) (c .before .before .before .before .before .before .before .before .before .before .args .states .now) (c .before .before .before .before .before .before .before .before .before .before .args .weights .now) (c .before .before .before .before .before .before .before .before .before .before .args .patches .now) (c .before .before .before .before .before .before .before .before .before .before .args .loops) _ _ _ _ (c .before .before .before .loop .inv .1) (c .before .before .before .before .before .before .before .before .before .before .pre .1))
+abbrev to-at-loop : tie.After-put-next Inv-loop μ-loop → tie.At-loop Inv-loop μ-loop
+to-at-loop p = search
 
-same-length : tie.Need-same-length Inv-loop μ-loop
-same-length c = c .before .before .before .before .loop .inv .0
+abbrev to-start : tie.After-put-next Inv-loop μ-loop → tie.Start Inv-loop μ-loop
+to-start p = search
 
-returns : tie.Need-returns Inv-loop μ-loop
-returns c = filling-full widest (c .before .before .before .before .before .before .before .before .before .before .before .args .rings .now) (c .before .before .before .before .before .before .before .before .before .before .before .args .lengths .now) (c .before .before .before .before .before .before .before .before .before .before .before .args .states .now) (c .before .before .before .before .before .before .before .before .before .before .before .args .weights .now) (c .before .before .before .before .before .before .before .before .before .before .before .args .patches .now) (c .before .before .before .before .before .before .before .before .before .before .before .args .loops) _ _ _ _ (c .before .before .before .before .loop .inv .1) (omega (arith, c .if2 .taken, c .before .before .before .before .loop .inv .0))
-
-put-next-requires : tie.Need-put-next-requires Inv-loop μ-loop
-put-next-requires c κs = (omega (arith, c .before .if2 .left), filling-room widest (c .before .before .before .before .before .before .before .before .before .before .before .before .args .rings .now) (c .before .before .before .before .before .before .before .before .before .before .before .before .args .lengths .now) (c .before .before .before .before .before .before .before .before .before .before .before .before .args .states .now) (c .before .before .before .before .before .before .before .before .before .before .before .before .args .weights .now) (c .before .before .before .before .before .before .before .before .before .before .before .before .args .patches .now) (c .before .before .before .before .before .before .before .before .before .before .before .before .args .loops) _ _ _ _ (c .before .before .before .before .before .loop .inv .1) (c .before .before .before .before .before .before .before .before .before .before .before .before .pre .1) (omega (arith, c .before .before .before .if1 .taken)))
-
-loop-less : tie.Need-loop-less Inv-loop μ-loop
-loop-less c = omega (arith, c .before .before .before .before .before .before .if1 .taken, filling-one widest (c .before .before .before .before .before .before .before .before .before .before .before .before .before .before .before .args .rings .now) (c .before .before .before .before .before .before .before .before .before .before .before .before .before .before .before .args .lengths .now) (c .before .before .before .before .before .before .before .before .before .before .before .before .before .before .before .args .states .now) (c .before .before .before .before .before .before .before .before .before .before .before .before .before .before .before .args .weights .now) (c .before .before .before .before .before .before .before .before .before .before .before .before .before .before .before .args .patches .now) (c .before .before .before .before .before .before .before .before .before .before .before .before .before .before .before .args .loops) _ _ _ _ (c .before .before .before .before .before .before .before .before .loop .inv .1) (c .before .before .before .before .before .before .before .before .before .before .before .before .before .before .before .pre .1) (omega (arith, c .before .before .before .before .before .before .if1 .taken)) _ _ (c .before .before .put-next .ensures .0))
-
-loop-again : tie.Need-loop-again Inv-loop μ-loop
-loop-again c = (c .before .out .given ∙ c .before .before .before .before .before .before .before .before .loop .inv .0, filling-more widest (c .before .before .before .before .before .before .before .before .before .before .before .before .before .before .before .args .rings .now) (c .before .before .before .before .before .before .before .before .before .before .before .before .before .before .before .args .lengths .now) (c .before .before .before .before .before .before .before .before .before .before .before .before .before .before .before .args .states .now) (c .before .before .before .before .before .before .before .before .before .before .before .before .before .before .before .args .weights .now) (c .before .before .before .before .before .before .before .before .before .before .before .before .before .before .before .args .patches .now) (c .before .before .before .before .before .before .before .before .before .before .before .before .before .before .before .args .loops) _ _ _ _ (c .before .before .before .before .before .before .before .before .loop .inv .1) (omega (arith, c .before .before .before .before .before .before .if1 .taken)) _ _ (c .before .before .put-next .ensures .0) (omega (arith, c .before .before .before .before .if2 .left, c .before .before .before .before .before .before .before .before .loop .inv .0)) (c .before .before .put-next .ensures .1))
-
-same-length-2 : tie.Need-same-length-2 Inv-loop μ-loop
-same-length-2 c = c .before .before .loop .inv .0
-
-returns-2 : tie.Need-returns-2 Inv-loop μ-loop
-returns-2 c = filling-all widest (c .before .before .before .before .before .before .before .before .before .args .rings .now) (c .before .before .before .before .before .before .before .before .before .args .lengths .now) (c .before .before .before .before .before .before .before .before .before .args .states .now) (c .before .before .before .before .before .before .before .before .before .args .weights .now) (c .before .before .before .before .before .before .before .before .before .args .patches .now) (c .before .before .before .before .before .before .before .before .before .args .loops) _ _ _ _ (c .before .before .loop .inv .1) (omega (arith, c .if1 .left))
+abbrev to-else2 : tie.After-put-next Inv-loop μ-loop → tie.Else2 Inv-loop μ-loop
+to-else2 p = search
 
 pub fill-spec : {M : Type 1} → statement M
 fill-spec =
     tie.close
-    (tie.spec
-    Inv-loop
-    μ-loop
-    loop-holds
-    add-if2
-    same-length
-    returns
-    put-next-requires
-    loop-less
-    loop-again
-    same-length-2
-    returns-2)
+    (tie.spec Inv-loop μ-loop
+    (λ c. let start : tie.Start Inv-loop μ-loop = search in (refl, filling-begins widest _ _ _ _ _ _ _ _ (start .pre .0)))
+    (λ c.
+    let at-loop : tie.At-loop Inv-loop μ-loop = search in
+    let start : tie.Start Inv-loop μ-loop = search in
+    omega (arith, filling-within widest _ _ _ _ _ _ _ _ _ _ (at-loop .loop .inv .1) (start .pre .1)))
+    (λ c. let at-loop : tie.At-loop Inv-loop μ-loop = search in at-loop .loop .inv .0)
+    (λ c.
+    let at-loop : tie.At-loop Inv-loop μ-loop = search in
+    filling-full widest _ _ _ _ _ _ _ _ _ _ (at-loop .loop .inv .1) (omega (arith, c .if2 .taken, at-loop .loop .inv .0)))
+    (λ c κs.
+    let at-loop : tie.At-loop Inv-loop μ-loop = search in
+    let start : tie.Start Inv-loop μ-loop = search in
+    let then1 : tie.Then1 Inv-loop μ-loop = search in (
+      omega (arith, c .before .if2 .left),
+      filling-room widest _ _ _ _ _ _ _ _ _ _ (at-loop .loop .inv .1) (start .pre .1) (omega (arith, then1 .if1 .taken)),
+    ))
+    (λ c.
+    let after-put-next : tie.After-put-next Inv-loop μ-loop = search in
+    let then1 = to-then1 after-put-next in
+    omega (
+      arith,
+      then1 .if1 .taken,
+      filling-one widest _ _ _ _ _ _ _ _ _ _ (to-at-loop after-put-next .loop .inv .1) (to-start after-put-next .pre .1)
+          (omega (arith, then1 .if1 .taken)) _ _ (after-put-next .put-next .ensures .0),
+    ))
+    (λ c.
+    let after-put-next : tie.After-put-next Inv-loop μ-loop = search in
+    let at-loop = to-at-loop after-put-next in (
+      c .before .out .given ∙ at-loop .loop .inv .0,
+      filling-more widest _ _ _ _ _ _ _ _ _ _ (at-loop .loop .inv .1) (omega (arith, (to-then1 after-put-next) .if1 .taken)) _ _
+          (after-put-next .put-next .ensures .0) (omega (arith, (to-else2 after-put-next) .if2 .left, at-loop .loop .inv .0))
+          (after-put-next .put-next .ensures .1),
+    ))
+    (λ c. let at-loop : tie.At-loop Inv-loop μ-loop = search in at-loop .loop .inv .0)
+    (λ c. search filling-all))

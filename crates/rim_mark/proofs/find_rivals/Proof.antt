@@ -37,7 +37,8 @@ find-rivals-spec =
     (λ c. let t : Turn = search in second-in (entry t .pre) (t .before .loop .inv) (t .loop-test .taken))
     (λ c. search needs)
     (λ c. search needs)
-    (λ c. let t : Turn = search in let o : tie.Then1 Inv-loop μ-loop = search in matched-flags (entry t .pre) (t .before .loop .inv) (t .loop-test .taken) (o .if1 .taken))
+    (λ c.
+    let t : Turn = search in let o : tie.Then1 Inv-loop μ-loop = search in matched-flags (entry t .pre) (t .before .loop .inv) (t .loop-test .taken) (o .if1 .taken))
     (λ c. let t : Turn = search in let p = entry t .pre .few in omega arith)
     (λ c. let t : Turn = search in omega (arith, c .before .before .shared-slice-known .given (t .before .loop .l)))
     (λ c. let t : Turn = search in seat-in (entry t .pre) (t .before .loop .inv) (t .loop-test .taken))

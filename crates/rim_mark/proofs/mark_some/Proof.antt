@@ -38,14 +38,17 @@ mark-some-spec =
     (tie.spec
     (λ c κs. let s : tie.Start = search in number-room (s .pre))
     (λ c κs. let p : tie.After-places = search in let n = p .before .before .before in house-room (entry n .pre) (n .number .ensures) (p .places .given))
-    (λ c κs. let h : tie.After-house = search in let p = numbered h in let n = p .before .before .before in clear-room (entry n .pre) (n .number .ensures) (p .places .given) (p .before .before .path .given))
+    (λ c κs.
+    let h : tie.After-house = search in let p = numbered h in let n = p .before .before .before in clear-room (entry n .pre) (n .number .ensures) (p .places .given)
+    (p .before .before .path .given))
     (λ c. search needs)
     (λ c κs.
     let q : tie.After-clear = search in
     let h = housed q in
     let p = numbered (h .before) in
     let n = p .before .before .before in
-    rank-room (entry n .pre) (n .number .ensures) (p .places .given) (h .before .house .ensures) (h .turns .given) (q .clear .ensures) (p .before .before .path .given) (lit≤ tt))
+    rank-room (entry n .pre) (n .number .ensures) (p .places .given) (h .before .house .ensures) (h .turns .given) (q .clear .ensures) (p .before .before .path .given)
+    (lit≤ tt))
     (λ c. search needs)
     (λ c κs.
     let f : tie.After-runs2 = search in
@@ -68,7 +71,8 @@ mark-some-spec =
     let h = housed (q .before) in
     let p = numbered (h .before) in
     let n = p .before .before .before in
-    rank-room (entry n .pre) (n .number .ensures) (p .places .given) (h .before .house .ensures) (h .turns .given) (w .clear2 .ensures) (v .path3 .given ∙ q .path2 .given ∙ p .before .before .path .given)
+    rank-room (entry n .pre) (n .number .ensures) (p .places .given) (h .before .house .ensures) (h .turns .given) (w .clear2 .ensures)
+    (v .path3 .given ∙ q .path2 .given ∙ p .before .before .path .given)
     (still-long (lit≤ tt) (m .runs4 .given)))
     (λ c κs.
     let b : tie.After-path5 = search in
@@ -80,11 +84,19 @@ mark-some-spec =
     let h = housed (q .before) in
     let p = numbered (h .before) in
     let n = p .before .before .before in
-    tell-room (entry n .pre) (n .number .ensures) (p .places .given) (h .before .house .ensures) (h .turns .given) (v .before .find-rivals .ensures) (m .before .measure .ensures) (w .clear2 .ensures)
+    tell-room (entry n .pre) (n .number .ensures) (p .places .given) (h .before .house .ensures) (h .turns .given) (v .before .find-rivals .ensures)
+    (m .before .measure .ensures) (w .clear2 .ensures)
     (v .path3 .given ∙ q .path2 .given ∙ p .before .before .path .given) (b .before .rank .ensures) (b .path5 .given))
-    (λ c. let b : tie.After-path5 = search in let w = cleared-again (b .before) in let v = flagged (measured w .before) .before .before in let q = cleared (v .before) in let h = housed (q .before) in h .turns .given)
-    (λ c. let b : tie.After-path5 = search in let w = cleared-again (b .before) in let v = flagged (measured w .before) .before .before in let q = cleared (v .before) in let h = housed (q .before) in b .path5 .given ∙ path-cleared (b .before) .path4 .given ∙ v .path3 .given ∙ q .path2 .given ∙ numbered (h .before) .before .before .path .given)
-    (λ c. let b : tie.After-path5 = search in let w = cleared-again (b .before) in let v = flagged (measured w .before) .before .before in let q = cleared (v .before) in let h = housed (q .before) in numbered (h .before) .places .given)
+    (λ c.
+    let b : tie.After-path5 = search in let w = cleared-again (b .before) in let v = flagged (measured w .before) .before .before in let q = cleared (v .before) in
+    let h = housed (q .before) in h .turns .given)
+    (λ c.
+    let b : tie.After-path5 = search in let w = cleared-again (b .before) in let v = flagged (measured w .before) .before .before in let q = cleared (v .before) in
+    let h = housed (q .before) in b .path5 .given ∙ path-cleared (b .before) .path4 .given ∙ v .path3 .given ∙ q .path2 .given ∙ numbered
+    (h .before) .before .before .path .given)
+    (λ c.
+    let b : tie.After-path5 = search in let w = cleared-again (b .before) in let v = flagged (measured w .before) .before .before in let q = cleared (v .before) in
+    let h = housed (q .before) in numbered (h .before) .places .given)
     (λ c. search needs)
     (λ c.
     let t : tie.After-tell = search in
@@ -97,5 +109,6 @@ mark-some-spec =
     let h = housed (q .before) in
     let p = numbered (h .before) in
     let n = p .before .before .before in
-    marked (entry n .pre) (n .number .ensures) (p .places .given) (h .before .house .ensures) (h .turns .given) (v .before .find-rivals .ensures) (m .before .measure .ensures) (w .clear2 .ensures)
+    marked (entry n .pre) (n .number .ensures) (p .places .given) (h .before .house .ensures) (h .turns .given) (v .before .find-rivals .ensures)
+    (m .before .measure .ensures) (w .clear2 .ensures)
     (v .path3 .given ∙ q .path2 .given ∙ p .before .before .path .given) (b .before .rank .ensures) (b .path5 .given) _ (t .tell .ensures)))

@@ -48,7 +48,10 @@ rank-spec =
     (λ c. search needs)
     (λ c. search needs)
     (λ c.
-    let t : Turn = search in
-    (omega arith, ranked-takes _ _ _ _ (entry t .pre) _ _ (t .before .loop .inv .1) (t .loop-test .taken) (⊎-elim (λ w. inr (w .0 .taken, w .3 .left)) (λ w. inl (w .left)) (c .if1 .came))))
+    let t : Turn = search in (
+      omega arith,
+      ranked-takes _ _ _ _ (entry t .pre) _ _ (t .before .loop .inv .1) (t .loop-test .taken)
+          (⊎-elim (λ w. inr (w .0 .taken, w .3 .left)) (λ w. inl (w .left)) (c .if1 .came)),
+    ))
     (λ c. c .before .loop .inv .1 .kept)
     (λ c. search (ranked-ends, c .before .loop .inv .0, c .before .loop .inv .1, c .before .before .pre, c .loop-test)))

@@ -25,7 +25,9 @@ number-spec =
     tie.close
     (tie.spec Inv-loop μ-loop
     (λ c κs. search needs)
-    (λ c. let s : tie.Start Inv-loop μ-loop = search in let k : tie.After-clear Inv-loop μ-loop = search in numbering-begins (s .pre) (k .clear .ensures .kept) (k .clear .ensures .clear))
+    (λ c.
+    let s : tie.Start Inv-loop μ-loop = search in let k : tie.After-clear Inv-loop μ-loop = search in numbering-begins (s .pre) (k .clear .ensures .kept)
+    (k .clear .ensures .clear))
     (λ c. search needs)
     (λ c. let t : Turn = search in search (triangle-in, t .before .loop .inv, entry t .pre, t .loop-test))
     (λ c. search needs)
@@ -41,7 +43,9 @@ number-spec =
     (λ c. let t : Turn = search in omega (arith, small (entry t .pre) (t .before .loop .inv)))
     (λ c. search needs)
     (λ c. search needs)
-    (λ c. let t : Turn = search in let d : tie.After-spread Inv-loop μ-loop = search in search (numbering-more, t .before .loop .inv, entry t .pre, t .loop-test, d .spread))
+    (λ c.
+    let t : Turn = search in let d : tie.After-spread Inv-loop μ-loop = search in search
+    (numbering-more, t .before .loop .inv, entry t .pre, t .loop-test, d .spread))
     (λ c. search needs)
     (λ c. search needs)
     (λ c. search needs)

@@ -6,21 +6,16 @@ use Rattle.surface_twins.proofs.Laws.Buckets.{product-fits}
 use Rattle.surface_twins.proofs.bucket.Statement.{statement}
 use Rattle.surface_twins.proofs.bucket.Tie as tie
 
-add-result : tie.Need-add-result
-add-result c = search needs
-
-add-result-2 : tie.Need-add-result-2
-add-result-2 c = search needs
-
-mul-result : tie.Need-mul-result
-mul-result c = omega (arith, product-fits (c .args .u) (c .args .v) 65536 (omega arith) (omega arith))
-
-rem-result : tie.Need-rem-result
-rem-result c = search needs
-
 returns : tie.Need-returns
 unfolding bucketOf
 returns c = search needs
 
 pub bucket-spec : {M : Type 1} → statement M
-bucket-spec = tie.close (tie.spec add-result add-result-2 mul-result rem-result returns)
+bucket-spec =
+    tie.close
+    (tie.spec
+    (λ c. search needs)
+    (λ c. search needs)
+    (λ c. omega (arith, product-fits (c .args .u) (c .args .v) 65536 (omega arith) (omega arith)))
+    (λ c. search needs)
+    returns)

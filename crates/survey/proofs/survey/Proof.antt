@@ -26,83 +26,68 @@ counts-here c = counts-pass _ _ _ (c .before .before .check-counts .ensures) (sy
 known-here : (c : tie.Else2) → Known (c .before .before .before .before .before .before .before .before .before .before .before .before .before .before .args .words .now) (c .before .before .before .before .before .before .before .before .before .before .before .before .before .before .args .corners .now) (c .before .before .before .check .last .1 .1 .1 .1 .0) (c .before .before .before .before .before .before .before .before .before .before .before .before .before .before .args .grid .now) (c .before .before .before .before .before .before .before .before .before .before .before .before .before .before .args .rings .now) (c .before .before .before .before .before .before .before .before .before .before .before .before .before .before .args .lengths .now) [] []
 known-here c = known _ _ _ (c .before .before .before .before .before .before .before .before .before .before .before .before .before .before .args .grid .now) (c .before .before .before .before .before .before .before .before .before .before .before .before .before .before .args .rings .now) (c .before .before .before .before .before .before .before .before .before .before .before .before .before .before .args .lengths .now) [] [] _ (counts-here (c .before .before .before .before .before .before .before)) (c .before .before .before .check .ensures) (sym (c .before .refuses2 .ensures) ∙ c .if2 .left)
 
-check-counts-requires : tie.Need-check-counts-requires
-check-counts-requires c κs = search needs
+abbrev to-after-refuses : tie.After-refused → tie.After-refuses
+to-after-refuses p = search
 
-refuses-requires : tie.Need-refuses-requires
-refuses-requires c κs = search needs
+abbrev to-after-check-counts : tie.After-refuses → tie.After-check-counts
+to-after-check-counts p = search
 
-refused-requires : tie.Need-refused-requires
-refused-requires c κs = search needs
+abbrev to-start : tie.After-check-counts → tie.Start
+to-start p = search
 
-returns : tie.Need-returns
-returns c = counts-refuse _ _ (lent-here (c .before .before .before .before .before .before .before .before)) _ _ (c .refused .ensures) (c .before .before .before .check-counts .ensures) (sym (c .before .before .refuses .ensures) ∙ c .before .if1 .taken)
+abbrev to-after-refuses2 : tie.After-refused2 → tie.After-refuses2
+to-after-refuses2 p = search
 
-slice-aggregate-check : tie.Need-slice-aggregate-check
-slice-aggregate-check c = search needs
+abbrev to-after-check : tie.After-refuses2 → tie.After-check
+to-after-check p = search
 
-slice-aggregate-check-2 : tie.Need-slice-aggregate-check-2
-slice-aggregate-check-2 c = search needs
+abbrev to-after-refuses-2 : tie.After-check → tie.After-refuses
+to-after-refuses-2 p = search
 
-slice-aggregate-check-3 : tie.Need-slice-aggregate-check-3
-slice-aggregate-check-3 c = search needs
+abbrev to-else1 : tie.After-check → tie.Else1
+to-else1 p = search
 
-check-requires : tie.Need-check-requires
-check-requires c κs = let e = counts-here (c .before .before .before) in record { counts = e; long = le-trans (counts-fit _ _ e .few-corners) (lit≤ tt) }
+abbrev to-else2 : tie.After-lay-grid → tie.Else2
+to-else2 p = search
 
-refuses-requires-2 : tie.Need-refuses-requires-2
-refuses-requires-2 c κs = search needs
+abbrev to-after-lay-grid : tie.After-list-loops → tie.After-lay-grid
+to-after-lay-grid p = search
 
-refused-requires-2 : tie.Need-refused-requires-2
-refused-requires-2 c κs = search needs
-
-returns-2 : tie.Need-returns-2
-returns-2 c = content-refuse _ _ (lent-here (c .before .before .before .before .before .before .before .before .before .before .before .before .before .before .before)) (counts-here (c .before .before .before .before .before .before .before .before)) _ _ _ (c .refused2 .ensures) (c .before .before .before .before .check .ensures) (sym (c .before .before .refuses2 .ensures) ∙ c .before .if2 .taken)
-
-lay-grid-requires : tie.Need-lay-grid-requires
-lay-grid-requires c κs = grid-ready (known-here (c .before))
-
-slice-aggregate-list-loops : tie.Need-slice-aggregate-list-loops
-slice-aggregate-list-loops c = search needs
-
-slice-aggregate-list-loops-2 : tie.Need-slice-aggregate-list-loops-2
-slice-aggregate-list-loops-2 c = search needs
-
-list-loops-requires : tie.Need-list-loops-requires
-list-loops-requires c κs = let k = known-here (c .before .before .before .before .before .before .before) in ready k _ _ _ (le-trans (k .fits .few-corners) (search needs)) (k .rings-long) (k .lengths-long) (enough k (lit≤ tt))
-
-same-length : tie.Need-same-length
-same-length c = search needs
-
-same-length-2 : tie.Need-same-length-2
-same-length-2 c = search needs
-
-same-length-3 : tie.Need-same-length-3
-same-length-3 c = search needs
-
-returns-3 : tie.Need-returns-3
-returns-3 c = done-is _ _ (lent-here (c .before .before .before .before .before .before .before .before .before .before .before .before .before .before .before .before .before .before .before .before .before .before .before .before .before .before .before .before)) (known-here (c .before .before .before .before .before .before .before .before .before .before .before .before .before .before)) _ _ _ _ _ _ (c .before .before .before .before .before .before .list-loops .ensures) (c .before .before .before .before .before .before .before .before .before .before .before .before .lay-grid .ensures)
+abbrev to-after-refuses2-2 : tie.After-lay-grid → tie.After-refuses2
+to-after-refuses2-2 p = search
 
 pub survey-spec : {M : Type 1} → statement M
 survey-spec =
     tie.close
     (tie.spec
-    check-counts-requires
-    refuses-requires
-    refused-requires
-    returns
-    slice-aggregate-check
-    slice-aggregate-check-2
-    slice-aggregate-check-3
-    check-requires
-    refuses-requires-2
-    refused-requires-2
-    returns-2
-    lay-grid-requires
-    slice-aggregate-list-loops
-    slice-aggregate-list-loops-2
-    list-loops-requires
-    same-length
-    same-length-2
-    same-length-3
-    returns-3)
+    (λ c κs. search needs)
+    (λ c κs. search needs)
+    (λ c κs. search needs)
+    (λ c.
+    let after-refuses = to-after-refuses c in let after-check-counts = to-after-check-counts after-refuses in
+    counts-refuse _ _ (lent-here (to-start after-check-counts)) _ _ (c .refused .ensures) (after-check-counts .check-counts .ensures)
+    (sym (after-refuses .refuses .ensures) ∙ c .before .if1 .taken))
+    (λ c. search needs)
+    (λ c. search needs)
+    (λ c. search needs)
+    (λ c κs. let else1 : tie.Else1 = search in let e = counts-here else1 in record { counts = e; long = le-trans (counts-fit _ _ e .few-corners) (lit≤ tt) })
+    (λ c κs. search needs)
+    (λ c κs. search needs)
+    (λ c.
+    let after-refuses2 = to-after-refuses2 c in let after-check = to-after-check after-refuses2 in
+    content-refuse _ _ (lent-here (to-start (to-after-check-counts (to-after-refuses-2 after-check)))) (counts-here (to-else1 after-check)) _ _ _
+    (c .refused2 .ensures) (after-check .check .ensures) (sym (after-refuses2 .refuses2 .ensures) ∙ c .before .if2 .taken))
+    (λ c κs. grid-ready (known-here (c .before)))
+    (λ c. search needs)
+    (λ c. search needs)
+    (λ c κs.
+    let after-lay-grid : tie.After-lay-grid = search in
+    let k = known-here (to-else2 after-lay-grid) in ready k _ _ _ (le-trans (k .fits .few-corners) (search needs)) (k .rings-long) (k .lengths-long)
+    (enough k (lit≤ tt)))
+    (λ c. search needs)
+    (λ c. search needs)
+    (λ c. search needs)
+    (λ c.
+    let after-list-loops : tie.After-list-loops = search in let after-lay-grid = to-after-lay-grid after-list-loops in
+    done-is _ _ (lent-here (to-start (to-after-check-counts (to-after-refuses-2 (to-after-check (to-after-refuses2-2 after-lay-grid))))))
+    (known-here (to-else2 after-lay-grid)) _ _ _ _ _ _ (after-list-loops .list-loops .ensures) (after-lay-grid .lay-grid .ensures)))

@@ -17,81 +17,91 @@ Inv-loop text at end limit i₀ v₀ k₀ i v k = (k ≤ i) × (v ≤ limit) × 
 abbrev μ-loop : tie.MeasureT-loop
 μ-loop text at end limit i₀ v₀ k₀ i v k = length text - i
 
-loop-holds : tie.Need-loop-holds Inv-loop μ-loop
-loop-holds c = (search needs, search needs, dec-begin (c .before .args .text .now) _ _ (c .before .args .at))
+abbrev to-turn : tie.After-size-of Inv-loop μ-loop → tie.In-loop Inv-loop μ-loop
+to-turn p = search
 
-shared-slice-read-x : tie.Need-shared-slice-read-x Inv-loop μ-loop
-shared-slice-read-x c = search needs
+abbrev to-then1 : tie.After-size-of Inv-loop μ-loop → tie.Then1 Inv-loop μ-loop
+to-then1 p = search
 
-size-of-requires : tie.Need-size-of-requires Inv-loop μ-loop
-size-of-requires c κs = search needs
+abbrev to-at-loop : tie.After-size-of Inv-loop μ-loop → tie.At-loop Inv-loop μ-loop
+to-at-loop p = search
 
-add-t16 : tie.Need-add-t16 Inv-loop μ-loop
-add-t16 c = search needs
+abbrev to-turn-2 : tie.After-is-digit Inv-loop μ-loop → tie.In-loop Inv-loop μ-loop
+to-turn-2 p = search
 
-returns : tie.Need-returns Inv-loop μ-loop
-returns c = (dec-end _ _ _ _ _ _ _ (c .before .before .before .before .loop-test .taken) (c .before .before .if1 .taken) (c .if2 .taken ∙ c .before .size-of .ensures) (c .before .before .before .before .before .loop .inv .2), search needs)
+abbrev to-else1 : tie.After-is-digit Inv-loop μ-loop → tie.Else1 Inv-loop μ-loop
+to-else1 p = search
 
-returns-2 : tie.Need-returns-2 Inv-loop μ-loop
-returns-2 c = (dec-zeros _ _ _ _ _ _ _ (c .before .before .before .before .loop-test .taken) (c .before .before .if1 .taken) (λ e. c .if2 .left (e ∙ sym (c .before .size-of .ensures))) (c .before .before .before .before .before .loop .inv .2), tt)
+abbrev to-at-loop-2 : tie.After-is-digit Inv-loop μ-loop → tie.At-loop Inv-loop μ-loop
+to-at-loop-2 p = search
 
-is-digit-requires : tie.Need-is-digit-requires Inv-loop μ-loop
-is-digit-requires c κs = search needs
-
-returns-3 : tie.Need-returns-3 Inv-loop μ-loop
-returns-3 c = (chain-bad _ _ _ _ _ _ (c .before .before .before .before .loop-test .taken) (c .before .before .if1 .left) (sym (c .before .is-digit .ensures) ∙ not-true _ (c .if3 .taken)) ∙ sym (c .before .before .before .before .before .loop .inv .2), tt)
-
-mul-w : tie.Need-mul-w Inv-loop μ-loop
-mul-w c = search needs
-
-sub-w : tie.Need-sub-w Inv-loop μ-loop
-sub-w c = omega (arith, digit-from (getD (c .before .before .before .before .before .before .before .args .text .now) (c .before .before .before .before .before .loop .i) 0) (sym (c .before .is-digit .ensures) ∙ not-false _ (c .if3 .left)) .0)
-
-cast-w : tie.Need-cast-w Inv-loop μ-loop
-cast-w c = omega (arith, digit-from (getD (c .before .before .before .before .before .before .before .args .text .now) (c .before .before .before .before .before .loop .i) 0) (sym (c .before .is-digit .ensures) ∙ not-false _ (c .if3 .left)) .1)
-
-add-w : tie.Need-add-w Inv-loop μ-loop
-add-w c = omega (arith, digit-from (getD (c .before .before .before .before .before .before .before .args .text .now) (c .before .before .before .before .before .loop .i) 0) (sym (c .before .is-digit .ensures) ∙ not-false _ (c .if3 .left)) .1)
-
-returns-4 : tie.Need-returns-4 Inv-loop μ-loop
-returns-4 c = (chain-big _ _ _ _ _ _ (c .before .before .before .before .before .loop-test .taken) (c .before .before .before .if1 .left) (sym (c .before .before .is-digit .ensures) ∙ not-false _ (c .before .if3 .left)) (c .if4 .taken) ∙ sym (c .before .before .before .before .before .before .loop .inv .2), tt)
-
-add-i : tie.Need-add-i Inv-loop μ-loop
-add-i c = search needs
-
-add-k : tie.Need-add-k Inv-loop μ-loop
-add-k c = search needs
-
-loop-less : tie.Need-loop-less Inv-loop μ-loop
-loop-less c = search needs
-
-loop-again : tie.Need-loop-again Inv-loop μ-loop
-loop-again c = (search needs, search needs, c .before .before .before .before .before .before .loop .inv .2 ∙ sym (chain-more _ _ _ _ _ _ (c .before .before .before .before .before .loop-test .taken) (c .before .before .before .if1 .left) (sym (c .before .before .is-digit .ensures) ∙ not-false _ (c .before .if3 .left)) _ (c .if4 .left) refl))
-
-returns-5 : tie.Need-returns-5 Inv-loop μ-loop
-returns-5 c = (dec-short _ _ _ _ _ _ _ (c .loop-test .left) (c .before .loop .inv .2), tt)
+abbrev to-start : tie.After-is-digit Inv-loop μ-loop → tie.Start Inv-loop μ-loop
+to-start p = search
 
 pub decimal-at-spec : {M : Type 1} → statement M
 decimal-at-spec =
     tie.close
-    (tie.spec
-    Inv-loop
-    μ-loop
-    loop-holds
-    shared-slice-read-x
-    size-of-requires
-    add-t16
-    returns
-    returns-2
-    is-digit-requires
-    returns-3
-    mul-w
-    sub-w
-    cast-w
-    add-w
-    returns-4
-    add-i
-    add-k
-    loop-less
-    loop-again
-    returns-5)
+    (tie.spec Inv-loop μ-loop
+    (λ c. (search needs, search needs, dec-begin (c .before .args .text .now) _ _ (c .before .args .at)))
+    (λ c. search needs)
+    (λ c κs. search needs)
+    (λ c. search needs)
+    (λ c.
+    let after-size-of : tie.After-size-of Inv-loop μ-loop = search in (
+      dec-end _ _ _ _ _ _ _ (to-turn after-size-of .loop-test .taken) (to-then1 after-size-of .if1 .taken) (c .if2 .taken ∙ c .before .size-of .ensures)
+          (to-at-loop after-size-of .loop .inv .2),
+      search needs,
+    ))
+    (λ c.
+    let after-size-of : tie.After-size-of Inv-loop μ-loop = search in (
+      dec-zeros _ _ _ _ _ _ _ (to-turn after-size-of .loop-test .taken) (to-then1 after-size-of .if1 .taken)
+          (λ e. c .if2 .left (e ∙ sym (c .before .size-of .ensures))) (to-at-loop after-size-of .loop .inv .2),
+      tt,
+    ))
+    (λ c κs. search needs)
+    (λ c.
+    let after-is-digit : tie.After-is-digit Inv-loop μ-loop = search in (
+      chain-bad _ _ _ _ _ _ (to-turn-2 after-is-digit .loop-test .taken) (to-else1 after-is-digit .if1 .left)
+          (sym (c .before .is-digit .ensures) ∙ not-true _ (c .if3 .taken)) ∙ sym (to-at-loop-2 after-is-digit .loop .inv .2),
+      tt,
+    ))
+    (λ c. search needs)
+    (λ c.
+    let after-is-digit : tie.After-is-digit Inv-loop μ-loop = search in
+    omega (
+      arith,
+      digit-from (getD (to-start after-is-digit .args .text .now) (to-at-loop-2 after-is-digit .loop .i) 0)
+          (sym (c .before .is-digit .ensures) ∙ not-false _ (c .if3 .left)) .0,
+    ))
+    (λ c.
+    let after-is-digit : tie.After-is-digit Inv-loop μ-loop = search in
+    omega (
+      arith,
+      digit-from (getD (to-start after-is-digit .args .text .now) (to-at-loop-2 after-is-digit .loop .i) 0)
+          (sym (c .before .is-digit .ensures) ∙ not-false _ (c .if3 .left)) .1,
+    ))
+    (λ c.
+    let after-is-digit : tie.After-is-digit Inv-loop μ-loop = search in
+    omega (
+      arith,
+      digit-from (getD (to-start after-is-digit .args .text .now) (to-at-loop-2 after-is-digit .loop .i) 0)
+          (sym (c .before .is-digit .ensures) ∙ not-false _ (c .if3 .left)) .1,
+    ))
+    (λ c.
+    let after-is-digit : tie.After-is-digit Inv-loop μ-loop = search in (
+      chain-big _ _ _ _ _ _ (to-turn-2 after-is-digit .loop-test .taken) (to-else1 after-is-digit .if1 .left)
+          (sym (after-is-digit .is-digit .ensures) ∙ not-false _ (c .before .if3 .left)) (c .if4 .taken) ∙ sym (to-at-loop-2 after-is-digit .loop .inv .2),
+      tt,
+    ))
+    (λ c. search needs)
+    (λ c. search needs)
+    (λ c. search needs)
+    (λ c.
+    let after-is-digit : tie.After-is-digit Inv-loop μ-loop = search in (
+      search needs,
+      search needs,
+      (to-at-loop-2 after-is-digit) .loop .inv .2 ∙ sym
+          (chain-more _ _ _ _ _ _ (to-turn-2 after-is-digit .loop-test .taken) (to-else1 after-is-digit .if1 .left)
+          (sym (after-is-digit .is-digit .ensures) ∙ not-false _ (c .before .if3 .left)) _ (c .if4 .left) refl),
+    ))
+    (λ c. (dec-short _ _ _ _ _ _ _ (c .loop-test .left) (c .before .loop .inv .2), tt)))

@@ -9,67 +9,60 @@ use Rattle.text_decimal.proofs.Laws.Chain.{digit-from, chain-end, chain
 use Rattle.text_decimal.proofs.fourth_at.Statement.{statement}
 use Rattle.text_decimal.proofs.fourth_at.Tie as tie
 
-shared-slice-read-x : tie.Need-shared-slice-read-x
-shared-slice-read-x c = search needs
+abbrev to-start : tie.After-is-digit → tie.Start
+to-start p = search
 
-add-t11 : tie.Need-add-t11
-add-t11 c = search needs
-
-returns : tie.Need-returns
-returns c = (chain-end (c .before .before .before .args .text .now) _ _ _ _ (c .before .before .before .args .i) (search needs) (c .if1 .taken) (size-three _ (c .before .before .before .pre .1) (c .before .before .before .pre .2)), search needs)
-
-is-digit-requires : tie.Need-is-digit-requires
-is-digit-requires c κs = search needs
-
-returns-2 : tie.Need-returns-2
-returns-2 c = (chain-bad (c .before .before .before .before .before .args .text .now) _ _ _ _ (c .before .before .before .before .before .args .i) (search needs) (c .before .before .if1 .left) (sym (c .before .is-digit .ensures) ∙ not-true _ (c .if2 .taken)), tt)
-
-mul-w : tie.Need-mul-w
-mul-w c = search needs
-
-sub-w : tie.Need-sub-w
-sub-w c = omega (arith, digit-from (getD (c .before .before .before .before .before .args .text .now) (c .before .before .before .before .before .args .i) 0) (sym (c .before .is-digit .ensures) ∙ not-false _ (c .if2 .left)) .0)
-
-cast-w : tie.Need-cast-w
-cast-w c = omega (arith, digit-from (getD (c .before .before .before .before .before .args .text .now) (c .before .before .before .before .before .args .i) 0) (sym (c .before .is-digit .ensures) ∙ not-false _ (c .if2 .left)) .1)
-
-add-w : tie.Need-add-w
-add-w c = omega (arith, digit-from (getD (c .before .before .before .before .before .args .text .now) (c .before .before .before .before .before .args .i) 0) (sym (c .before .is-digit .ensures) ∙ not-false _ (c .if2 .left)) .1)
-
-returns-3 : tie.Need-returns-3
-returns-3 c = (chain-big (c .before .before .before .before .before .before .args .text .now) _ _ _ _ (c .before .before .before .before .before .before .args .i) (search needs) (c .before .before .before .if1 .left) (sym (c .before .before .is-digit .ensures) ∙ not-false _ (c .before .if2 .left)) (c .if3 .taken), tt)
-
-add-if4 : tie.Need-add-if4
-add-if4 c = search needs
-
-shared-slice-read-if4 : tie.Need-shared-slice-read-if4
-shared-slice-read-if4 c = search needs
-
-returns-4 : tie.Need-returns-4
-returns-4 c = (fourth-ajar _ _ _ _ _ (c .before .before .before .before .before .before .before .before .pre .0) (c .before .before .before .before .before .before .before .before .pre .1) (c .before .before .before .before .before .before .before .before .pre .2) (c .before .before .before .before .before .before .before .before .pre .4) (c .before .before .before .before .before .if1 .left) (sym (c .before .before .before .before .is-digit .ensures) ∙ not-false _ (c .before .before .before .if2 .left)) (c .before .before .if3 .left) (c .if4 .taken), tt)
-
-add-t15 : tie.Need-add-t15
-add-t15 c = search needs
-
-returns-5 : tie.Need-returns-5
-returns-5 c = (fourth-end _ _ _ _ _ (c .before .before .before .before .before .before .before .before .pre .0) (c .before .before .before .before .before .before .before .before .pre .1) (c .before .before .before .before .before .before .before .before .pre .2) (c .before .before .before .before .before .before .before .before .pre .4) (c .before .before .before .before .before .if1 .left) (sym (c .before .before .before .before .is-digit .ensures) ∙ not-false _ (c .before .before .before .if2 .left)) (c .before .before .if3 .left) (c .if4 .left), search needs)
+abbrev to-else1 : tie.After-is-digit → tie.Else1
+to-else1 p = search
 
 pub fourth-at-spec : {M : Type 1} → statement M
 fourth-at-spec =
     tie.close
     (tie.spec
-    shared-slice-read-x
-    add-t11
-    returns
-    is-digit-requires
-    returns-2
-    mul-w
-    sub-w
-    cast-w
-    add-w
-    returns-3
-    add-if4
-    shared-slice-read-if4
-    returns-4
-    add-t15
-    returns-5)
+    (λ c. search needs)
+    (λ c. search needs)
+    (λ c.
+    let start : tie.Start = search in (
+      chain-end (start .args .text .now) _ _ _ _ (start .args .i) (search needs) (c .if1 .taken) (size-three _ (start .pre .1) (start .pre .2)),
+      search needs,
+    ))
+    (λ c κs. search needs)
+    (λ c.
+    let after-is-digit : tie.After-is-digit = search in let start = to-start after-is-digit in (
+      chain-bad (start .args .text .now) _ _ _ _ (start .args .i) (search needs) (to-else1 after-is-digit .if1 .left)
+          (sym (c .before .is-digit .ensures) ∙ not-true _ (c .if2 .taken)),
+      tt,
+    ))
+    (λ c. search needs)
+    (λ c.
+    let after-is-digit : tie.After-is-digit = search in let start = to-start after-is-digit in
+    omega (arith, digit-from (getD (start .args .text .now) (start .args .i) 0) (sym (c .before .is-digit .ensures) ∙ not-false _ (c .if2 .left)) .0))
+    (λ c.
+    let after-is-digit : tie.After-is-digit = search in let start = to-start after-is-digit in
+    omega (arith, digit-from (getD (start .args .text .now) (start .args .i) 0) (sym (c .before .is-digit .ensures) ∙ not-false _ (c .if2 .left)) .1))
+    (λ c.
+    let after-is-digit : tie.After-is-digit = search in let start = to-start after-is-digit in
+    omega (arith, digit-from (getD (start .args .text .now) (start .args .i) 0) (sym (c .before .is-digit .ensures) ∙ not-false _ (c .if2 .left)) .1))
+    (λ c.
+    let after-is-digit : tie.After-is-digit = search in let start = to-start after-is-digit in (
+      chain-big (start .args .text .now) _ _ _ _ (start .args .i) (search needs) (to-else1 after-is-digit .if1 .left)
+          (sym (after-is-digit .is-digit .ensures) ∙ not-false _ (c .before .if2 .left)) (c .if3 .taken),
+      tt,
+    ))
+    (λ c. search needs)
+    (λ c. search needs)
+    (λ c.
+    let after-is-digit : tie.After-is-digit = search in let start = to-start after-is-digit in let else2 : tie.Else2 = search in
+    let else3 : tie.Else3 = search in (
+      fourth-ajar _ _ _ _ _ (start .pre .0) (start .pre .1) (start .pre .2) (start .pre .4) (to-else1 after-is-digit .if1 .left)
+          (sym (after-is-digit .is-digit .ensures) ∙ not-false _ (else2 .if2 .left)) (else3 .if3 .left) (c .if4 .taken),
+      tt,
+    ))
+    (λ c. search needs)
+    (λ c.
+    let after-is-digit : tie.After-is-digit = search in let start = to-start after-is-digit in let else2 : tie.Else2 = search in
+    let else3 : tie.Else3 = search in (
+      fourth-end _ _ _ _ _ (start .pre .0) (start .pre .1) (start .pre .2) (start .pre .4) (to-else1 after-is-digit .if1 .left)
+          (sym (after-is-digit .is-digit .ensures) ∙ not-false _ (else2 .if2 .left)) (else3 .if3 .left) (c .if4 .left),
+      search needs,
+    )))

@@ -5,11 +5,5 @@ use Rattle.text_digits.proofs.Laws.Digit.{under-ten, not-under}
 use Rattle.text_decimal.proofs.is_digit.Statement.{statement}
 use Rattle.text_decimal.proofs.is_digit.Tie as tie
 
-returns : tie.Need-returns
-returns c = under-ten _ (c .if1 .taken)
-
-returns-2 : tie.Need-returns-2
-returns-2 c = lt-leb _ _ (c .if1 .left) ∙ not-under _ (c .if1 .left)
-
 pub is-digit-spec : {M : Type 1} → statement M
-is-digit-spec = tie.close (tie.spec returns returns-2)
+is-digit-spec = tie.close (tie.spec (λ c. under-ten _ (c .if1 .taken)) (λ c. lt-leb _ _ (c .if1 .left) ∙ not-under _ (c .if1 .left)))

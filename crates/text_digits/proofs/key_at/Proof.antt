@@ -14,49 +14,21 @@ Inv-loop text at key i₀ k₀ i k = (k ≤ length key) × (readKey key (drop at
 abbrev μ-loop : tie.MeasureT-loop
 μ-loop text at key i₀ k₀ i k = length key - k
 
-loop-holds : tie.Need-loop-holds Inv-loop μ-loop
-loop-holds c = (search needs, refl)
-
-returns : tie.Need-returns Inv-loop μ-loop
-returns c = key-short _ _ _ _ _ (c .before .loop-test .taken) (c .if1 .taken) (c .before .before .loop .inv .1)
-
-shared-slice-read-if2 : tie.Need-shared-slice-read-if2 Inv-loop μ-loop
-shared-slice-read-if2 c = search needs
-
-shared-slice-read-if2-2 : tie.Need-shared-slice-read-if2-2 Inv-loop μ-loop
-shared-slice-read-if2-2 c = search needs
-
-returns-2 : tie.Need-returns-2 Inv-loop μ-loop
-returns-2 c = key-bad _ _ _ _ _ (c .before .before .before .before .loop-test .taken) (c .before .before .before .if1 .left) (c .if2 .taken) (c .before .before .before .before .before .loop .inv .1)
-
-add-i : tie.Need-add-i Inv-loop μ-loop
-add-i c = search needs
-
-add-k : tie.Need-add-k Inv-loop μ-loop
-add-k c = search needs
-
-loop-less : tie.Need-loop-less Inv-loop μ-loop
-loop-less c = search needs
-
-loop-again : tie.Need-loop-again Inv-loop μ-loop
-loop-again c = (search needs, key-more _ _ _ _ _ (c .before .before .before .before .loop-test .taken) (c .before .before .before .if1 .left) (c .if2 .left) (c .before .before .before .before .before .loop .inv .1))
-
-returns-3 : tie.Need-returns-3 Inv-loop μ-loop
-returns-3 c = key-end (c .before .before .args .text .now) _ _ (c .before .loop .i) _ (c .loop-test .left) (c .before .loop .inv .1)
-
 pub key-at-spec : {M : Type 1} → statement M
 key-at-spec =
     tie.close
-    (tie.spec
-    Inv-loop
-    μ-loop
-    loop-holds
-    returns
-    shared-slice-read-if2
-    shared-slice-read-if2-2
-    returns-2
-    add-i
-    add-k
-    loop-less
-    loop-again
-    returns-3)
+    (tie.spec Inv-loop μ-loop
+    (λ c. (search needs, refl))
+    (λ c. search key-short)
+    (λ c. search needs)
+    (λ c. search needs)
+    (λ c. search key-bad)
+    (λ c. search needs)
+    (λ c. search needs)
+    (λ c. search needs)
+    (λ c.
+    let turn : tie.In-loop Inv-loop μ-loop = search in
+    let else1 : tie.Else1 Inv-loop μ-loop = search in
+    let at-loop : tie.At-loop Inv-loop μ-loop = search in
+    (search needs, key-more _ _ _ _ _ (turn .loop-test .taken) (else1 .if1 .left) (c .if2 .left) (at-loop .loop .inv .1)))
+    (λ c. search key-end))

@@ -7,67 +7,53 @@ use Rattle.text_figures.proofs.Laws.Fours.{put-three, put-four-ended}
 use Rattle.text_figures.proofs.put_decimal_ended.Statement.{statement}
 use Rattle.text_figures.proofs.put_decimal_ended.Tie as tie
 
-put-short-requires : tie.Need-put-short-requires
-put-short-requires c κs = search needs
+abbrev to-start : tie.After-put-four → tie.Start
+to-start p = search
 
-same-length : tie.Need-same-length
-same-length c = search needs
+abbrev to-else1 : tie.After-put-four → tie.Else1
+to-else1 p = search
 
-returns : tie.Need-returns
-returns c = search needs
+abbrev to-then2 : tie.After-put-four → tie.Then2
+to-then2 p = search
 
-mul-put-four : tie.Need-mul-put-four
-mul-put-four c = search needs
+abbrev to-else2 : tie.After-put-four2 → tie.Else2
+to-else2 p = search
 
-add-put-four : tie.Need-add-put-four
-add-put-four c = search needs
-
-put-four-requires : tie.Need-put-four-requires
-put-four-requires c κs = omega (arith, size-three (c .before .before .before .before .args .n) (c .before .before .if1 .left) (c .before .if2 .taken))
-
-add-result : tie.Need-add-result
-add-result c = search needs
-
-same-length-2 : tie.Need-same-length-2
-same-length-2 c = search needs
-
-returns-2 : tie.Need-returns-2
-returns-2 c = (put-three (c .before .before .before .before .before .before .before .args .n) (c .before .before .before .before .before .before .before .args .four) (c .before .before .before .before .before .before .before .pre .0) (c .before .before .before .before .before .before .before .pre .1) (c .before .before .before .before .before .before .before .args .at) (c .before .before .before .before .before .before .before .args .end) (c .before .before .before .before .before .before .before .args .text .now) (omega arith) _ _ refl (c .before .before .before .before .before .if1 .left) (c .before .before .before .before .if2 .taken) (c .before .before .put-four .ensures), omega (arith, size-three (c .before .before .before .before .before .before .before .args .n) (c .before .before .before .before .before .if1 .left) (c .before .before .before .before .if2 .taken)))
-
-put-four-requires-2 : tie.Need-put-four-requires-2
-put-four-requires-2 c κs = omega (arith, size-four (c .before .before .before .before .args .n) (c .before .if2 .left) (c .before .before .before .before .pre .0))
-
-add-text : tie.Need-add-text
-add-text c = search needs
-
-slice-write-text : tie.Need-slice-write-text
-slice-write-text c = omega (arith, size-four (c .before .before .before .before .before .before .before .args .n) (c .before .before .before .before .if2 .left) (c .before .before .before .before .before .before .before .pre .0))
-
-add-result-2 : tie.Need-add-result-2
-add-result-2 c = search needs
-
-same-length-3 : tie.Need-same-length-3
-same-length-3 c = search needs
-
-returns-3 : tie.Need-returns-3
-returns-3 c = (put-four-ended (c .before .before .before .before .before .before .before .args .n) (c .before .before .before .before .before .before .before .args .four) (c .before .before .before .before .before .before .before .pre .0) (c .before .before .before .before .before .before .before .pre .1) (c .before .before .before .before .before .before .before .args .at) (c .before .before .before .before .before .before .before .args .end) (c .before .before .before .before .before .before .before .args .text .now) (omega arith) _ (c .before .before .before .before .if2 .left) (omega (arith, size-four (c .before .before .before .before .before .before .before .args .n) (c .before .before .before .before .if2 .left) (c .before .before .before .before .before .before .before .pre .0))) (c .before .before .put-four2 .ensures), omega (arith, size-four (c .before .before .before .before .before .before .before .args .n) (c .before .before .before .before .if2 .left) (c .before .before .before .before .before .before .before .pre .0)))
+abbrev to-start-2 : tie.After-put-four2 → tie.Start
+to-start-2 p = search
 
 pub put-decimal-ended-spec : {M : Type 1} → statement M
 put-decimal-ended-spec =
     tie.close
     (tie.spec
-    put-short-requires
-    same-length
-    returns
-    mul-put-four
-    add-put-four
-    put-four-requires
-    add-result
-    same-length-2
-    returns-2
-    put-four-requires-2
-    add-text
-    slice-write-text
-    add-result-2
-    same-length-3
-    returns-3)
+    (λ c κs. search needs)
+    (λ c. search needs)
+    (λ c. search needs)
+    (λ c. search needs)
+    (λ c. search needs)
+    (λ c κs. let else1 : tie.Else1 = search in omega (arith, size-three _ (else1 .if1 .left) (c .before .if2 .taken)))
+    (λ c. search needs)
+    (λ c. search needs)
+    (λ c.
+    let after-put-four : tie.After-put-four = search in
+    let start = to-start after-put-four in
+    let else1 = to-else1 after-put-four in
+    let then2 = to-then2 after-put-four in (
+      put-three _ _ (start .pre .0) (start .pre .1) _ _ _ (omega arith) _ _ refl (else1 .if1 .left) (then2 .if2 .taken) (after-put-four .put-four .ensures),
+      omega (arith, size-three _ (else1 .if1 .left) (then2 .if2 .taken)),
+    ))
+    (λ c κs. let start : tie.Start = search in omega (arith, size-four _ (c .before .if2 .left) (start .pre .0)))
+    (λ c. search needs)
+    (λ c.
+    let after-put-four2 : tie.After-put-four2 = search in
+    omega (arith, size-four _ (to-else2 after-put-four2 .if2 .left) (to-start-2 after-put-four2 .pre .0)))
+    (λ c. search needs)
+    (λ c. search needs)
+    (λ c.
+    let after-put-four2 : tie.After-put-four2 = search in
+    let start = to-start-2 after-put-four2 in
+    let else2 = to-else2 after-put-four2 in (
+      put-four-ended _ _ (start .pre .0) (start .pre .1) _ _ _ (omega arith) _ (else2 .if2 .left)
+          (omega (arith, size-four _ (else2 .if2 .left) (start .pre .0))) (after-put-four2 .put-four2 .ensures),
+      omega (arith, size-four _ (else2 .if2 .left) (start .pre .0)),
+    )))

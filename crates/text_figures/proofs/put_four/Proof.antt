@@ -6,59 +6,20 @@ use Rattle.text_figures.proofs.Laws.Spelling.{lay-four}
 use Rattle.text_figures.proofs.put_four.Statement.{statement}
 use Rattle.text_figures.proofs.put_four.Tie as tie
 
-cast-text : tie.Need-cast-text
-cast-text c = search needs
-
-slice-write-text : tie.Need-slice-write-text
-slice-write-text c = search needs
-
-cast-text-2 : tie.Need-cast-text-2
-cast-text-2 c = search needs
-
-add-text : tie.Need-add-text
-add-text c = search needs
-
-slice-write-text-2 : tie.Need-slice-write-text-2
-slice-write-text-2 c = simp length-set (omega arith)
-
-cast-text-3 : tie.Need-cast-text-3
-cast-text-3 c = search needs
-
-add-text-2 : tie.Need-add-text-2
-add-text-2 c = search needs
-
-slice-write-text-3 : tie.Need-slice-write-text-3
-slice-write-text-3 c = simp length-set (omega arith)
-
-cast-text-4 : tie.Need-cast-text-4
-cast-text-4 c = search needs
-
-add-text-3 : tie.Need-add-text-3
-add-text-3 c = search needs
-
-slice-write-text-4 : tie.Need-slice-write-text-4
-slice-write-text-4 c = simp length-set (omega arith)
-
-same-length : tie.Need-same-length
-same-length c = simp length-set
-
-returns : tie.Need-returns
-returns c = lay-four _ _ _ _ _ _ (c .pre)
-
 pub put-four-spec : {M : Type 1} → statement M
 put-four-spec =
     tie.close
     (tie.spec
-    cast-text
-    slice-write-text
-    cast-text-2
-    add-text
-    slice-write-text-2
-    cast-text-3
-    add-text-2
-    slice-write-text-3
-    cast-text-4
-    add-text-3
-    slice-write-text-4
-    same-length
-    returns)
+    (λ c. search needs)
+    (λ c. search needs)
+    (λ c. search needs)
+    (λ c. search needs)
+    (λ c. simp length-set (omega arith))
+    (λ c. search needs)
+    (λ c. search needs)
+    (λ c. simp length-set (omega arith))
+    (λ c. search needs)
+    (λ c. search needs)
+    (λ c. simp length-set (omega arith))
+    (λ c. simp length-set)
+    (λ c. search lay-four))

@@ -6,99 +6,74 @@ use Rattle.text_figures.proofs.Laws.Spelling.{lay-word, word-length}
 use Rattle.text_figures.proofs.put_hex_ended.Statement.{statement}
 use Rattle.text_figures.proofs.put_hex_ended.Tie as tie
 
-cast-put-pair : tie.Need-cast-put-pair
-cast-put-pair c = search needs
+abbrev to-start : tie.After-put-pair → tie.Start
+to-start p = search
 
-mul-put-pair : tie.Need-mul-put-pair
-mul-put-pair c = search needs
+abbrev to-after-put-pair : tie.After-put-pair2 → tie.After-put-pair
+to-after-put-pair p = search
 
-shared-slice-read-put-pair : tie.Need-shared-slice-read-put-pair
-shared-slice-read-put-pair c = search needs
+abbrev to-start-2 : tie.After-put-pair2 → tie.Start
+to-start-2 p = to-start (to-after-put-pair p)
 
-put-pair-requires : tie.Need-put-pair-requires
-put-pair-requires c κs = search needs
+abbrev to-after-put-pair2 : tie.After-put-pair3 → tie.After-put-pair2
+to-after-put-pair2 p = search
 
-add-put-pair : tie.Need-add-put-pair
-add-put-pair c = search needs
+abbrev to-start-3 : tie.After-put-pair3 → tie.Start
+to-start-3 p = to-start-2 (to-after-put-pair2 p)
 
-cast-put-pair-2 : tie.Need-cast-put-pair-2
-cast-put-pair-2 c = search needs
+abbrev to-after-put-pair3 : tie.After-put-pair4 → tie.After-put-pair3
+to-after-put-pair3 p = search
 
-mul-put-pair-2 : tie.Need-mul-put-pair-2
-mul-put-pair-2 c = search needs
+abbrev to-start-4 : tie.After-put-pair4 → tie.Start
+to-start-4 p = to-start-3 (to-after-put-pair3 p)
 
-shared-slice-read-put-pair-2 : tie.Need-shared-slice-read-put-pair-2
-shared-slice-read-put-pair-2 c = search needs
+abbrev to-after-put-pair-2 : tie.After-put-pair3 → tie.After-put-pair
+to-after-put-pair-2 p = to-after-put-pair (to-after-put-pair2 p)
 
-put-pair-requires-2 : tie.Need-put-pair-requires-2
-put-pair-requires-2 c κs = search needs
+abbrev to-after-put-pair-3 : tie.After-put-pair4 → tie.After-put-pair
+to-after-put-pair-3 p = to-after-put-pair-2 (to-after-put-pair3 p)
 
-add-put-pair-2 : tie.Need-add-put-pair-2
-add-put-pair-2 c = search needs
-
-cast-put-pair-3 : tie.Need-cast-put-pair-3
-cast-put-pair-3 c = search needs
-
-mul-put-pair-3 : tie.Need-mul-put-pair-3
-mul-put-pair-3 c = search needs
-
-shared-slice-read-put-pair-3 : tie.Need-shared-slice-read-put-pair-3
-shared-slice-read-put-pair-3 c = search needs
-
-put-pair-requires-3 : tie.Need-put-pair-requires-3
-put-pair-requires-3 c κs = search needs
-
-add-put-pair-3 : tie.Need-add-put-pair-3
-add-put-pair-3 c = search needs
-
-cast-put-pair-4 : tie.Need-cast-put-pair-4
-cast-put-pair-4 c = search needs
-
-mul-put-pair-4 : tie.Need-mul-put-pair-4
-mul-put-pair-4 c = search needs
-
-shared-slice-read-put-pair-4 : tie.Need-shared-slice-read-put-pair-4
-shared-slice-read-put-pair-4 c = search needs
-
-put-pair-requires-4 : tie.Need-put-pair-requires-4
-put-pair-requires-4 c κs = search needs
-
-add-text : tie.Need-add-text
-add-text c = search needs
-
-slice-write-text : tie.Need-slice-write-text
-slice-write-text c = search needs
-
-same-length : tie.Need-same-length
-same-length c = word-length (c .before .before .before .before .before .before .before .before .before .before .before .before .before .before .before .before .before .before .before .before .before .before .args .at) (c .before .before .before .before .before .before .before .before .before .before .before .before .before .before .before .before .before .before .before .before .before .before .args .w) _ _ _ _ _ (c .before .before .before .before .before .before .before .before .before .before .before .before .before .before .before .before .before .before .before .before .before .before .args .text .now) _ _ _ _ (c .before .before .before .before .before .before .before .before .before .before .before .before .before .before .before .before .before .before .before .before .before .before .pre .0) (omega arith) (c .before .before .before .before .before .before .before .before .before .before .before .before .before .before .before .before .before .before .before .before .before .before .pre .1 .pair (c .before .before .before .before .before .before .before .before .before .before .before .before .before .before .before .before .before .before .before .before .before .before .args .w / 16777216) (omega arith)) (c .before .before .before .before .before .before .before .before .before .before .before .before .before .before .before .before .before .before .before .before .before .before .pre .1 .pair (c .before .before .before .before .before .before .before .before .before .before .before .before .before .before .before .before .before .before .before .before .before .before .args .w / 65536 % 256) (omega arith)) (c .before .before .before .before .before .before .before .before .before .before .before .before .before .before .before .before .before .before .before .before .before .before .pre .1 .pair (c .before .before .before .before .before .before .before .before .before .before .before .before .before .before .before .before .before .before .before .before .before .before .args .w / 256 % 256) (omega arith)) (c .before .before .before .before .before .before .before .before .before .before .before .before .before .before .before .before .before .before .before .before .before .before .pre .1 .pair (c .before .before .before .before .before .before .before .before .before .before .before .before .before .before .before .before .before .before .before .before .before .before .args .w % 256) (omega arith)) (c .before .before .before .before .before .before .before .before .before .before .before .before .before .before .before .before .before .put-pair .ensures) (c .before .before .before .before .before .before .before .before .before .before .before .before .put-pair2 .ensures) (c .before .before .before .before .before .before .before .put-pair3 .ensures) (c .before .before .put-pair4 .ensures)
-
-returns : tie.Need-returns
-returns c = lay-word (c .before .before .before .before .before .before .before .before .before .before .before .before .before .before .before .before .before .before .before .before .before .before .args .at) (c .before .before .before .before .before .before .before .before .before .before .before .before .before .before .before .before .before .before .before .before .before .before .args .w) _ _ _ _ _ (c .before .before .before .before .before .before .before .before .before .before .before .before .before .before .before .before .before .before .before .before .before .before .args .text .now) _ _ _ _ (c .before .before .before .before .before .before .before .before .before .before .before .before .before .before .before .before .before .before .before .before .before .before .pre .0) (omega arith) (c .before .before .before .before .before .before .before .before .before .before .before .before .before .before .before .before .before .before .before .before .before .before .pre .1 .pair (c .before .before .before .before .before .before .before .before .before .before .before .before .before .before .before .before .before .before .before .before .before .before .args .w / 16777216) (omega arith)) (c .before .before .before .before .before .before .before .before .before .before .before .before .before .before .before .before .before .before .before .before .before .before .pre .1 .pair (c .before .before .before .before .before .before .before .before .before .before .before .before .before .before .before .before .before .before .before .before .before .before .args .w / 65536 % 256) (omega arith)) (c .before .before .before .before .before .before .before .before .before .before .before .before .before .before .before .before .before .before .before .before .before .before .pre .1 .pair (c .before .before .before .before .before .before .before .before .before .before .before .before .before .before .before .before .before .before .before .before .before .before .args .w / 256 % 256) (omega arith)) (c .before .before .before .before .before .before .before .before .before .before .before .before .before .before .before .before .before .before .before .before .before .before .pre .1 .pair (c .before .before .before .before .before .before .before .before .before .before .before .before .before .before .before .before .before .before .before .before .before .before .args .w % 256) (omega arith)) (c .before .before .before .before .before .before .before .before .before .before .before .before .before .before .before .before .before .put-pair .ensures) (c .before .before .before .before .before .before .before .before .before .before .before .before .put-pair2 .ensures) (c .before .before .before .before .before .before .before .put-pair3 .ensures) (c .before .before .put-pair4 .ensures)
+abbrev to-after-put-pair2-2 : tie.After-put-pair4 → tie.After-put-pair2
+to-after-put-pair2-2 p = to-after-put-pair2 (to-after-put-pair3 p)
 
 pub put-hex-ended-spec : {M : Type 1} → statement M
 put-hex-ended-spec =
     tie.close
     (tie.spec
-    cast-put-pair
-    mul-put-pair
-    shared-slice-read-put-pair
-    put-pair-requires
-    add-put-pair
-    cast-put-pair-2
-    mul-put-pair-2
-    shared-slice-read-put-pair-2
-    put-pair-requires-2
-    add-put-pair-2
-    cast-put-pair-3
-    mul-put-pair-3
-    shared-slice-read-put-pair-3
-    put-pair-requires-3
-    add-put-pair-3
-    cast-put-pair-4
-    mul-put-pair-4
-    shared-slice-read-put-pair-4
-    put-pair-requires-4
-    add-text
-    slice-write-text
-    same-length
-    returns)
+    (λ c. search needs)
+    (λ c. search needs)
+    (λ c. search needs)
+    (λ c κs. search needs)
+    (λ c. search needs)
+    (λ c. search needs)
+    (λ c. search needs)
+    (λ c. search needs)
+    (λ c κs. search needs)
+    (λ c. search needs)
+    (λ c. search needs)
+    (λ c. search needs)
+    (λ c. search needs)
+    (λ c κs. search needs)
+    (λ c. search needs)
+    (λ c. search needs)
+    (λ c. search needs)
+    (λ c. search needs)
+    (λ c κs. search needs)
+    (λ c. search needs)
+    (λ c. search needs)
+    (λ c.
+    let after-put-pair4 : tie.After-put-pair4 = search in
+    let start = to-start-4 after-put-pair4 in
+    word-length _ _ _ _ _ _ _ _ _ _ _ _ (start .pre .0) (omega arith) (start .pre .1 .pair (start .args .w / 16777216) (omega arith))
+    (start .pre .1 .pair (start .args .w / 65536 % 256) (omega arith)) (start .pre .1 .pair (start .args .w / 256 % 256) (omega arith))
+    (start .pre .1 .pair (start .args .w % 256) (omega arith)) (to-after-put-pair-3 after-put-pair4 .put-pair .ensures)
+    (to-after-put-pair2-2 after-put-pair4 .put-pair2 .ensures) (to-after-put-pair3 after-put-pair4 .put-pair3 .ensures)
+    (after-put-pair4 .put-pair4 .ensures))
+    (λ c.
+    let after-put-pair4 : tie.After-put-pair4 = search in
+    let start = to-start-4 after-put-pair4 in
+    lay-word _ _ _ _ _ _ _ _ _ _ _ _ (start .pre .0) (omega arith) (start .pre .1 .pair (start .args .w / 16777216) (omega arith))
+    (start .pre .1 .pair (start .args .w / 65536 % 256) (omega arith)) (start .pre .1 .pair (start .args .w / 256 % 256) (omega arith))
+    (start .pre .1 .pair (start .args .w % 256) (omega arith)) (to-after-put-pair-3 after-put-pair4 .put-pair .ensures)
+    (to-after-put-pair2-2 after-put-pair4 .put-pair2 .ensures) (to-after-put-pair3 after-put-pair4 .put-pair3 .ensures)
+    (after-put-pair4 .put-pair4 .ensures)))

@@ -14,37 +14,16 @@ Inv-loop pairs₀ high₀ pairs high = (high ≤ 16) × Spelled (16 * high) pair
 abbrev μ-loop : tie.MeasureT-loop
 μ-loop pairs₀ high₀ pairs high = 16 - high
 
-loop-holds : tie.Need-loop-holds Inv-loop μ-loop
-loop-holds c = (search needs, c .before .pre)
-
-spell-row-requires : tie.Need-spell-row-requires Inv-loop μ-loop
-spell-row-requires c κs = (c .before .loop-test .taken, c .before .before .loop .inv .1)
-
-add-high : tie.Need-add-high Inv-loop μ-loop
-add-high c = search needs
-
-loop-less : tie.Need-loop-less Inv-loop μ-loop
-loop-less c = search needs
-
-loop-again : tie.Need-loop-again Inv-loop μ-loop
-loop-again c = (search needs, spell-end _ _ _ (omega arith) (c .before .before .spell-row .ensures))
-
-same-length : tie.Need-same-length Inv-loop μ-loop
-same-length c = c .before .loop .inv .1 .long ∙ sym (c .before .before .before .pre .long)
-
-returns : tie.Need-returns Inv-loop μ-loop
-returns c = spell-end _ _ _ (omega (arith, c .before .loop .inv .0, c .loop-test .left)) (c .before .loop .inv .1)
-
 pub spell-bytes-spec : {M : Type 1} → statement M
 spell-bytes-spec =
     tie.close
-    (tie.spec
-    Inv-loop
-    μ-loop
-    loop-holds
-    spell-row-requires
-    add-high
-    loop-less
-    loop-again
-    same-length
-    returns)
+    (tie.spec Inv-loop μ-loop
+    (λ c. (search needs, c .before .pre))
+    (λ c κs. let at-loop : tie.At-loop Inv-loop μ-loop = search in (c .before .loop-test .taken, at-loop .loop .inv .1))
+    (λ c. search needs)
+    (λ c. search needs)
+    (λ c.
+    let after-spell-row : tie.After-spell-row Inv-loop μ-loop = search in
+    (search needs, spell-end _ _ _ (omega arith) (after-spell-row .spell-row .ensures)))
+    (λ c. let start : tie.Start Inv-loop μ-loop = search in c .before .loop .inv .1 .long ∙ sym (start .pre .long))
+    (λ c. spell-end _ _ _ (omega (arith, c .before .loop .inv .0, c .loop-test .left)) (c .before .loop .inv .1)))

@@ -16,77 +16,43 @@ Inv-loop pairs₀ high first low₀ pairs low = (low ≤ 16) × (first ≡ byteO
 abbrev μ-loop : tie.MeasureT-loop
 μ-loop pairs₀ high first low₀ pairs low = 16 - low
 
-byte-of-requires : tie.Need-byte-of-requires Inv-loop μ-loop
-byte-of-requires c κs = search needs
+abbrev to-start : tie.After-byte-of Inv-loop μ-loop → tie.Start Inv-loop μ-loop
+to-start p = search
 
-cast-first : tie.Need-cast-first Inv-loop μ-loop
-cast-first c = search needs
+abbrev to-after-byte-of : tie.After-byte-of2 Inv-loop μ-loop → tie.After-byte-of Inv-loop μ-loop
+to-after-byte-of p = search
 
-loop-holds : tie.Need-loop-holds Inv-loop μ-loop
-loop-holds c = (search needs, c .byte-of .ensures, spell-end _ _ _ (omega arith) (c .before .before .pre .1))
+abbrev to-start-2 : tie.After-byte-of2 Inv-loop μ-loop → tie.Start Inv-loop μ-loop
+to-start-2 p = to-start (to-after-byte-of p)
 
-byte-of-requires-2 : tie.Need-byte-of-requires-2 Inv-loop μ-loop
-byte-of-requires-2 c κs = search needs
-
-cast-pairs : tie.Need-cast-pairs Inv-loop μ-loop
-cast-pairs c = search needs
-
-mul-pairs : tie.Need-mul-pairs Inv-loop μ-loop
-mul-pairs c = omega (arith, byte-small _ (c .before .loop-test .taken), c .byte-of2 .ensures)
-
-add-pairs : tie.Need-add-pairs Inv-loop μ-loop
-add-pairs c = omega (arith, byte-small _ (c .before .loop-test .taken), c .byte-of2 .ensures, byte-small _ (c .before .before .before .before .before .pre .0), c .before .before .loop .inv .1)
-
-mul-pairs-2 : tie.Need-mul-pairs-2 Inv-loop μ-loop
-mul-pairs-2 c = search needs
-
-cast-pairs-2 : tie.Need-cast-pairs-2 Inv-loop μ-loop
-cast-pairs-2 c = search needs
-
-add-pairs-2 : tie.Need-add-pairs-2 Inv-loop μ-loop
-add-pairs-2 c = search needs
-
-mul-pairs-3 : tie.Need-mul-pairs-3 Inv-loop μ-loop
-mul-pairs-3 c = search needs
-
-slice-write-pairs : tie.Need-slice-write-pairs Inv-loop μ-loop
-slice-write-pairs c = omega (arith, c .before .before .loop .inv .2 .long, c .before .before .before .before .before .pre .0)
-
-add-low : tie.Need-add-low Inv-loop μ-loop
-add-low c = search needs
-
-loop-less : tie.Need-loop-less Inv-loop μ-loop
-loop-less c = search needs
-
-loop-again : tie.Need-loop-again Inv-loop μ-loop
-loop-again c = (search needs, c .before .before .loop .inv .1, spell-more _ _ _ _ (omega (arith, c .before .before .before .before .before .pre .0)) (omega arith) (row-pair _ _ _ _ (c .before .before .before .before .before .pre .0) (c .before .loop-test .taken) (c .before .before .loop .inv .1) (c .byte-of2 .ensures)) (c .before .before .loop .inv .2))
-
-same-length : tie.Need-same-length Inv-loop μ-loop
-same-length c = c .before .loop .inv .2 .long ∙ sym (c .before .before .before .before .pre .1 .long)
-
-returns : tie.Need-returns Inv-loop μ-loop
-returns c = spell-end _ _ _ (omega (arith, c .before .loop .inv .0, c .loop-test .left)) (c .before .loop .inv .2)
+abbrev to-at-loop : tie.After-byte-of2 Inv-loop μ-loop → tie.At-loop Inv-loop μ-loop
+to-at-loop p = search
 
 pub spell-row-spec : {M : Type 1} → statement M
 spell-row-spec =
     tie.close
-    (tie.spec
-    Inv-loop
-    μ-loop
-    byte-of-requires
-    cast-first
-    loop-holds
-    byte-of-requires-2
-    cast-pairs
-    mul-pairs
-    add-pairs
-    mul-pairs-2
-    cast-pairs-2
-    add-pairs-2
-    mul-pairs-3
-    slice-write-pairs
-    add-low
-    loop-less
-    loop-again
-    same-length
-    returns)
+    (tie.spec Inv-loop μ-loop
+    (λ c κs. search needs)
+    (λ c. search needs)
+    (λ c. (search needs, c .byte-of .ensures, spell-end _ _ _ (omega arith) (to-start c .pre .1)))
+    (λ c κs. search needs)
+    (λ c. search needs)
+    (λ c. omega (arith, byte-small _ (c .before .loop-test .taken), c .byte-of2 .ensures))
+    (λ c. omega (arith, byte-small _ (c .before .loop-test .taken), c .byte-of2 .ensures, byte-small _ (to-start-2 c .pre .0), (to-at-loop c) .loop .inv .1))
+    (λ c. search needs)
+    (λ c. search needs)
+    (λ c. search needs)
+    (λ c. search needs)
+    (λ c. omega (arith, (to-at-loop c) .loop .inv .2 .long, (to-start-2 c) .pre .0))
+    (λ c. search needs)
+    (λ c. search needs)
+    (λ c.
+    let at-loop = to-at-loop c in
+    let start = to-start-2 c in (
+      search needs,
+      at-loop .loop .inv .1,
+      spell-more _ _ _ _ (omega (arith, start .pre .0)) (omega arith)
+          (row-pair _ _ _ _ (start .pre .0) (c .before .loop-test .taken) (at-loop .loop .inv .1) (c .byte-of2 .ensures)) (at-loop .loop .inv .2),
+    ))
+    (λ c. let after-byte-of : tie.After-byte-of Inv-loop μ-loop = search in c .before .loop .inv .2 .long ∙ sym (to-start after-byte-of .pre .1 .long))
+    (λ c. spell-end _ _ _ (omega (arith, c .before .loop .inv .0, c .loop-test .left)) (c .before .loop .inv .2)))

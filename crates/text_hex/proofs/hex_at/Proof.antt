@@ -4,55 +4,52 @@ use Rattle.text_hex.proofs.Laws.Marks.{hex-high, hex-low, hex-unended, 
 use Rattle.text_hex.proofs.hex_at.Statement.{statement}
 use Rattle.text_hex.proofs.hex_at.Tie as tie
 
-half-at-requires : tie.Need-half-at-requires
-half-at-requires c κs = (search needs, c .before .before .pre .1)
+abbrev to-start : tie.After-half-at → tie.Start
+to-start p = search
 
-add-half-at : tie.Need-add-half-at
-add-half-at c = search needs
+abbrev to-after-half-at : tie.After-half-at2 → tie.After-half-at
+to-after-half-at p = search
 
-half-at-requires-2 : tie.Need-half-at-requires-2
-half-at-requires-2 c κs = (search needs, c .before .before .before .pre .1)
-
-returns : tie.Need-returns
-returns c = (hex-high _ _ _ _ _ (c .before .before .before .before .before .pre .0) (c .before .before .half-at .ensures) (c .before .half-at2 .ensures) (c .if1 .taken), tt)
-
-returns-2 : tie.Need-returns-2
-returns-2 c = (hex-low _ _ _ _ _ (c .before .before .before .before .before .before .pre .0) (c .before .before .before .half-at .ensures) (c .before .before .half-at2 .ensures) (c .before .if1 .left) (c .if2 .taken), tt)
-
-add-if3 : tie.Need-add-if3
-add-if3 c = search needs
-
-shared-slice-read-if3 : tie.Need-shared-slice-read-if3
-shared-slice-read-if3 c = search needs
-
-returns-3 : tie.Need-returns-3
-returns-3 c = (hex-unended _ _ _ _ _ (c .before .before .before .before .before .before .before .before .pre .0) (c .before .before .before .before .before .half-at .ensures) (c .before .before .before .before .half-at2 .ensures) (c .before .before .before .if1 .left) (c .before .before .if2 .left) (c .if3 .taken), tt)
-
-mul-t11 : tie.Need-mul-t11
-mul-t11 c = search needs
-
-add-t12 : tie.Need-add-t12
-add-t12 c = search needs
-
-add-t7 : tie.Need-add-t7
-add-t7 c = search needs
-
-returns-4 : tie.Need-returns-4
-returns-4 c = (hex-done _ _ _ _ _ (c .before .before .before .before .before .before .before .before .pre .0) (c .before .before .before .before .before .half-at .ensures) (c .before .before .before .before .half-at2 .ensures) (c .before .before .before .if1 .left) (c .before .before .if2 .left) (c .if3 .left), search needs)
+abbrev to-start-2 : tie.After-half-at2 → tie.Start
+to-start-2 p = to-start (to-after-half-at p)
 
 pub hex-at-spec : {M : Type 1} → statement M
 hex-at-spec =
     tie.close
     (tie.spec
-    half-at-requires
-    add-half-at
-    half-at-requires-2
-    returns
-    returns-2
-    add-if3
-    shared-slice-read-if3
-    returns-3
-    mul-t11
-    add-t12
-    add-t7
-    returns-4)
+    (λ c κs. let start : tie.Start = search in (search needs, start .pre .1))
+    (λ c. search needs)
+    (λ c κs. (search needs, (to-start c) .pre .1))
+    (λ c.
+    let after-half-at2 : tie.After-half-at2 = search in (
+      hex-high _ _ _ _ _ (to-start-2 after-half-at2 .pre .0) (to-after-half-at after-half-at2 .half-at .ensures) (c .before .half-at2 .ensures)
+          (c .if1 .taken),
+      tt,
+    ))
+    (λ c.
+    let after-half-at2 : tie.After-half-at2 = search in (
+      hex-low _ _ _ _ _ (to-start-2 after-half-at2 .pre .0) (to-after-half-at after-half-at2 .half-at .ensures) (after-half-at2 .half-at2 .ensures)
+          (c .before .if1 .left) (c .if2 .taken),
+      tt,
+    ))
+    (λ c. search needs)
+    (λ c. search needs)
+    (λ c.
+    let after-half-at2 : tie.After-half-at2 = search in
+    let else1 : tie.Else1 = search in
+    let else2 : tie.Else2 = search in (
+      hex-unended _ _ _ _ _ (to-start-2 after-half-at2 .pre .0) (to-after-half-at after-half-at2 .half-at .ensures) (after-half-at2 .half-at2 .ensures)
+          (else1 .if1 .left) (else2 .if2 .left) (c .if3 .taken),
+      tt,
+    ))
+    (λ c. search needs)
+    (λ c. search needs)
+    (λ c. search needs)
+    (λ c.
+    let after-half-at2 : tie.After-half-at2 = search in
+    let else1 : tie.Else1 = search in
+    let else2 : tie.Else2 = search in (
+      hex-done _ _ _ _ _ (to-start-2 after-half-at2 .pre .0) (to-after-half-at after-half-at2 .half-at .ensures) (after-half-at2 .half-at2 .ensures)
+          (else1 .if1 .left) (else2 .if2 .left) (c .if3 .left),
+      search needs,
+    )))

@@ -13,49 +13,28 @@ Inv-loop corners sum₀ i₀ sum i = Summed corners i sum
 abbrev μ-loop : tie.MeasureT-loop
 μ-loop corners sum₀ i₀ sum i = length corners - i
 
-loop-holds : tie.Need-loop-holds Inv-loop μ-loop
-loop-holds c = sum-begins (c .before .args .corners .now)
+abbrev to-at-loop : tie.After-corner-size Inv-loop μ-loop → tie.At-loop Inv-loop μ-loop
+to-at-loop p = search
 
-mul-corner-size : tie.Need-mul-corner-size Inv-loop μ-loop
-mul-corner-size c = search needs
-
-shared-slice-read-corner-size : tie.Need-shared-slice-read-corner-size Inv-loop μ-loop
-shared-slice-read-corner-size c = search needs
-
-corner-size-requires : tie.Need-corner-size-requires Inv-loop μ-loop
-corner-size-requires c κs = search needs
-
-add-sum : tie.Need-add-sum Inv-loop μ-loop
-add-sum c = omega (arith, c .before .before .before .loop .inv .small, size-few _ _ (c .before .shared-slice-known2 .given (c .before .before .before .loop .i)) (c .corner-size .ensures))
-
-add-i : tie.Need-add-i Inv-loop μ-loop
-add-i c = search needs
-
-loop-less : tie.Need-loop-less Inv-loop μ-loop
-loop-less c = search needs
-
-loop-again : tie.Need-loop-again Inv-loop μ-loop
-loop-again c = sum-more (c .before .before .before .before .before .args .corners .now) _ _ (c .before .before .before .loop .inv) _ (c .before .before .loop-test .taken) (c .corner-size .ensures) (size-few _ _ (c .before .shared-slice-known2 .given (c .before .before .before .loop .i)) (c .corner-size .ensures))
-
-cast-result : tie.Need-cast-result Inv-loop μ-loop
-cast-result c = search needs
-
-returns : tie.Need-returns Inv-loop μ-loop
-returns c = sum-ends (c .before .before .before .args .corners .now) _ _ (c .before .loop .inv) (c .loop-test .left)
+abbrev to-turn : tie.After-corner-size Inv-loop μ-loop → tie.In-loop Inv-loop μ-loop
+to-turn p = search
 
 pub corner-digits-spec : {M : Type 1} → statement M
 corner-digits-spec =
     tie.close
-    (tie.spec
-    Inv-loop
-    μ-loop
-    loop-holds
-    mul-corner-size
-    shared-slice-read-corner-size
-    corner-size-requires
-    add-sum
-    add-i
-    loop-less
-    loop-again
-    cast-result
-    returns)
+    (tie.spec Inv-loop μ-loop
+    (λ c. sum-begins (c .before .args .corners .now))
+    (λ c. search needs)
+    (λ c. search needs)
+    (λ c κs. search needs)
+    (λ c.
+    let at-loop = to-at-loop c in
+    omega (arith, at-loop .loop .inv .small, size-few _ _ (c .before .shared-slice-known2 .given (at-loop .loop .i)) (c .corner-size .ensures)))
+    (λ c. search needs)
+    (λ c. search needs)
+    (λ c.
+    let at-loop = to-at-loop c in
+    sum-more _ _ _ (at-loop .loop .inv) _ (to-turn c .loop-test .taken) (c .corner-size .ensures)
+    (size-few _ _ (c .before .shared-slice-known2 .given (at-loop .loop .i)) (c .corner-size .ensures)))
+    (λ c. search needs)
+    (λ c. search sum-ends))

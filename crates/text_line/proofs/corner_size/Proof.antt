@@ -18,20 +18,18 @@ third j = ⊎-elim (λ w. inl (w .0 .taken, w .1)) (λ w. inr (w .0 .left, w .1)
 fourth : (j : tie.Joined4) → Flag 10000 (j .before .before .before .before .args .c) (j .if4 .e)
 fourth j = ⊎-elim (λ w. inl (w .0 .taken, w .1)) (λ w. inr (w .0 .left, w .1)) (j .if4 .came)
 
-add-result : tie.Need-add-result
-add-result c = omega (arith, flag-most (first (c .before .before .before .before)))
-
-add-result-2 : tie.Need-add-result-2
-add-result-2 c = omega (arith, flag-most (first (c .before .before .before .before .before)), flag-most (second (c .before .before .before .before)))
-
-add-result-3 : tie.Need-add-result-3
-add-result-3 c = omega (arith, flag-most (first (c .before .before .before .before .before .before)), flag-most (second (c .before .before .before .before .before)), flag-most (third (c .before .before .before .before)))
-
-add-result-4 : tie.Need-add-result-4
-add-result-4 c = omega (arith, flag-most (first (c .before .before .before .before .before .before .before)), flag-most (second (c .before .before .before .before .before .before)), flag-most (third (c .before .before .before .before .before)), flag-most (fourth (c .before .before .before .before)))
-
-returns : tie.Need-returns
-returns c = flags-size (c .before .before .before .before .before .before .before .before .args .c) _ _ _ _ (omega arith) (first (c .before .before .before .before .before .before .before)) (second (c .before .before .before .before .before .before)) (third (c .before .before .before .before .before)) (fourth (c .before .before .before .before))
-
 pub corner-size-spec : {M : Type 1} → statement M
-corner-size-spec = tie.close (tie.spec add-result add-result-2 add-result-3 add-result-4 returns)
+corner-size-spec =
+    tie.close
+    (tie.spec
+    (λ c. let joined1 : tie.Joined1 = search in omega (arith, flag-most (first (joined1))))
+    (λ c. let joined1 : tie.Joined1 = search in let joined2 : tie.Joined2 = search in omega (arith, flag-most (first (joined1)), flag-most (second (joined2))))
+    (λ c.
+    let joined1 : tie.Joined1 = search in let joined2 : tie.Joined2 = search in let joined3 : tie.Joined3 = search in
+    omega (arith, flag-most (first (joined1)), flag-most (second (joined2)), flag-most (third (joined3))))
+    (λ c.
+    let joined1 : tie.Joined1 = search in let joined2 : tie.Joined2 = search in let joined3 : tie.Joined3 = search in let joined4 : tie.Joined4 = search in
+    omega (arith, flag-most (first (joined1)), flag-most (second (joined2)), flag-most (third (joined3)), flag-most (fourth (joined4))))
+    (λ c.
+    let joined1 : tie.Joined1 = search in let joined2 : tie.Joined2 = search in let joined3 : tie.Joined3 = search in let joined4 : tie.Joined4 = search in
+    flags-size _ _ _ _ _ (omega arith) (first (joined1)) (second (joined2)) (third (joined3)) (fourth (joined4))))

@@ -7,27 +7,17 @@ use Rattle.text_line.proofs.Laws.Sizes.{room-for-longest}
 use Rattle.text_line.proofs.has_room.Statement.{statement}
 use Rattle.text_line.proofs.has_room.Tie as tie
 
-mul-if1 : tie.Need-mul-if1
-mul-if1 c = search needs
-
-add-if1 : tie.Need-add-if1
-add-if1 c = search needs
-
-mul-if1-2 : tie.Need-mul-if1-2
-mul-if1-2 c = search needs
-
-add-if1-2 : tie.Need-add-if1-2
-add-if1-2 c = search needs
-
-returns : tie.Need-returns
-returns c = room-for-longest (c .before .before .args .points) (c .before .before .args .corners .now) (c .before .before .pre) (c .before .before .args .room) (c .before .shared-slice-known .given) (c .if1 .taken)
-
-text-bytes-requires : tie.Need-text-bytes-requires
-text-bytes-requires c κs = search needs
-
-returns-2 : tie.Need-returns-2
-returns-2 c = ap (λ (k : ℕ). leb k (c .before .before .before .args .room)) (c .text-bytes .ensures)
+abbrev to-start : tie.After-text-bytes → tie.Start
+to-start p = search
 
 pub has-room-spec : {M : Type 1} → statement M
 has-room-spec =
-    tie.close (tie.spec mul-if1 add-if1 mul-if1-2 add-if1-2 returns text-bytes-requires returns-2)
+    tie.close
+    (tie.spec
+    (λ c. search needs)
+    (λ c. search needs)
+    (λ c. search needs)
+    (λ c. search needs)
+    (λ c. search room-for-longest)
+    (λ c κs. search needs)
+    (λ c. ap (λ (k : ℕ). leb k (to-start c .args .room)) (c .text-bytes .ensures)))

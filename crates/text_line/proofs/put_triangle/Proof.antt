@@ -8,67 +8,73 @@ use Rattle.text_line.proofs.Laws.Rows.{pair-length, triangle-laid}
 use Rattle.text_line.proofs.put_triangle.Statement.{statement}
 use Rattle.text_line.proofs.put_triangle.Tie as tie
 
-slice-write-buffer : tie.Need-slice-write-buffer
-slice-write-buffer c = omega (arith, triangle-size (three (c .before .before .args .a) (c .before .before .args .b) (c .before .before .args .c)))
+abbrev to-start : tie.After-put-decimal-ended → tie.Start
+to-start p = search
 
-add-buffer : tie.Need-add-buffer
-add-buffer c = search needs
+abbrev to-after-put-decimal-ended : tie.After-put-decimal-ended2 → tie.After-put-decimal-ended
+to-after-put-decimal-ended p = search
 
-slice-write-buffer-2 : tie.Need-slice-write-buffer-2
-slice-write-buffer-2 c = omega (arith, triangle-size (three (c .before .before .args .a) (c .before .before .args .b) (c .before .before .args .c)), length-set (c .before .before .args .buffer .now) (c .before .before .args .at) 116)
-
-add-put-decimal-ended : tie.Need-add-put-decimal-ended
-add-put-decimal-ended c = search needs
-
-mul-put-decimal-ended : tie.Need-mul-put-decimal-ended
-mul-put-decimal-ended c = search needs
-
-shared-slice-read-put-decimal-ended : tie.Need-shared-slice-read-put-decimal-ended
-shared-slice-read-put-decimal-ended c = search needs
-
-put-decimal-ended-requires : tie.Need-put-decimal-ended-requires
-put-decimal-ended-requires c κs = (c .before .before .before .before .pre .0 .0 .short, c .before .before .before .before .pre .0 .0 .four, omega (arith, triangle-size (three (c .before .before .before .before .args .a) (c .before .before .before .before .args .b) (c .before .before .before .before .args .c)), pair-length (c .before .before .before .before .args .buffer .now) (c .before .before .before .before .args .at) 116 61))
-
-mul-put-decimal-ended-2 : tie.Need-mul-put-decimal-ended-2
-mul-put-decimal-ended-2 c = search needs
-
-shared-slice-read-put-decimal-ended-2 : tie.Need-shared-slice-read-put-decimal-ended-2
-shared-slice-read-put-decimal-ended-2 c = search needs
-
-put-decimal-ended-requires-2 : tie.Need-put-decimal-ended-requires-2
-put-decimal-ended-requires-2 c κs = (c .before .before .before .before .before .before .before .before .before .pre .0 .1 .short, c .before .before .before .before .before .before .before .before .before .pre .0 .1 .four, omega (arith, triangle-size (three (c .before .before .before .before .before .before .before .before .before .args .a) (c .before .before .before .before .before .before .before .before .before .args .b) (c .before .before .before .before .before .before .before .before .before .args .c)), pair-length (c .before .before .before .before .before .before .before .before .before .args .buffer .now) (c .before .before .before .before .before .before .before .before .before .args .at) 116 61))
-
-mul-put-decimal-ended-3 : tie.Need-mul-put-decimal-ended-3
-mul-put-decimal-ended-3 c = search needs
-
-shared-slice-read-put-decimal-ended-3 : tie.Need-shared-slice-read-put-decimal-ended-3
-shared-slice-read-put-decimal-ended-3 c = search needs
-
-put-decimal-ended-requires-3 : tie.Need-put-decimal-ended-requires-3
-put-decimal-ended-requires-3 c κs = (c .before .before .before .before .before .before .before .before .before .before .before .before .before .before .pre .0 .2 .short, c .before .before .before .before .before .before .before .before .before .before .before .before .before .before .pre .0 .2 .four, omega (arith, triangle-size (three (c .before .before .before .before .before .before .before .before .before .before .before .before .before .before .args .a) (c .before .before .before .before .before .before .before .before .before .before .before .before .before .before .args .b) (c .before .before .before .before .before .before .before .before .before .before .before .before .before .before .args .c)), pair-length (c .before .before .before .before .before .before .before .before .before .before .before .before .before .before .args .buffer .now) (c .before .before .before .before .before .before .before .before .before .before .before .before .before .before .args .at) 116 61))
-
-same-length : tie.Need-same-length
-same-length c = omega (arith, pair-length (c .before .before .before .before .before .before .before .before .before .before .before .before .before .before .before .before .before .args .buffer .now) (c .before .before .before .before .before .before .before .before .before .before .before .before .before .before .before .before .before .args .at) 116 61)
-
-returns : tie.Need-returns
-returns c = (triangle-laid (c .before .before .before .before .before .before .before .before .before .before .before .before .before .before .before .before .before .args .a) (c .before .before .before .before .before .before .before .before .before .before .before .before .before .before .before .before .before .args .b) (c .before .before .before .before .before .before .before .before .before .before .before .before .before .before .before .before .before .args .c) (c .before .before .before .before .before .before .before .before .before .before .before .before .before .before .before .before .before .args .at) _ _ (c .before .before .before .before .before .before .before .before .before .before .before .before .before .before .before .before .before .args .buffer .now) _ _ _ (c .before .before .before .before .before .before .before .before .before .before .before .before .before .before .before .before .before .pre .1) (c .before .before .before .before .before .before .before .before .before .before .before .before .put-decimal-ended .ensures .1) (c .before .before .before .before .before .before .before .put-decimal-ended2 .ensures .1) (c .before .before .before .before .before .before .before .before .before .before .before .before .put-decimal-ended .ensures .0) (c .before .before .before .before .before .before .before .put-decimal-ended2 .ensures .0) (c .before .before .put-decimal-ended3 .ensures .0), omega (arith, triangle-size (three (c .before .before .before .before .before .before .before .before .before .before .before .before .before .before .before .before .before .args .a) (c .before .before .before .before .before .before .before .before .before .before .before .before .before .before .before .before .before .args .b) (c .before .before .before .before .before .before .before .before .before .before .before .before .before .before .before .before .before .args .c)), c .before .before .before .before .before .before .before .before .before .before .before .before .put-decimal-ended .ensures .1, c .before .before .before .before .before .before .before .put-decimal-ended2 .ensures .1, c .before .before .put-decimal-ended3 .ensures .1))
+abbrev to-after-put-decimal-ended2 : tie.After-put-decimal-ended3 → tie.After-put-decimal-ended2
+to-after-put-decimal-ended2 p = search
 
 pub put-triangle-spec : {M : Type 1} → statement M
 put-triangle-spec =
     tie.close
     (tie.spec
-    slice-write-buffer
-    add-buffer
-    slice-write-buffer-2
-    add-put-decimal-ended
-    mul-put-decimal-ended
-    shared-slice-read-put-decimal-ended
-    put-decimal-ended-requires
-    mul-put-decimal-ended-2
-    shared-slice-read-put-decimal-ended-2
-    put-decimal-ended-requires-2
-    mul-put-decimal-ended-3
-    shared-slice-read-put-decimal-ended-3
-    put-decimal-ended-requires-3
-    same-length
-    returns)
+    (λ c. let start : tie.Start = search in omega (arith, triangle-size (three (start .args .a) (start .args .b) (start .args .c))))
+    (λ c. search needs)
+    (λ c.
+    let start : tie.Start = search in
+    omega (arith, triangle-size (three (start .args .a) (start .args .b) (start .args .c)), length-set (start .args .buffer .now) (start .args .at) 116))
+    (λ c. search needs)
+    (λ c. search needs)
+    (λ c. search needs)
+    (λ c κs.
+    let start : tie.Start = search in (
+      start .pre .0 .0 .short,
+      start .pre .0 .0 .four,
+      omega
+          (arith, triangle-size (three (start .args .a) (start .args .b) (start .args .c)), pair-length (start .args .buffer .now) (start .args .at) 116 61),
+    ))
+    (λ c. search needs)
+    (λ c. search needs)
+    (λ c κs.
+    let after-put-decimal-ended : tie.After-put-decimal-ended = search in let start = to-start after-put-decimal-ended in (
+      start .pre .0 .1 .short,
+      start .pre .0 .1 .four,
+      omega
+          (arith, triangle-size (three (start .args .a) (start .args .b) (start .args .c)), pair-length (start .args .buffer .now) (start .args .at) 116 61),
+    ))
+    (λ c. search needs)
+    (λ c. search needs)
+    (λ c κs.
+    let after-put-decimal-ended2 : tie.After-put-decimal-ended2 = search in
+    let start = to-start (to-after-put-decimal-ended after-put-decimal-ended2) in (
+      start .pre .0 .2 .short,
+      start .pre .0 .2 .four,
+      omega
+          (arith, triangle-size (three (start .args .a) (start .args .b) (start .args .c)), pair-length (start .args .buffer .now) (start .args .at) 116 61),
+    ))
+    (λ c.
+    omega (
+      arith,
+      pair-length
+          (c .before .before .before .before .before .before .before .before .before .before .before .before .before .before .before .before .before .args .buffer .now)
+          (c .before .before .before .before .before .before .before .before .before .before .before .before .before .before .before .before .before .args .at) 116 61,
+    ))
+    (λ c.
+    let after-put-decimal-ended3 : tie.After-put-decimal-ended3 = search in
+    let after-put-decimal-ended2 = to-after-put-decimal-ended2 after-put-decimal-ended3 in
+    let after-put-decimal-ended = to-after-put-decimal-ended after-put-decimal-ended2 in let start = to-start after-put-decimal-ended in (
+      triangle-laid (start .args .a) (start .args .b) (start .args .c) (start .args .at) _ _ (start .args .buffer .now) _ _ _ (start .pre .1)
+          (after-put-decimal-ended .put-decimal-ended .ensures .1) (after-put-decimal-ended2 .put-decimal-ended2 .ensures .1)
+          (after-put-decimal-ended .put-decimal-ended .ensures .0) (after-put-decimal-ended2 .put-decimal-ended2 .ensures .0)
+          (after-put-decimal-ended3 .put-decimal-ended3 .ensures .0),
+      omega (
+        arith,
+        triangle-size (three (start .args .a) (start .args .b) (start .args .c)),
+        after-put-decimal-ended .put-decimal-ended .ensures .1,
+        after-put-decimal-ended2 .put-decimal-ended2 .ensures .1,
+        after-put-decimal-ended3 .put-decimal-ended3 .ensures .1,
+      ),
+    )))

@@ -8,59 +8,75 @@ use Rattle.text_line.proofs.Laws.Sizes.{digits-few, needed-sum}
 use Rattle.text_line.proofs.text_bytes.Statement.{statement}
 use Rattle.text_line.proofs.text_bytes.Tie as tie
 
-cast-size-of : tie.Need-cast-size-of
-cast-size-of c = search needs
+abbrev to-after-size-of : tie.After-size-of2 → tie.After-size-of
+to-after-size-of p = search
 
-size-of-requires : tie.Need-size-of-requires
-size-of-requires c κs = search needs
+abbrev to-start : tie.After-size-of → tie.Start
+to-start p = search
 
-cast-size-of-2 : tie.Need-cast-size-of-2
-cast-size-of-2 c = search needs
+abbrev to-after-size-of2 : tie.After-corner-digits → tie.After-size-of2
+to-after-size-of2 p = search
 
-size-of-requires-2 : tie.Need-size-of-requires-2
-size-of-requires-2 c κs = search needs
-
-add-sizes : tie.Need-add-sizes
-add-sizes c = omega (arith, size-most (c .before .before .before .args .points) (omega (arith, c .before .before .before .pre .few-points)), size-most (length (c .before .before .before .args .corners .now) / 3) (omega (arith, c .before .before .before .pre .few-corners)), c .before .size-of .ensures, c .size-of2 .ensures)
-
-add-result : tie.Need-add-result
-add-result c = omega (arith, size-most (c .before .before .before .args .points) (omega (arith, c .before .before .before .pre .few-points)), size-most (length (c .before .before .before .args .corners .now) / 3) (omega (arith, c .before .before .before .pre .few-corners)), c .before .size-of .ensures, c .size-of2 .ensures)
-
-mul-result : tie.Need-mul-result
-mul-result c = search needs
-
-add-result-2 : tie.Need-add-result-2
-add-result-2 c = omega (arith, size-most (c .before .before .before .args .points) (omega (arith, c .before .before .before .pre .few-points)), size-most (length (c .before .before .before .args .corners .now) / 3) (omega (arith, c .before .before .before .pre .few-corners)), c .before .size-of .ensures, c .size-of2 .ensures)
-
-mul-result-2 : tie.Need-mul-result-2
-mul-result-2 c = search needs
-
-add-result-3 : tie.Need-add-result-3
-add-result-3 c = omega (arith, size-most (c .before .before .before .args .points) (omega (arith, c .before .before .before .pre .few-points)), size-most (length (c .before .before .before .args .corners .now) / 3) (omega (arith, c .before .before .before .pre .few-corners)), c .before .size-of .ensures, c .size-of2 .ensures)
-
-corner-digits-requires : tie.Need-corner-digits-requires
-corner-digits-requires c κs = search needs
-
-add-result-4 : tie.Need-add-result-4
-add-result-4 c = omega (arith, size-most (c .before .before .before .before .args .points) (omega (arith, c .before .before .before .before .pre .few-points)), size-most (length (c .before .before .before .before .args .corners .now) / 3) (omega (arith, c .before .before .before .before .pre .few-corners)), c .before .before .size-of .ensures, c .before .size-of2 .ensures, c .corner-digits .ensures, digits-few (c .before .before .before .before .args .corners .now) (c .before .before .before .shared-slice-known .given))
-
-returns : tie.Need-returns
-returns c = needed-sum (c .before .before .before .before .args .points) _ _ _ (c .before .before .before .before .args .corners .now) (c .before .before .size-of .ensures) (c .before .size-of2 .ensures) (c .corner-digits .ensures)
+abbrev to-after-shared-slice-known : tie.After-size-of → tie.After-shared-slice-known
+to-after-shared-slice-known p = search
 
 pub text-bytes-spec : {M : Type 1} → statement M
 text-bytes-spec =
     tie.close
     (tie.spec
-    cast-size-of
-    size-of-requires
-    cast-size-of-2
-    size-of-requires-2
-    add-sizes
-    add-result
-    mul-result
-    add-result-2
-    mul-result-2
-    add-result-3
-    corner-digits-requires
-    add-result-4
-    returns)
+    (λ c. search needs)
+    (λ c κs. search needs)
+    (λ c. search needs)
+    (λ c κs. search needs)
+    (λ c.
+    let start = to-start (to-after-size-of c) in omega (
+      arith,
+      size-most (start .args .points) (omega (arith, start .pre .few-points)),
+      size-most (length (start .args .corners .now) / 3)
+          (omega (arith, start .pre .few-corners)),
+      c .before .size-of .ensures,
+      c .size-of2 .ensures,
+    ))
+    (λ c.
+    let start = to-start (to-after-size-of c) in omega (
+      arith,
+      size-most (start .args .points) (omega (arith, start .pre .few-points)),
+      size-most (length (start .args .corners .now) / 3)
+          (omega (arith, start .pre .few-corners)),
+      c .before .size-of .ensures,
+      c .size-of2 .ensures,
+    ))
+    (λ c. search needs)
+    (λ c.
+    let start = to-start (to-after-size-of c) in omega (
+      arith,
+      size-most (start .args .points) (omega (arith, start .pre .few-points)),
+      size-most (length (start .args .corners .now) / 3)
+          (omega (arith, start .pre .few-corners)),
+      c .before .size-of .ensures,
+      c .size-of2 .ensures,
+    ))
+    (λ c. search needs)
+    (λ c.
+    let start = to-start (to-after-size-of c) in omega (
+      arith,
+      size-most (start .args .points) (omega (arith, start .pre .few-points)),
+      size-most (length (start .args .corners .now) / 3)
+          (omega (arith, start .pre .few-corners)),
+      c .before .size-of .ensures,
+      c .size-of2 .ensures,
+    ))
+    (λ c κs. search needs)
+    (λ c.
+    let after-size-of = to-after-size-of (to-after-size-of2 c) in let start = to-start after-size-of in omega (
+      arith,
+      size-most (start .args .points) (omega (arith, start .pre .few-points)),
+      size-most (length (start .args .corners .now) / 3)
+          (omega (arith, start .pre .few-corners)),
+      after-size-of .size-of .ensures,
+      c .before .size-of2 .ensures,
+      c .corner-digits .ensures,
+      digits-few
+          (start .args .corners .now) (to-after-shared-slice-known after-size-of .shared-slice-known .given),
+    ))
+    (λ c. search needed-sum))

@@ -6,75 +6,123 @@ use Rattle.text_read.proofs.Laws.Deliver.{short-handed, unnamed-handed,
 use Rattle.text_read.proofs.hand_over.Statement.{statement}
 use Rattle.text_read.proofs.hand_over.Tie as tie
 
-slice-aggregate-check-buffers : tie.Need-slice-aggregate-check-buffers
-slice-aggregate-check-buffers c = search needs
+abbrev to-after-check-buffers : tie.After-refuses → tie.After-check-buffers
+to-after-check-buffers p = search
 
-slice-aggregate-check-buffers-2 : tie.Need-slice-aggregate-check-buffers-2
-slice-aggregate-check-buffers-2 c = search needs
+abbrev to-after-refuses : tie.After-refused → tie.After-refuses
+to-after-refuses p = search
 
-check-buffers-requires : tie.Need-check-buffers-requires
-check-buffers-requires c κs = search needs
+abbrev to-after-check-buffers-2 : tie.After-refused → tie.After-check-buffers
+to-after-check-buffers-2 p = to-after-check-buffers (to-after-refuses p)
 
-refuses-requires : tie.Need-refuses-requires
-refuses-requires c κs = search needs
+abbrev to-after-refuses-2 : tie.After-first-unnamed → tie.After-refuses
+to-after-refuses-2 p = search
 
-refused-requires : tie.Need-refused-requires
-refused-requires c κs = search needs
+abbrev to-after-check-buffers-3 : tie.After-first-unnamed → tie.After-check-buffers
+to-after-check-buffers-3 p = to-after-check-buffers (to-after-refuses-2 p)
 
-returns : tie.Need-returns
-returns c = short-handed _ _ _ _ _ (c .before .before .before .check-buffers .ensures) _ (sym (c .before .before .refuses .ensures) ∙ c .before .if1 .taken) (c .refused .ensures)
+abbrev to-after-first-unnamed : tie.After-refused2 → tie.After-first-unnamed
+to-after-first-unnamed p = search
 
-cast-first-unnamed : tie.Need-cast-first-unnamed
-cast-first-unnamed c = search needs
+abbrev to-after-check-buffers-4 : tie.After-refused2 → tie.After-check-buffers
+to-after-check-buffers-4 p = to-after-check-buffers-3 (to-after-first-unnamed p)
 
-first-unnamed-requires : tie.Need-first-unnamed-requires
-first-unnamed-requires c κs = search needs
+abbrev to-after-refuses-3 : tie.After-refused2 → tie.After-refuses
+to-after-refuses-3 p = to-after-refuses-2 (to-after-first-unnamed p)
 
-enum-known-i : tie.Need-enum-known-i
-enum-known-i c = search needs
+abbrev to-else1 : tie.After-first-unnamed → tie.Else1
+to-else1 p = search
 
-refused-requires-2 : tie.Need-refused-requires-2
-refused-requires-2 c κs = search needs
+abbrev to-else1-2 : tie.After-refused2 → tie.Else1
+to-else1-2 p = to-else1 (to-after-first-unnamed p)
 
-returns-2 : tie.Need-returns-2
-returns-2 c = unnamed-handed _ _ _ _ _ (c .before .before .before .before .before .before .before .check-buffers .ensures) (sym (c .before .before .before .before .before .before .refuses .ensures) ∙ c .before .before .before .before .before .if1 .left) _ (c .before .before .before .before .before .before .before .before .before .before .before .before .before .before .pre .0) _ (c .before .before .before .before .first-unnamed .ensures) _ _ (c .before .before .i .given .1) (c .refused2 .ensures)
+abbrev to-start : tie.After-check-buffers → tie.Start
+to-start p = search
 
-enum-told : tie.Need-enum-told
-enum-told c = search needs
+abbrev to-start-2 : tie.After-refuses → tie.Start
+to-start-2 p = to-start (to-after-check-buffers p)
 
-copy-words-requires : tie.Need-copy-words-requires
-copy-words-requires c κs = two-fit _ _ _ _ _ (c .before .before .before .before .before .before .check-buffers .ensures) (sym (c .before .before .before .before .before .refuses .ensures) ∙ c .before .before .before .before .if1 .left) .0
+abbrev to-start-3 : tie.After-first-unnamed → tie.Start
+to-start-3 p = to-start-2 (to-after-refuses-2 p)
 
-copy-corners-requires : tie.Need-copy-corners-requires
-copy-corners-requires c κs = two-fit _ _ _ _ _ (c .before .before .before .before .before .before .before .before .before .before .check-buffers .ensures) (sym (c .before .before .before .before .before .before .before .before .before .refuses .ensures) ∙ c .before .before .before .before .before .before .before .before .if1 .left) .1
+abbrev to-start-4 : tie.After-refused2 → tie.Start
+to-start-4 p = to-start-3 (to-after-first-unnamed p)
 
-same-length : tie.Need-same-length
-same-length c = search needs
+abbrev to-after-i : tie.After-refused2 → tie.After-i
+to-after-i p = search
 
-same-length-2 : tie.Need-same-length-2
-same-length-2 c = search needs
+abbrev to-after-first-unnamed-2 : tie.After-copy-words → tie.After-first-unnamed
+to-after-first-unnamed-2 p = search
 
-returns-3 : tie.Need-returns-3
-returns-3 c = all-handed _ _ _ _ _ (c .before .before .before .before .before .before .before .before .before .before .before .before .before .check-buffers .ensures) (sym (c .before .before .before .before .before .before .before .before .before .before .before .before .refuses .ensures) ∙ c .before .before .before .before .before .before .before .before .before .before .before .if1 .left) _ (c .before .before .before .before .before .before .before .before .before .before .before .before .before .before .before .before .before .before .before .before .pre .0) _ (c .before .before .before .before .before .before .before .before .before .before .first-unnamed .ensures) _ _ (c .before .before .before .before .before .before .before .before .enum-told .given .1) (c .before .before .before .before .before .before .copy-words .ensures) (c .before .before .copy-corners .ensures)
+abbrev to-after-check-buffers-5 : tie.After-copy-words → tie.After-check-buffers
+to-after-check-buffers-5 p = to-after-check-buffers-3 (to-after-first-unnamed-2 p)
+
+abbrev to-after-refuses-4 : tie.After-copy-words → tie.After-refuses
+to-after-refuses-4 p = to-after-refuses-2 (to-after-first-unnamed-2 p)
+
+abbrev to-else1-3 : tie.After-copy-words → tie.Else1
+to-else1-3 p = to-else1 (to-after-first-unnamed-2 p)
+
+abbrev to-after-copy-words : tie.After-copy-corners → tie.After-copy-words
+to-after-copy-words p = search
+
+abbrev to-after-check-buffers-6 : tie.After-copy-corners → tie.After-check-buffers
+to-after-check-buffers-6 p = to-after-check-buffers-5 (to-after-copy-words p)
+
+abbrev to-after-refuses-5 : tie.After-copy-corners → tie.After-refuses
+to-after-refuses-5 p = to-after-refuses-4 (to-after-copy-words p)
+
+abbrev to-else1-4 : tie.After-copy-corners → tie.Else1
+to-else1-4 p = to-else1-3 (to-after-copy-words p)
+
+abbrev to-start-5 : tie.After-copy-words → tie.Start
+to-start-5 p = to-start-3 (to-after-first-unnamed-2 p)
+
+abbrev to-start-6 : tie.After-copy-corners → tie.Start
+to-start-6 p = to-start-5 (to-after-copy-words p)
+
+abbrev to-after-first-unnamed-3 : tie.After-copy-corners → tie.After-first-unnamed
+to-after-first-unnamed-3 p = to-after-first-unnamed-2 (to-after-copy-words p)
+
+abbrev to-after-enum-told : tie.After-copy-words → tie.After-enum-told
+to-after-enum-told p = search
+
+abbrev to-after-enum-told-2 : tie.After-copy-corners → tie.After-enum-told
+to-after-enum-told-2 p = to-after-enum-told (to-after-copy-words p)
 
 pub hand-over-spec : {M : Type 1} → statement M
 hand-over-spec =
     tie.close
     (tie.spec
-    slice-aggregate-check-buffers
-    slice-aggregate-check-buffers-2
-    check-buffers-requires
-    refuses-requires
-    refused-requires
-    returns
-    cast-first-unnamed
-    first-unnamed-requires
-    enum-known-i
-    refused-requires-2
-    returns-2
-    enum-told
-    copy-words-requires
-    copy-corners-requires
-    same-length
-    same-length-2
-    returns-3)
+    (λ c. search needs)
+    (λ c. search needs)
+    (λ c κs. search needs)
+    (λ c κs. search needs)
+    (λ c κs. search needs)
+    (λ c.
+    short-handed _ _ _ _ _ (to-after-check-buffers-2 c .check-buffers .ensures) _ (sym (to-after-refuses c .refuses .ensures) ∙ c .before .if1 .taken)
+    (c .refused .ensures))
+    (λ c. search needs)
+    (λ c κs. search needs)
+    (λ c. search needs)
+    (λ c κs. search needs)
+    (λ c.
+    unnamed-handed _ _ _ _ _ (to-after-check-buffers-4 c .check-buffers .ensures) (sym (to-after-refuses-3 c .refuses .ensures) ∙ (to-else1-2 c) .if1 .left)
+    _ (to-start-4 c .pre .0) _ (to-after-first-unnamed c .first-unnamed .ensures) _ _ (to-after-i c .i .given .1) (c .refused2 .ensures))
+    (λ c. search needs)
+    (λ c κs.
+    let after-first-unnamed : tie.After-first-unnamed = search in
+    two-fit _ _ _ _ _ (to-after-check-buffers-3 after-first-unnamed .check-buffers .ensures)
+    (sym (to-after-refuses-2 after-first-unnamed .refuses .ensures) ∙ (to-else1 after-first-unnamed) .if1 .left) .0)
+    (λ c κs.
+    let after-copy-words : tie.After-copy-words = search in
+    two-fit _ _ _ _ _ (to-after-check-buffers-5 after-copy-words .check-buffers .ensures)
+    (sym (to-after-refuses-4 after-copy-words .refuses .ensures) ∙ (to-else1-3 after-copy-words) .if1 .left) .1)
+    (λ c. search needs)
+    (λ c. search needs)
+    (λ c.
+    let after-copy-corners : tie.After-copy-corners = search in
+    all-handed _ _ _ _ _ (to-after-check-buffers-6 after-copy-corners .check-buffers .ensures)
+    (sym (to-after-refuses-5 after-copy-corners .refuses .ensures) ∙ (to-else1-4 after-copy-corners) .if1 .left) _ (to-start-6 after-copy-corners .pre .0) _
+    (to-after-first-unnamed-3 after-copy-corners .first-unnamed .ensures) _ _ (to-after-enum-told-2 after-copy-corners .enum-told .given .1)
+    (to-after-copy-words after-copy-corners .copy-words .ensures) (after-copy-corners .copy-corners .ensures)))

@@ -10,83 +10,56 @@ use Rattle.text_read.proofs.Laws.Deliver.{fault-promised, few-points, f
 use Rattle.text_read.proofs.read_by.Statement.{statement}
 use Rattle.text_read.proofs.read_by.Tie as tie
 
-take-in-requires : tie.Need-take-in-requires
-take-in-requires c κs = search needs
+abbrev to-after-take-in-2 : tie.After-hand-over → tie.After-take-in
+to-after-take-in-2 p = search
 
-enum-known-line : tie.Need-enum-known-line
-enum-known-line c = search needs
-
-refused-requires : tie.Need-refused-requires
-refused-requires c κs = search needs
-
-enum-known-points : tie.Need-enum-known-points
-enum-known-points c = search needs
-
-mul-w : tie.Need-mul-w
-mul-w c = omega (arith, few-points (kept flat flat parse (c .before .before .before .before .before .before .before .before .before .before .before .before .before .before .before .args .text .now) _ _ _ _ _ _ _ (c .before .before .before .before .before .before .before .take-in .ensures) (c .before .points .given .1)))
-
-mul-c : tie.Need-mul-c
-mul-c c = omega (arith, few-triangles (kept flat flat parse (c .before .before .before .before .before .before .before .before .before .before .before .before .before .before .before .args .text .now) _ _ _ _ _ _ _ (c .before .before .before .before .before .before .before .take-in .ensures) (c .before .points .given .1)))
-
-slice-reshare-prefix-hand-over : tie.Need-slice-reshare-prefix-hand-over
-slice-reshare-prefix-hand-over c = (words-in (kept flat flat parse (c .before .before .before .before .before .before .before .before .before .before .before .before .before .before .before .args .text .now) _ _ _ _ _ _ _ (c .before .before .before .before .before .before .before .take-in .ensures) (c .before .points .given .1)))
-
-slice-aggregate-hand-over : tie.Need-slice-aggregate-hand-over
-slice-aggregate-hand-over c = sym (length-take-le _ _ (words-in (kept flat flat parse (c .before .before .before .before .before .before .before .before .before .before .before .before .before .before .before .before .args .text .now) _ _ _ _ _ _ _ (c .before .before .before .before .before .before .before .before .take-in .ensures) (c .before .before .points .given .1))))
-
-slice-reshare-prefix-hand-over-2 : tie.Need-slice-reshare-prefix-hand-over-2
-slice-reshare-prefix-hand-over-2 c = (corners-in (kept flat flat parse (c .before .before .before .before .before .before .before .before .before .before .before .before .before .before .before .before .args .text .now) _ _ _ _ _ _ _ (c .before .before .before .before .before .before .before .before .take-in .ensures) (c .before .before .points .given .1)))
-
-slice-aggregate-hand-over-2 : tie.Need-slice-aggregate-hand-over-2
-slice-aggregate-hand-over-2 c = sym (length-take-le _ _ (corners-in (kept flat flat parse (c .before .before .before .before .before .before .before .before .before .before .before .before .before .before .before .before .before .args .text .now) _ _ _ _ _ _ _ (c .before .before .before .before .before .before .before .before .before .take-in .ensures) (c .before .before .before .points .given .1))))
-
-hand-over-requires : tie.Need-hand-over-requires
-hand-over-requires c κs = (length-take-le _ _ (words-in (kept flat flat parse (c .before .before .before .before .before .before .before .before .before .before .before .before .before .before .before .before .before .before .before .args .text .now) _ _ _ _ _ _ _ (c .before .before .before .before .before .before .before .before .before .before .before .take-in .ensures) (c .before .before .before .before .before .points .given .1))), omega (arith, few-points (kept flat flat parse (c .before .before .before .before .before .before .before .before .before .before .before .before .before .before .before .before .before .before .before .args .text .now) _ _ _ _ _ _ _ (c .before .before .before .before .before .before .before .before .before .before .before .take-in .ensures) (c .before .before .before .before .before .points .given .1))))
-
-same-length : tie.Need-same-length
-same-length c = search needs
-
-same-length-2 : tie.Need-same-length-2
-same-length-2 c = search needs
-
-returns : tie.Need-returns
-returns c = fault-promised (c .before .before .before .before .before .before .before .before .before .before .before .before .before .before .before .before .args .text .now) _ _ _ _ _ _ _ _ _ (c .before .before .before .before .before .before .before .before .take-in .ensures) (c .before .before .line .given .1) (c .refused .ensures)
-
-same-length-3 : tie.Need-same-length-3
-same-length-3 c = search needs
-
-same-length-4 : tie.Need-same-length-4
-same-length-4 c = search needs
-
-same-length-5 : tie.Need-same-length-5
-same-length-5 c = search needs
-
-same-length-6 : tie.Need-same-length-6
-same-length-6 c = search needs
-
-returns-2 : tie.Need-returns-2
-returns-2 c = delivered (kept flat flat parse (c .before .before .before .before .before .before .before .before .before .before .before .before .before .before .before .before .before .before .before .before .before .before .before .before .args .text .now) _ _ _ _ _ _ _ (c .before .before .before .before .before .before .before .before .before .before .before .before .before .before .before .before .take-in .ensures) (c .before .before .before .before .before .before .before .before .before .before .points .given .1)) _ _ _ (c .before .before .before .before .hand-over .ensures)
+abbrev to-after-points : tie.After-hand-over → tie.After-points
+to-after-points p = search
 
 pub read-by-spec : {M : Type 1} → statement M
 read-by-spec =
     tie.close
     (tie.spec
-    take-in-requires
-    enum-known-line
-    refused-requires
-    enum-known-points
-    mul-w
-    mul-c
-    slice-reshare-prefix-hand-over
-    slice-aggregate-hand-over
-    slice-reshare-prefix-hand-over-2
-    slice-aggregate-hand-over-2
-    hand-over-requires
-    same-length
-    same-length-2
-    returns
-    same-length-3
-    same-length-4
-    same-length-5
-    same-length-6
-    returns-2)
+    (λ c κs. search needs)
+    (λ c. search needs)
+    (λ c κs. search needs)
+    (λ c. search needs)
+    (λ c.
+    let after-take-in : tie.After-take-in = search in
+    omega (arith, few-points (kept flat flat parse _ _ _ _ _ _ _ _ (after-take-in .take-in .ensures) (c .before .points .given .1))))
+    (λ c.
+    let after-take-in : tie.After-take-in = search in
+    omega (arith, few-triangles (kept flat flat parse _ _ _ _ _ _ _ _ (after-take-in .take-in .ensures) (c .before .points .given .1))))
+    (λ c.
+    let after-take-in : tie.After-take-in = search in
+    (words-in (kept flat flat parse _ _ _ _ _ _ _ _ (after-take-in .take-in .ensures) (c .before .points .given .1))))
+    (λ c.
+    let after-take-in : tie.After-take-in = search in
+    let after-points : tie.After-points = search in
+    sym (length-take-le _ _ (words-in (kept flat flat parse _ _ _ _ _ _ _ _ (after-take-in .take-in .ensures) (after-points .points .given .1)))))
+    (λ c.
+    let after-take-in : tie.After-take-in = search in
+    let after-points : tie.After-points = search in
+    (corners-in (kept flat flat parse _ _ _ _ _ _ _ _ (after-take-in .take-in .ensures) (after-points .points .given .1))))
+    (λ c.
+    let after-take-in : tie.After-take-in = search in
+    let after-points : tie.After-points = search in
+    sym (length-take-le _ _ (corners-in (kept flat flat parse _ _ _ _ _ _ _ _ (after-take-in .take-in .ensures) (after-points .points .given .1)))))
+    (λ c κs.
+    let after-take-in : tie.After-take-in = search in
+    let after-points : tie.After-points = search in (
+      length-take-le _ _ (words-in (kept flat flat parse _ _ _ _ _ _ _ _ (after-take-in .take-in .ensures) (after-points .points .given .1))),
+      omega (arith, few-points (kept flat flat parse _ _ _ _ _ _ _ _ (after-take-in .take-in .ensures) (after-points .points .given .1))),
+    ))
+    (λ c. search needs)
+    (λ c. search needs)
+    (λ c. search fault-promised)
+    (λ c. search needs)
+    (λ c. search needs)
+    (λ c. search needs)
+    (λ c. search needs)
+    (λ c.
+    let after-hand-over : tie.After-hand-over = search in
+    delivered
+    (kept flat flat parse _ _ _ _ _ _ _ _ (to-after-take-in-2 after-hand-over .take-in .ensures) (to-after-points after-hand-over .points .given .1)) _ _ _
+    (after-hand-over .hand-over .ensures)))

@@ -16,65 +16,58 @@ Inv-loop text at n states₀ i₀ place₀ states i place = Going by-ones readSt
 abbrev μ-loop : tie.MeasureT-loop
 μ-loop text at n states₀ i₀ place₀ states i place = n - i
 
-loop-holds : tie.Need-loop-holds Inv-loop μ-loop
-loop-holds c = (going-begins by-ones readState 4 _ (drop (c .before .before .args .at) (c .before .before .args .text .now)) _, c .before .before .pre .0)
+abbrev to-at-loop : tie.After-state-at Inv-loop μ-loop → tie.At-loop Inv-loop μ-loop
+to-at-loop p = search
 
-state-at-requires : tie.Need-state-at-requires Inv-loop μ-loop
-state-at-requires c κs = search needs
+abbrev to-turn : tie.After-state-at Inv-loop μ-loop → tie.In-loop Inv-loop μ-loop
+to-turn p = search
 
-enum-known-s : tie.Need-enum-known-s Inv-loop μ-loop
-enum-known-s c = search needs
-
-enum-told : tie.Need-enum-told Inv-loop μ-loop
-enum-told c = search needs
-
-same-length : tie.Need-same-length Inv-loop μ-loop
-same-length c = search needs
-
-returns : tie.Need-returns Inv-loop μ-loop
-returns c = (going-stuck by-ones readState 4 _ _ _ _ _ _ (c .before .before .before .before .loop .inv .0) (c .before .before .before .loop-test .taken) (number-not (c .before .before .before .before .before .before .before .args .text .now) _ _ (c .before .before .state-at .ensures .0) (c .enum-told .given .1)) .0, going-stuck by-ones readState 4 _ _ _ _ _ _ (c .before .before .before .before .loop .inv .0) (c .before .before .before .loop-test .taken) (number-not (c .before .before .before .before .before .before .before .args .text .now) _ _ (c .before .before .state-at .ensures .0) (c .enum-told .given .1)) .1, tt)
-
-cast-states : tie.Need-cast-states Inv-loop μ-loop
-cast-states c = omega (arith, state-small _ _ _ (number-is (c .before .before .before .before .before .before .before .before .args .text .now) _ _ _ _ (c .before .before .before .state-at .ensures .0) (c .before .s .given .1)))
-
-mul-states : tie.Need-mul-states Inv-loop μ-loop
-mul-states c = search needs
-
-slice-write-states : tie.Need-slice-write-states Inv-loop μ-loop
-slice-write-states c = omega (arith, c .before .before .before .before .before .loop .inv .0 .same, c .before .before .before .before .before .before .before .before .pre .1, c .before .before .before .before .loop-test .taken)
-
-add-i : tie.Need-add-i Inv-loop μ-loop
-add-i c = search needs
-
-loop-less : tie.Need-loop-less Inv-loop μ-loop
-loop-less c = search needs
-
-loop-again : tie.Need-loop-again Inv-loop μ-loop
-loop-again c = (going-more by-ones readState 4 _ _ _ _ _ _ (c .before .before .before .before .before .loop .inv .0) _ _ (c .before .before .before .before .loop-test .taken) (state-takes _ _ _ (number-is (c .before .before .before .before .before .before .before .before .args .text .now) _ _ _ _ (c .before .before .before .state-at .ensures .0) (c .before .s .given .1))) (omega (arith, c .before .before .before .before .before .loop .inv .0 .same, c .before .before .before .before .before .before .before .before .pre .1, c .before .before .before .before .loop-test .taken)) (number-is (c .before .before .before .before .before .before .before .before .args .text .now) _ _ _ _ (c .before .before .before .state-at .ensures .0) (c .before .s .given .1)), number-by _ _ _ _ (c .before .before .before .state-at .ensures .1) (c .before .s .given .1))
-
-same-length-2 : tie.Need-same-length-2 Inv-loop μ-loop
-same-length-2 c = search needs
-
-returns-2 : tie.Need-returns-2 Inv-loop μ-loop
-returns-2 c = (going-ends by-ones readState 4 _ _ _ _ _ _ (c .before .loop .inv .0) (c .loop-test .left) .0, going-ends by-ones readState 4 _ _ _ _ _ _ (c .before .loop .inv .0) (c .loop-test .left) .1, c .before .loop .inv .1)
+abbrev to-start : tie.After-state-at Inv-loop μ-loop → tie.Start Inv-loop μ-loop
+to-start p = search
 
 pub read-states-spec : {M : Type 1} → statement M
 read-states-spec =
     tie.close
-    (tie.spec
-    Inv-loop
-    μ-loop
-    loop-holds
-    state-at-requires
-    enum-known-s
-    enum-told
-    same-length
-    returns
-    cast-states
-    mul-states
-    slice-write-states
-    add-i
-    loop-less
-    loop-again
-    same-length-2
-    returns-2)
+    (tie.spec Inv-loop μ-loop
+    (λ c.
+    let start : tie.Start Inv-loop μ-loop = search in
+    (going-begins by-ones readState 4 _ (drop (start .args .at) (start .args .text .now)) _, start .pre .0))
+    (λ c κs. search needs)
+    (λ c. search needs)
+    (λ c. search needs)
+    (λ c. search needs)
+    (λ c.
+    let after-state-at : tie.After-state-at Inv-loop μ-loop = search in
+    let at-loop = to-at-loop after-state-at in
+    let turn = to-turn after-state-at in (
+      going-stuck by-ones readState 4 _ _ _ _ _ _ (at-loop .loop .inv .0) (turn .loop-test .taken)
+          (number-not _ _ _ (after-state-at .state-at .ensures .0) (c .enum-told .given .1)) .0,
+      going-stuck by-ones readState 4 _ _ _ _ _ _ (at-loop .loop .inv .0) (turn .loop-test .taken)
+          (number-not _ _ _ (after-state-at .state-at .ensures .0) (c .enum-told .given .1)) .1,
+      tt,
+    ))
+    (λ c.
+    let after-state-at : tie.After-state-at Inv-loop μ-loop = search in
+    omega (arith, state-small _ _ _ (number-is _ _ _ _ _ (after-state-at .state-at .ensures .0) (c .before .s .given .1))))
+    (λ c. search needs)
+    (λ c.
+    let after-state-at : tie.After-state-at Inv-loop μ-loop = search in
+    omega (arith, (to-at-loop after-state-at) .loop .inv .0 .same, (to-start after-state-at) .pre .1, (to-turn after-state-at) .loop-test .taken))
+    (λ c. search needs)
+    (λ c. search needs)
+    (λ c.
+    let after-state-at : tie.After-state-at Inv-loop μ-loop = search in
+    let at-loop = to-at-loop after-state-at in
+    let turn = to-turn after-state-at in (
+      going-more by-ones readState 4 _ _ _ _ _ _ (at-loop .loop .inv .0) _ _ (turn .loop-test .taken)
+          (state-takes _ _ _ (number-is _ _ _ _ _ (after-state-at .state-at .ensures .0) (c .before .s .given .1)))
+          (omega (arith, at-loop .loop .inv .0 .same, (to-start after-state-at) .pre .1, turn .loop-test .taken))
+          (number-is _ _ _ _ _ (after-state-at .state-at .ensures .0) (c .before .s .given .1)),
+      number-by _ _ _ _ (after-state-at .state-at .ensures .1) (c .before .s .given .1),
+    ))
+    (λ c. search needs)
+    (λ c. (
+      going-ends by-ones readState 4 _ _ _ _ _ _ (c .before .loop .inv .0) (c .loop-test .left) .0,
+      going-ends by-ones readState 4 _ _ _ _ _ _ (c .before .loop .inv .0) (c .loop-test .left) .1,
+      c .before .loop .inv .1,
+    )))

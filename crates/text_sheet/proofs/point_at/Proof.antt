@@ -11,112 +11,115 @@ use Rattle.text_sheet.proofs.point_at.Tie as tie
 use Rattle.text_sheet.proofs.point_at.Reads as reads
 use Rattle.text_sheet.proofs.point_at.Lts as lts
 
--- src/lib.rt:69:21
-add-if1 : tie.Need-add-if1
-add-if1 c = search needs
+abbrev to-start : tie.After-hex-at → tie.Start
+to-start p = search
 
--- src/lib.rt:70:9
-returns : tie.Need-returns
-returns c = (point-short (c .before .before .before .args .text .now) _ (c .if1 .taken), tt)
+abbrev to-else1 : tie.After-hex-at → tie.Else1
+to-else1 p = search
 
--- src/lib.rt:72:8
-shared-slice-read-if2 : tie.Need-shared-slice-read-if2
-shared-slice-read-if2 c = search needs
+abbrev to-else2 : tie.After-hex-at → tie.Else2
+to-else2 p = search
 
--- src/lib.rt:73:9
-returns-2 : tie.Need-returns-2
-returns-2 c = (row-key p= (readHex comma) (readHex feed) _ (key-first-bad (c .before .before .before .before .before .args .text .now) _ 112 61 (omega (arith, c .before .before .if1 .left)) (c .if2 .taken)), tt)
+abbrev to-else3 : tie.After-hex-at → tie.Else3
+to-else3 p = search
 
--- src/lib.rt:75:13
-add-if3 : tie.Need-add-if3
-add-if3 c = search needs
+abbrev to-after-hex-at : tie.After-hex-at2 → tie.After-hex-at
+to-after-hex-at p = search
 
--- src/lib.rt:75:8
-shared-slice-read-if3 : tie.Need-shared-slice-read-if3
-shared-slice-read-if3 c = search needs
+abbrev to-after-a : tie.After-hex-at2 → tie.After-a
+to-after-a p = search
 
--- src/lib.rt:76:9
-returns-3 : tie.Need-returns-3
-returns-3 c = (row-key p= (readHex comma) (readHex feed) _ (key-second-bad (c .before .before .before .before .before .before .before .args .text .now) _ 112 61 (omega (arith, c .before .before .before .before .if1 .left)) (c .before .before .if2 .left) (c .if3 .taken)), tt)
+abbrev to-after-hex-at2 : tie.After-hex-at3 → tie.After-hex-at2
+to-after-hex-at2 p = search
 
--- src/lib.rt:78:49
-add-hex-at : tie.Need-add-hex-at
-add-hex-at c = search needs
-
--- src/lib.rt:78:28
-hex-at-requires : tie.Need-hex-at-requires
-hex-at-requires c κs = search needs
-
--- src/lib.rt:78:20
-enum-known-a : tie.Need-enum-known-a
-enum-known-a c = search needs
-
--- src/lib.rt:79:9
-enum-told : tie.Need-enum-told
-enum-told c = search needs
-
--- src/lib.rt:79:9
-returns-4 : tie.Need-returns-4
-returns-4 c = (row-first p= (readHex comma) (readHex feed) _ _ (key-whole (c .before .before .before .before .before .before .before .before .before .before .args .text .now) _ 112 61 (omega (arith, c .before .before .before .before .before .before .before .if1 .left)) (c .before .before .before .before .before .if2 .left) (c .before .before .before .if3 .left)) (number-not (c .before .before .before .before .before .before .before .before .before .before .args .text .now) _ _ (c .before .before .hex-at .ensures .0) (c .enum-told .given .1)), tt)
-
--- src/lib.rt:81:28
-hex-at-requires-2 : tie.Need-hex-at-requires-2
-hex-at-requires-2 c κs = (omega (arith, c .before .before .before .before .before .before .before .before .if1 .left, number-by _ _ _ _ (c .before .before .before .hex-at .ensures .1) (c .before .a .given .1)), c .before .before .before .before .before .before .before .before .before .before .before .pre .1)
-
--- src/lib.rt:81:20
-enum-known-b : tie.Need-enum-known-b
-enum-known-b c = search needs
-
--- src/lib.rt:82:9
-enum-told-2 : tie.Need-enum-told-2
-enum-told-2 c = search needs
-
--- src/lib.rt:82:9
-returns-5 : tie.Need-returns-5
-returns-5 c = (row-second p= (readHex comma) (readHex feed) _ _ _ _ (key-whole (c .before .before .before .before .before .before .before .before .before .before .before .before .before .before .args .text .now) _ 112 61 (omega (arith, c .before .before .before .before .before .before .before .before .before .before .before .if1 .left)) (c .before .before .before .before .before .before .before .before .before .if2 .left) (c .before .before .before .before .before .before .before .if3 .left)) (number-is (c .before .before .before .before .before .before .before .before .before .before .before .before .before .before .args .text .now) _ _ _ _ (c .before .before .before .before .before .before .hex-at .ensures .0) (c .before .before .before .before .a .given .1)) (number-not (c .before .before .before .before .before .before .before .before .before .before .before .before .before .before .args .text .now) _ _ (c .before .before .hex-at2 .ensures .0) (c .enum-told2 .given .1)), tt)
-
--- src/lib.rt:84:31
-hex-at-requires-3 : tie.Need-hex-at-requires-3
-hex-at-requires-3 c κs = (omega (arith, c .before .before .before .before .before .before .before .before .before .before .before .before .if1 .left, number-by _ _ _ _ (c .before .before .before .before .before .before .before .hex-at .ensures .1) (c .before .before .before .before .before .a .given .1), number-by _ _ _ _ (c .before .before .before .hex-at2 .ensures .1) (c .before .b .given .1)), c .before .before .before .before .before .before .before .before .before .before .before .before .before .before .before .pre .1)
-
--- src/lib.rt:84:20
-enum-known-c : tie.Need-enum-known-c
-enum-known-c c = search needs
-
--- src/lib.rt:85:9
-enum-told-3 : tie.Need-enum-told-3
-enum-told-3 c = search needs
-
--- src/lib.rt:85:9
-returns-6 : tie.Need-returns-6
-returns-6 c = (row-third p= (readHex comma) (readHex feed) _ _ _ _ _ _ (key-whole (c .before .before .before .before .before .before .before .before .before .before .before .before .before .before .before .before .before .before .args .text .now) _ 112 61 (omega (arith, c .before .before .before .before .before .before .before .before .before .before .before .before .before .before .before .if1 .left)) (c .before .before .before .before .before .before .before .before .before .before .before .before .before .if2 .left) (c .before .before .before .before .before .before .before .before .before .before .before .if3 .left)) (number-is (c .before .before .before .before .before .before .before .before .before .before .before .before .before .before .before .before .before .before .args .text .now) _ _ _ _ (c .before .before .before .before .before .before .before .before .before .before .hex-at .ensures .0) (c .before .before .before .before .before .before .before .before .a .given .1)) (number-is (c .before .before .before .before .before .before .before .before .before .before .before .before .before .before .before .before .before .before .args .text .now) _ _ _ _ (c .before .before .before .before .before .before .hex-at2 .ensures .0) (c .before .before .before .before .b .given .1)) (number-not (c .before .before .before .before .before .before .before .before .before .before .before .before .before .before .before .before .before .before .args .text .now) _ _ (c .before .before .hex-at3 .ensures .0) (c .enum-told3 .given .1)), tt)
-
--- src/lib.rt:65:1
-returns-7 : tie.Need-returns-7
-returns-7 c = (row-whole p= (readHex comma) (readHex feed) _ _ _ _ _ _ _ _ (key-whole (c .before .before .before .before .before .before .before .before .before .before .before .before .before .before .before .before .before .before .before .args .text .now) _ 112 61 (omega (arith, c .before .before .before .before .before .before .before .before .before .before .before .before .before .before .before .before .if1 .left)) (c .before .before .before .before .before .before .before .before .before .before .before .before .before .before .if2 .left) (c .before .before .before .before .before .before .before .before .before .before .before .before .if3 .left)) (number-is (c .before .before .before .before .before .before .before .before .before .before .before .before .before .before .before .before .before .before .before .args .text .now) _ _ _ _ (c .before .before .before .before .before .before .before .before .before .before .before .hex-at .ensures .0) (c .before .before .before .before .before .before .before .before .before .a .given .1)) (number-is (c .before .before .before .before .before .before .before .before .before .before .before .before .before .before .before .before .before .before .before .args .text .now) _ _ _ _ (c .before .before .before .before .before .before .before .hex-at2 .ensures .0) (c .before .before .before .before .before .b .given .1)) (number-is (c .before .before .before .before .before .before .before .before .before .before .before .before .before .before .before .before .before .before .before .args .text .now) _ _ _ _ (c .before .before .before .hex-at3 .ensures .0) (c .before .c .given .1)), omega (arith, c .before .before .before .before .before .before .before .before .before .before .before .before .before .before .before .before .if1 .left, number-by _ _ _ _ (c .before .before .before .before .before .before .before .before .before .before .before .hex-at .ensures .1) (c .before .before .before .before .before .before .before .before .before .a .given .1), number-by _ _ _ _ (c .before .before .before .before .before .before .before .hex-at2 .ensures .1) (c .before .before .before .before .before .b .given .1), number-by _ _ _ _ (c .before .before .before .hex-at3 .ensures .1) (c .before .c .given .1)))
+abbrev to-after-b : tie.After-hex-at3 → tie.After-b
+to-after-b p = search
 
 pub point-at-spec : {M : Type 1} → statement M
 point-at-spec =
     tie.close
     (tie.spec
-    add-if1
-    returns
-    shared-slice-read-if2
-    returns-2
-    add-if3
-    shared-slice-read-if3
-    returns-3
-    add-hex-at
-    hex-at-requires
-    enum-known-a
-    enum-told
-    returns-4
-    hex-at-requires-2
-    enum-known-b
-    enum-told-2
-    returns-5
-    hex-at-requires-3
-    enum-known-c
-    enum-told-3
-    returns-6
-    returns-7)
+    (λ c. search needs)
+    (λ c. (point-short _ _ (c .if1 .taken), tt))
+    (λ c. search needs)
+    (λ c.
+    let start : tie.Start = search in let else1 : tie.Else1 = search in
+    (row-key p= (readHex comma) (readHex feed) _ (key-first-bad (start .args .text .now) _ 112 61 (omega (arith, else1 .if1 .left)) (c .if2 .taken)), tt))
+    (λ c. search needs)
+    (λ c. search needs)
+    (λ c.
+    let start : tie.Start = search in let else1 : tie.Else1 = search in let else2 : tie.Else2 = search in (
+      row-key p= (readHex comma) (readHex feed) _
+          (key-second-bad (start .args .text .now) _ 112 61 (omega (arith, else1 .if1 .left)) (else2 .if2 .left) (c .if3 .taken)),
+      tt,
+    ))
+    (λ c. search needs)
+    (λ c κs. search needs)
+    (λ c. search needs)
+    (λ c. search needs)
+    (λ c.
+    let after-hex-at : tie.After-hex-at = search in let start = to-start after-hex-at in (
+      row-first p= (readHex comma) (readHex feed) _ _
+          (key-whole (start .args .text .now) _ 112 61 (omega (arith, (to-else1 after-hex-at) .if1 .left)) (to-else2 after-hex-at .if2 .left)
+          (to-else3 after-hex-at .if3 .left))
+          (number-not (start .args .text .now) _ _ (after-hex-at .hex-at .ensures .0) (c .enum-told .given .1)),
+      tt,
+    ))
+    (λ c κs.
+    let after-hex-at : tie.After-hex-at = search in (
+      omega (arith, (to-else1 after-hex-at) .if1 .left, number-by _ _ _ _ (after-hex-at .hex-at .ensures .1) (c .before .a .given .1)),
+      (to-start after-hex-at) .pre .1,
+    ))
+    (λ c. search needs)
+    (λ c. search needs)
+    (λ c.
+    let after-hex-at2 : tie.After-hex-at2 = search in let after-hex-at = to-after-hex-at after-hex-at2 in let start = to-start after-hex-at in (
+      row-second p= (readHex comma) (readHex feed) _ _ _ _
+          (key-whole (start .args .text .now) _ 112 61 (omega (arith, (to-else1 after-hex-at) .if1 .left)) (to-else2 after-hex-at .if2 .left)
+          (to-else3 after-hex-at .if3 .left))
+          (number-is (start .args .text .now) _ _ _ _ (after-hex-at .hex-at .ensures .0) (to-after-a after-hex-at2 .a .given .1))
+          (number-not (start .args .text .now) _ _ (after-hex-at2 .hex-at2 .ensures .0) (c .enum-told2 .given .1)),
+      tt,
+    ))
+    (λ c κs.
+    let after-hex-at2 : tie.After-hex-at2 = search in let after-hex-at = to-after-hex-at after-hex-at2 in (
+      omega (
+        arith,
+        (to-else1 after-hex-at) .if1 .left,
+        number-by _ _ _ _ (after-hex-at .hex-at .ensures .1) (to-after-a after-hex-at2 .a .given .1),
+        number-by _ _ _ _
+            (after-hex-at2 .hex-at2 .ensures .1) (c .before .b .given .1),
+      ),
+      (to-start after-hex-at) .pre .1,
+    ))
+    (λ c. search needs)
+    (λ c. search needs)
+    (λ c.
+    let after-hex-at3 : tie.After-hex-at3 = search in let after-hex-at2 = to-after-hex-at2 after-hex-at3 in
+    let after-hex-at = to-after-hex-at after-hex-at2 in let start = to-start after-hex-at in (
+      row-third p= (readHex comma) (readHex feed) _ _ _ _ _ _
+          (key-whole (start .args .text .now) _ 112 61 (omega (arith, (to-else1 after-hex-at) .if1 .left)) (to-else2 after-hex-at .if2 .left)
+          (to-else3 after-hex-at .if3 .left))
+          (number-is (start .args .text .now) _ _ _ _ (after-hex-at .hex-at .ensures .0) (to-after-a after-hex-at2 .a .given .1))
+          (number-is (start .args .text .now) _ _ _ _ (after-hex-at2 .hex-at2 .ensures .0) (to-after-b after-hex-at3 .b .given .1))
+          (number-not (start .args .text .now) _ _ (after-hex-at3 .hex-at3 .ensures .0) (c .enum-told3 .given .1)),
+      tt,
+    ))
+    (λ c.
+    let after-hex-at3 : tie.After-hex-at3 = search in let after-hex-at2 = to-after-hex-at2 after-hex-at3 in
+    let after-hex-at = to-after-hex-at after-hex-at2 in let start = to-start after-hex-at in let else1 = to-else1 after-hex-at in
+    let after-a = to-after-a after-hex-at2 in let after-b = to-after-b after-hex-at3 in (
+      row-whole p= (readHex comma) (readHex feed) _ _ _ _ _ _ _ _
+          (key-whole (start .args .text .now) _ 112 61 (omega (arith, else1 .if1 .left)) (to-else2 after-hex-at .if2 .left) (to-else3 after-hex-at .if3 .left))
+          (number-is (start .args .text .now) _ _ _ _ (after-hex-at .hex-at .ensures .0) (after-a .a .given .1))
+          (number-is (start .args .text .now) _ _ _ _ (after-hex-at2 .hex-at2 .ensures .0) (after-b .b .given .1))
+          (number-is (start .args .text .now) _ _ _ _ (after-hex-at3 .hex-at3 .ensures .0) (c .before .c .given .1)),
+      omega (
+        arith,
+        else1 .if1 .left,
+        number-by _ _ _ _ (after-hex-at .hex-at .ensures .1) (after-a .a .given .1),
+        number-by _ _ _ _ (after-hex-at2 .hex-at2 .ensures .1)
+            (after-b .b .given .1),
+        number-by _ _ _ _ (after-hex-at3 .hex-at3 .ensures .1) (c .before .c .given .1),
+      ),
+    )))

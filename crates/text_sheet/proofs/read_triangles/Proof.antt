@@ -18,134 +18,172 @@ Inv-loop text at n corners₀ i₀ place₀ corners i place = Going by-threes re
 abbrev μ-loop : tie.MeasureT-loop
 μ-loop text at n corners₀ i₀ place₀ corners i place = n - i
 
--- src/lib.rt:174:5
-loop-holds : tie.Need-loop-holds Inv-loop μ-loop
-loop-holds c = (going-begins by-threes readTriangle 8 _ (drop (c .before .before .args .at) (c .before .before .args .text .now)) _, c .before .before .pre .0)
+abbrev to-at-loop : tie.After-triangle-at Inv-loop μ-loop → tie.At-loop Inv-loop μ-loop
+to-at-loop p = search
 
--- src/lib.rt:175:40
-triangle-at-requires : tie.Need-triangle-at-requires Inv-loop μ-loop
-triangle-at-requires c κs = c .before .loop .inv .1
+abbrev to-turn : tie.After-triangle-at Inv-loop μ-loop → tie.In-loop Inv-loop μ-loop
+to-turn p = search
 
--- src/lib.rt:175:23
-enum-known-a : tie.Need-enum-known-a Inv-loop μ-loop
-enum-known-a c = search needs
-
--- src/lib.rt:176:13
-enum-told : tie.Need-enum-told Inv-loop μ-loop
-enum-told c = search needs
-
--- src/lib.rt:176:13
-same-length : tie.Need-same-length Inv-loop μ-loop
-same-length c = search needs
-
--- src/lib.rt:176:13
-returns : tie.Need-returns Inv-loop μ-loop
-returns c = (going-stuck by-threes readTriangle 8 _ _ _ _ _ _ (c .before .before .before .before .loop .inv .0) (c .before .before .before .loop-test .taken) (row-not (c .before .before .before .before .before .before .before .args .text .now) _ _ (c .before .before .triangle-at .ensures .0) (c .enum-told .given .1)) .0, going-stuck by-threes readTriangle 8 _ _ _ _ _ _ (c .before .before .before .before .loop .inv .0) (c .before .before .before .loop-test .taken) (row-not (c .before .before .before .before .before .before .before .args .text .now) _ _ (c .before .before .triangle-at .ensures .0) (c .enum-told .given .1)) .1, tt)
-
--- src/lib.rt:178:26
-cast-corners : tie.Need-cast-corners Inv-loop μ-loop
-cast-corners c = omega (arith, triangle-small _ _ _ (row-is (c .before .before .before .before .before .before .before .before .args .text .now) _ _ _ _ _ _ (c .before .before .before .triangle-at .ensures .0) (c .before .a .given .1)) .first-has)
-
--- src/lib.rt:178:17
-mul-corners : tie.Need-mul-corners Inv-loop μ-loop
-mul-corners c = omega (arith, next-room readTriangle 8 triangle-takes (c .before .before .before .before .before .before .before .before .args .text .now) (c .before .before .before .before .before .before .before .before .args .at) _ _ _ _ _ (c .before .before .before .before .before .loop .inv .0) _ _ (c .before .before .before .before .loop-test .taken) (row-is (c .before .before .before .before .before .before .before .before .args .text .now) _ _ _ _ _ _ (c .before .before .before .triangle-at .ensures .0) (c .before .a .given .1)) (c .before .before .before .before .before .before .before .before .pre .1), c .before .before .before .before .before .loop .inv .0 .same, c .before .before .before .before .before .before .before .before .good .1 .1 .1 .0 .0)
-
--- src/lib.rt:178:9
-mul-corners-2 : tie.Need-mul-corners-2 Inv-loop μ-loop
-mul-corners-2 c = omega (arith, next-room readTriangle 8 triangle-takes (c .before .before .before .before .before .before .before .before .args .text .now) (c .before .before .before .before .before .before .before .before .args .at) _ _ _ _ _ (c .before .before .before .before .before .loop .inv .0) _ _ (c .before .before .before .before .loop-test .taken) (row-is (c .before .before .before .before .before .before .before .before .args .text .now) _ _ _ _ _ _ (c .before .before .before .triangle-at .ensures .0) (c .before .a .given .1)) (c .before .before .before .before .before .before .before .before .pre .1), c .before .before .before .before .before .loop .inv .0 .same, c .before .before .before .before .before .before .before .before .good .1 .1 .1 .0 .0)
-
--- src/lib.rt:178:9
-slice-write-corners : tie.Need-slice-write-corners Inv-loop μ-loop
-slice-write-corners c = omega (arith, next-room readTriangle 8 triangle-takes (c .before .before .before .before .before .before .before .before .args .text .now) (c .before .before .before .before .before .before .before .before .args .at) _ _ _ _ _ (c .before .before .before .before .before .loop .inv .0) _ _ (c .before .before .before .before .loop-test .taken) (row-is (c .before .before .before .before .before .before .before .before .args .text .now) _ _ _ _ _ _ (c .before .before .before .triangle-at .ensures .0) (c .before .a .given .1)) (c .before .before .before .before .before .before .before .before .pre .1))
-
--- src/lib.rt:179:30
-cast-corners-2 : tie.Need-cast-corners-2 Inv-loop μ-loop
-cast-corners-2 c = omega (arith, triangle-small _ _ _ (row-is (c .before .before .before .before .before .before .before .before .args .text .now) _ _ _ _ _ _ (c .before .before .before .triangle-at .ensures .0) (c .before .a .given .1)) .second-has)
-
--- src/lib.rt:179:17
-mul-corners-3 : tie.Need-mul-corners-3 Inv-loop μ-loop
-mul-corners-3 c = omega (arith, next-room readTriangle 8 triangle-takes (c .before .before .before .before .before .before .before .before .args .text .now) (c .before .before .before .before .before .before .before .before .args .at) _ _ _ _ _ (c .before .before .before .before .before .loop .inv .0) _ _ (c .before .before .before .before .loop-test .taken) (row-is (c .before .before .before .before .before .before .before .before .args .text .now) _ _ _ _ _ _ (c .before .before .before .triangle-at .ensures .0) (c .before .a .given .1)) (c .before .before .before .before .before .before .before .before .pre .1), c .before .before .before .before .before .loop .inv .0 .same, c .before .before .before .before .before .before .before .before .good .1 .1 .1 .0 .0)
-
--- src/lib.rt:179:17
-add-corners : tie.Need-add-corners Inv-loop μ-loop
-add-corners c = omega (arith, next-room readTriangle 8 triangle-takes (c .before .before .before .before .before .before .before .before .args .text .now) (c .before .before .before .before .before .before .before .before .args .at) _ _ _ _ _ (c .before .before .before .before .before .loop .inv .0) _ _ (c .before .before .before .before .loop-test .taken) (row-is (c .before .before .before .before .before .before .before .before .args .text .now) _ _ _ _ _ _ (c .before .before .before .triangle-at .ensures .0) (c .before .a .given .1)) (c .before .before .before .before .before .before .before .before .pre .1), c .before .before .before .before .before .loop .inv .0 .same, c .before .before .before .before .before .before .before .before .good .1 .1 .1 .0 .0)
-
--- src/lib.rt:179:9
-mul-corners-4 : tie.Need-mul-corners-4 Inv-loop μ-loop
-mul-corners-4 c = omega (arith, next-room readTriangle 8 triangle-takes (c .before .before .before .before .before .before .before .before .args .text .now) (c .before .before .before .before .before .before .before .before .args .at) _ _ _ _ _ (c .before .before .before .before .before .loop .inv .0) _ _ (c .before .before .before .before .loop-test .taken) (row-is (c .before .before .before .before .before .before .before .before .args .text .now) _ _ _ _ _ _ (c .before .before .before .triangle-at .ensures .0) (c .before .a .given .1)) (c .before .before .before .before .before .before .before .before .pre .1), c .before .before .before .before .before .loop .inv .0 .same, c .before .before .before .before .before .before .before .before .good .1 .1 .1 .0 .0)
-
--- src/lib.rt:179:9
-slice-write-corners-2 : tie.Need-slice-write-corners-2 Inv-loop μ-loop
-slice-write-corners-2 c = simp length-set (omega (arith, next-room readTriangle 8 triangle-takes (c .before .before .before .before .before .before .before .before .args .text .now) (c .before .before .before .before .before .before .before .before .args .at) _ _ _ _ _ (c .before .before .before .before .before .loop .inv .0) _ _ (c .before .before .before .before .loop-test .taken) (row-is (c .before .before .before .before .before .before .before .before .args .text .now) _ _ _ _ _ _ (c .before .before .before .triangle-at .ensures .0) (c .before .a .given .1)) (c .before .before .before .before .before .before .before .before .pre .1)))
-
--- src/lib.rt:180:30
-cast-corners-3 : tie.Need-cast-corners-3 Inv-loop μ-loop
-cast-corners-3 c = omega (arith, triangle-small _ _ _ (row-is (c .before .before .before .before .before .before .before .before .args .text .now) _ _ _ _ _ _ (c .before .before .before .triangle-at .ensures .0) (c .before .a .given .1)) .third-has)
-
--- src/lib.rt:180:17
-mul-corners-5 : tie.Need-mul-corners-5 Inv-loop μ-loop
-mul-corners-5 c = omega (arith, next-room readTriangle 8 triangle-takes (c .before .before .before .before .before .before .before .before .args .text .now) (c .before .before .before .before .before .before .before .before .args .at) _ _ _ _ _ (c .before .before .before .before .before .loop .inv .0) _ _ (c .before .before .before .before .loop-test .taken) (row-is (c .before .before .before .before .before .before .before .before .args .text .now) _ _ _ _ _ _ (c .before .before .before .triangle-at .ensures .0) (c .before .a .given .1)) (c .before .before .before .before .before .before .before .before .pre .1), c .before .before .before .before .before .loop .inv .0 .same, c .before .before .before .before .before .before .before .before .good .1 .1 .1 .0 .0)
-
--- src/lib.rt:180:17
-add-corners-2 : tie.Need-add-corners-2 Inv-loop μ-loop
-add-corners-2 c = omega (arith, next-room readTriangle 8 triangle-takes (c .before .before .before .before .before .before .before .before .args .text .now) (c .before .before .before .before .before .before .before .before .args .at) _ _ _ _ _ (c .before .before .before .before .before .loop .inv .0) _ _ (c .before .before .before .before .loop-test .taken) (row-is (c .before .before .before .before .before .before .before .before .args .text .now) _ _ _ _ _ _ (c .before .before .before .triangle-at .ensures .0) (c .before .a .given .1)) (c .before .before .before .before .before .before .before .before .pre .1), c .before .before .before .before .before .loop .inv .0 .same, c .before .before .before .before .before .before .before .before .good .1 .1 .1 .0 .0)
-
--- src/lib.rt:180:9
-mul-corners-6 : tie.Need-mul-corners-6 Inv-loop μ-loop
-mul-corners-6 c = omega (arith, next-room readTriangle 8 triangle-takes (c .before .before .before .before .before .before .before .before .args .text .now) (c .before .before .before .before .before .before .before .before .args .at) _ _ _ _ _ (c .before .before .before .before .before .loop .inv .0) _ _ (c .before .before .before .before .loop-test .taken) (row-is (c .before .before .before .before .before .before .before .before .args .text .now) _ _ _ _ _ _ (c .before .before .before .triangle-at .ensures .0) (c .before .a .given .1)) (c .before .before .before .before .before .before .before .before .pre .1), c .before .before .before .before .before .loop .inv .0 .same, c .before .before .before .before .before .before .before .before .good .1 .1 .1 .0 .0)
-
--- src/lib.rt:180:9
-slice-write-corners-3 : tie.Need-slice-write-corners-3 Inv-loop μ-loop
-slice-write-corners-3 c = simp length-set (omega (arith, next-room readTriangle 8 triangle-takes (c .before .before .before .before .before .before .before .before .args .text .now) (c .before .before .before .before .before .before .before .before .args .at) _ _ _ _ _ (c .before .before .before .before .before .loop .inv .0) _ _ (c .before .before .before .before .loop-test .taken) (row-is (c .before .before .before .before .before .before .before .before .args .text .now) _ _ _ _ _ _ (c .before .before .before .triangle-at .ensures .0) (c .before .a .given .1)) (c .before .before .before .before .before .before .before .before .pre .1)))
-
--- src/lib.rt:182:9
-add-i : tie.Need-add-i Inv-loop μ-loop
-add-i c = search needs
-
--- src/lib.rt:174:5
-loop-less : tie.Need-loop-less Inv-loop μ-loop
-loop-less c = search needs
-
--- src/lib.rt:174:5
-loop-again : tie.Need-loop-again Inv-loop μ-loop
-loop-again c = (next-going readTriangle 8 triangle-takes (c .before .before .before .before .before .before .before .before .args .text .now) (c .before .before .before .before .before .before .before .before .args .at) _ _ _ _ _ (c .before .before .before .before .before .loop .inv .0) _ _ (c .before .before .before .before .loop-test .taken) (row-is (c .before .before .before .before .before .before .before .before .args .text .now) _ _ _ _ _ _ (c .before .before .before .triangle-at .ensures .0) (c .before .a .given .1)) (c .before .before .before .before .before .before .before .before .pre .1), row-by _ _ _ _ _ _ (c .before .before .before .triangle-at .ensures .1) (c .before .a .given .1))
-
--- src/lib.rt:164:1
-same-length-2 : tie.Need-same-length-2 Inv-loop μ-loop
-same-length-2 c = search needs
-
--- src/lib.rt:164:1
-returns-2 : tie.Need-returns-2 Inv-loop μ-loop
-returns-2 c = (going-ends by-threes readTriangle 8 _ _ _ _ _ _ (c .before .loop .inv .0) (c .loop-test .left) .0, going-ends by-threes readTriangle 8 _ _ _ _ _ _ (c .before .loop .inv .0) (c .loop-test .left) .1, c .before .loop .inv .1)
+abbrev to-start : tie.After-triangle-at Inv-loop μ-loop → tie.Start Inv-loop μ-loop
+to-start p = search
 
 pub read-triangles-spec : {M : Type 1} → statement M
 read-triangles-spec =
     tie.close
-    (tie.spec
-    Inv-loop
-    μ-loop
-    loop-holds
-    triangle-at-requires
-    enum-known-a
-    enum-told
-    same-length
-    returns
-    cast-corners
-    mul-corners
-    mul-corners-2
-    slice-write-corners
-    cast-corners-2
-    mul-corners-3
-    add-corners
-    mul-corners-4
-    slice-write-corners-2
-    cast-corners-3
-    mul-corners-5
-    add-corners-2
-    mul-corners-6
-    slice-write-corners-3
-    add-i
-    loop-less
-    loop-again
-    same-length-2
-    returns-2)
+    (tie.spec Inv-loop μ-loop
+    (λ c.
+    let start : tie.Start Inv-loop μ-loop = search in
+    (going-begins by-threes readTriangle 8 _ (drop (start .args .at) (start .args .text .now)) _, start .pre .0))
+    (λ c κs. c .before .loop .inv .1)
+    (λ c. search needs)
+    (λ c. search needs)
+    (λ c. search needs)
+    (λ c.
+    let after-triangle-at : tie.After-triangle-at Inv-loop μ-loop = search in let at-loop = to-at-loop after-triangle-at in
+    let turn = to-turn after-triangle-at in (
+      going-stuck by-threes readTriangle 8 _ _ _ _ _ _ (at-loop .loop .inv .0) (turn .loop-test .taken)
+          (row-not _ _ _ (after-triangle-at .triangle-at .ensures .0) (c .enum-told .given .1)) .0,
+      going-stuck by-threes readTriangle 8 _ _ _ _ _ _ (at-loop .loop .inv .0) (turn .loop-test .taken)
+          (row-not _ _ _ (after-triangle-at .triangle-at .ensures .0) (c .enum-told .given .1)) .1,
+      tt,
+    ))
+    (λ c.
+    let after-triangle-at : tie.After-triangle-at Inv-loop μ-loop = search in
+    omega (arith, triangle-small _ _ _ (row-is _ _ _ _ _ _ _ (after-triangle-at .triangle-at .ensures .0) (c .before .a .given .1)) .first-has))
+    (λ c.
+    let after-triangle-at : tie.After-triangle-at Inv-loop μ-loop = search in let start = to-start after-triangle-at in
+    let at-loop = to-at-loop after-triangle-at in
+    omega (
+      arith,
+      next-room readTriangle 8 triangle-takes (start .args .text .now) (start .args .at) _ _ _ _ _ (at-loop .loop .inv .0) _ _
+          (to-turn after-triangle-at .loop-test .taken) (row-is (start .args .text .now) _ _ _ _ _ _ (after-triangle-at .triangle-at .ensures .0) (c .before .a .given .1))
+          (start .pre .1),
+      at-loop .loop .inv .0 .same,
+      start .good .1 .1 .1 .0 .0,
+    ))
+    (λ c.
+    let after-triangle-at : tie.After-triangle-at Inv-loop μ-loop = search in let start = to-start after-triangle-at in
+    let at-loop = to-at-loop after-triangle-at in
+    omega (
+      arith,
+      next-room readTriangle 8 triangle-takes (start .args .text .now) (start .args .at) _ _ _ _ _ (at-loop .loop .inv .0) _ _
+          (to-turn after-triangle-at .loop-test .taken) (row-is (start .args .text .now) _ _ _ _ _ _ (after-triangle-at .triangle-at .ensures .0) (c .before .a .given .1))
+          (start .pre .1),
+      at-loop .loop .inv .0 .same,
+      start .good .1 .1 .1 .0 .0,
+    ))
+    (λ c.
+    let after-triangle-at : tie.After-triangle-at Inv-loop μ-loop = search in let start = to-start after-triangle-at in
+    omega (
+      arith,
+      next-room readTriangle 8 triangle-takes (start .args .text .now) (start .args .at) _ _ _ _ _ (to-at-loop after-triangle-at .loop .inv .0) _ _
+          (to-turn after-triangle-at .loop-test .taken) (row-is (start .args .text .now) _ _ _ _ _ _ (after-triangle-at .triangle-at .ensures .0) (c .before .a .given .1))
+          (start .pre .1),
+    ))
+    (λ c.
+    let after-triangle-at : tie.After-triangle-at Inv-loop μ-loop = search in
+    omega (arith, triangle-small _ _ _ (row-is _ _ _ _ _ _ _ (after-triangle-at .triangle-at .ensures .0) (c .before .a .given .1)) .second-has))
+    (λ c.
+    let after-triangle-at : tie.After-triangle-at Inv-loop μ-loop = search in let start = to-start after-triangle-at in
+    let at-loop = to-at-loop after-triangle-at in
+    omega (
+      arith,
+      next-room readTriangle 8 triangle-takes (start .args .text .now) (start .args .at) _ _ _ _ _ (at-loop .loop .inv .0) _ _
+          (to-turn after-triangle-at .loop-test .taken) (row-is (start .args .text .now) _ _ _ _ _ _ (after-triangle-at .triangle-at .ensures .0) (c .before .a .given .1))
+          (start .pre .1),
+      at-loop .loop .inv .0 .same,
+      start .good .1 .1 .1 .0 .0,
+    ))
+    (λ c.
+    let after-triangle-at : tie.After-triangle-at Inv-loop μ-loop = search in let start = to-start after-triangle-at in
+    let at-loop = to-at-loop after-triangle-at in
+    omega (
+      arith,
+      next-room readTriangle 8 triangle-takes (start .args .text .now) (start .args .at) _ _ _ _ _ (at-loop .loop .inv .0) _ _
+          (to-turn after-triangle-at .loop-test .taken) (row-is (start .args .text .now) _ _ _ _ _ _ (after-triangle-at .triangle-at .ensures .0) (c .before .a .given .1))
+          (start .pre .1),
+      at-loop .loop .inv .0 .same,
+      start .good .1 .1 .1 .0 .0,
+    ))
+    (λ c.
+    let after-triangle-at : tie.After-triangle-at Inv-loop μ-loop = search in let start = to-start after-triangle-at in
+    let at-loop = to-at-loop after-triangle-at in
+    omega (
+      arith,
+      next-room readTriangle 8 triangle-takes (start .args .text .now) (start .args .at) _ _ _ _ _ (at-loop .loop .inv .0) _ _
+          (to-turn after-triangle-at .loop-test .taken) (row-is (start .args .text .now) _ _ _ _ _ _ (after-triangle-at .triangle-at .ensures .0) (c .before .a .given .1))
+          (start .pre .1),
+      at-loop .loop .inv .0 .same,
+      start .good .1 .1 .1 .0 .0,
+    ))
+    (λ c.
+    let after-triangle-at : tie.After-triangle-at Inv-loop μ-loop = search in let start = to-start after-triangle-at in
+    simp length-set
+    (omega (
+      arith,
+      next-room readTriangle 8 triangle-takes (start .args .text .now) (start .args .at) _ _ _ _ _ (to-at-loop after-triangle-at .loop .inv .0) _ _
+          (to-turn after-triangle-at .loop-test .taken)
+          (row-is (start .args .text .now) _ _ _ _ _ _ (after-triangle-at .triangle-at .ensures .0) (c .before .a .given .1))
+          (start .pre .1),
+    )))
+    (λ c.
+    let after-triangle-at : tie.After-triangle-at Inv-loop μ-loop = search in
+    omega (arith, triangle-small _ _ _ (row-is _ _ _ _ _ _ _ (after-triangle-at .triangle-at .ensures .0) (c .before .a .given .1)) .third-has))
+    (λ c.
+    let after-triangle-at : tie.After-triangle-at Inv-loop μ-loop = search in let start = to-start after-triangle-at in
+    let at-loop = to-at-loop after-triangle-at in
+    omega (
+      arith,
+      next-room readTriangle 8 triangle-takes (start .args .text .now) (start .args .at) _ _ _ _ _ (at-loop .loop .inv .0) _ _
+          (to-turn after-triangle-at .loop-test .taken) (row-is (start .args .text .now) _ _ _ _ _ _ (after-triangle-at .triangle-at .ensures .0) (c .before .a .given .1))
+          (start .pre .1),
+      at-loop .loop .inv .0 .same,
+      start .good .1 .1 .1 .0 .0,
+    ))
+    (λ c.
+    let after-triangle-at : tie.After-triangle-at Inv-loop μ-loop = search in let start = to-start after-triangle-at in
+    let at-loop = to-at-loop after-triangle-at in
+    omega (
+      arith,
+      next-room readTriangle 8 triangle-takes (start .args .text .now) (start .args .at) _ _ _ _ _ (at-loop .loop .inv .0) _ _
+          (to-turn after-triangle-at .loop-test .taken) (row-is (start .args .text .now) _ _ _ _ _ _ (after-triangle-at .triangle-at .ensures .0) (c .before .a .given .1))
+          (start .pre .1),
+      at-loop .loop .inv .0 .same,
+      start .good .1 .1 .1 .0 .0,
+    ))
+    (λ c.
+    let after-triangle-at : tie.After-triangle-at Inv-loop μ-loop = search in let start = to-start after-triangle-at in
+    let at-loop = to-at-loop after-triangle-at in
+    omega (
+      arith,
+      next-room readTriangle 8 triangle-takes (start .args .text .now) (start .args .at) _ _ _ _ _ (at-loop .loop .inv .0) _ _
+          (to-turn after-triangle-at .loop-test .taken) (row-is (start .args .text .now) _ _ _ _ _ _ (after-triangle-at .triangle-at .ensures .0) (c .before .a .given .1))
+          (start .pre .1),
+      at-loop .loop .inv .0 .same,
+      start .good .1 .1 .1 .0 .0,
+    ))
+    (λ c.
+    let after-triangle-at : tie.After-triangle-at Inv-loop μ-loop = search in let start = to-start after-triangle-at in
+    simp length-set
+    (omega (
+      arith,
+      next-room readTriangle 8 triangle-takes (start .args .text .now) (start .args .at) _ _ _ _ _ (to-at-loop after-triangle-at .loop .inv .0) _ _
+          (to-turn after-triangle-at .loop-test .taken)
+          (row-is (start .args .text .now) _ _ _ _ _ _ (after-triangle-at .triangle-at .ensures .0) (c .before .a .given .1))
+          (start .pre .1),
+    )))
+    (λ c. search needs)
+    (λ c. search needs)
+    (λ c.
+    let after-triangle-at : tie.After-triangle-at Inv-loop μ-loop = search in let start = to-start after-triangle-at in (
+      next-going readTriangle 8 triangle-takes (start .args .text .now) (start .args .at) _ _ _ _ _ (to-at-loop after-triangle-at .loop .inv .0) _ _
+          (to-turn after-triangle-at .loop-test .taken)
+          (row-is (start .args .text .now) _ _ _ _ _ _ (after-triangle-at .triangle-at .ensures .0) (c .before .a .given .1)) (start .pre .1),
+      row-by _ _ _ _ _ _ (after-triangle-at .triangle-at .ensures .1) (c .before .a .given .1),
+    ))
+    (λ c. search needs)
+    (λ c. (
+      going-ends by-threes readTriangle 8 _ _ _ _ _ _ (c .before .loop .inv .0) (c .loop-test .left) .0,
+      going-ends by-threes readTriangle 8 _ _ _ _ _ _ (c .before .loop .inv .0) (c .loop-test .left) .1,
+      c .before .loop .inv .1,
+    )))

@@ -14,127 +14,126 @@ use Rattle.text_sheet.proofs.triangle_at.Reads as reads
 use Rattle.text_sheet.proofs.triangle_at.Lts as lts
 use Rattle.text_sheet.proofs.last_at.Reads as last-at-reads
 
--- src/lib.rt:95:21
-add-if1 : tie.Need-add-if1
-add-if1 c = search needs
+abbrev to-start : tie.After-number-at → tie.Start
+to-start p = search
 
--- src/lib.rt:96:9
-last-at-requires : tie.Need-last-at-requires
-last-at-requires c κs = search needs
+abbrev to-else1 : tie.After-number-at → tie.Else1
+to-else1 p = search
 
--- src/lib.rt:96:9
-returns : tie.Need-returns
-returns c = search needs
+abbrev to-else2 : tie.After-number-at → tie.Else2
+to-else2 p = search
 
--- src/lib.rt:98:8
-shared-slice-read-if2 : tie.Need-shared-slice-read-if2
-shared-slice-read-if2 c = search needs
+abbrev to-else3 : tie.After-number-at → tie.Else3
+to-else3 p = search
 
--- src/lib.rt:99:9
-returns-2 : tie.Need-returns-2
-returns-2 c = (row-key t= (readDecimal comma (limits.points - 1)) (readDecimal feed (limits.points - 1)) _ (key-first-bad (c .before .before .before .before .args .text .now) _ 116 61 (omega (arith, c .before .before .if1 .left)) (c .if2 .taken)), tt)
+abbrev to-after-number-at : tie.After-number-at2 → tie.After-number-at
+to-after-number-at p = search
 
--- src/lib.rt:101:13
-add-if3 : tie.Need-add-if3
-add-if3 c = search needs
+abbrev to-after-a : tie.After-number-at2 → tie.After-a
+to-after-a p = search
 
--- src/lib.rt:101:8
-shared-slice-read-if3 : tie.Need-shared-slice-read-if3
-shared-slice-read-if3 c = search needs
+abbrev to-after-number-at2 : tie.After-number-at3 → tie.After-number-at2
+to-after-number-at2 p = search
 
--- src/lib.rt:102:9
-returns-3 : tie.Need-returns-3
-returns-3 c = (row-key t= (readDecimal comma (limits.points - 1)) (readDecimal feed (limits.points - 1)) _ (key-second-bad (c .before .before .before .before .before .before .args .text .now) _ 116 61 (omega (arith, c .before .before .before .before .if1 .left)) (c .before .before .if2 .left) (c .if3 .taken)), tt)
-
--- src/lib.rt:104:17
-sub-most : tie.Need-sub-most
-sub-most c = search needs
-
--- src/lib.rt:104:16
-cast-most : tie.Need-cast-most
-cast-most c = search needs
-
--- src/lib.rt:105:52
-add-number-at : tie.Need-add-number-at
-add-number-at c = search needs
-
--- src/lib.rt:105:28
-number-at-requires : tie.Need-number-at-requires
-number-at-requires c κs = search needs
-
--- src/lib.rt:105:20
-enum-known-a : tie.Need-enum-known-a
-enum-known-a c = search needs
-
--- src/lib.rt:106:9
-enum-told : tie.Need-enum-told
-enum-told c = search needs
-
--- src/lib.rt:106:9
-returns-4 : tie.Need-returns-4
-returns-4 c = (row-first t= (readDecimal comma (limits.points - 1)) (readDecimal feed (limits.points - 1)) _ _ (key-whole (c .before .before .before .before .before .before .before .before .before .args .text .now) _ 116 61 (omega (arith, c .before .before .before .before .before .before .before .if1 .left)) (c .before .before .before .before .before .if2 .left) (c .before .before .before .if3 .left)) (number-not (c .before .before .before .before .before .before .before .before .before .args .text .now) _ _ (c .before .before .number-at .ensures .0) (c .enum-told .given .1)), tt)
-
--- src/lib.rt:108:28
-number-at-requires-2 : tie.Need-number-at-requires-2
-number-at-requires-2 c κs = (omega (arith, c .before .before .before .before .before .before .before .before .if1 .left, number-by _ _ _ _ (c .before .before .before .number-at .ensures .1) (c .before .a .given .1)), omega arith, omega arith, omega arith)
-
--- src/lib.rt:108:20
-enum-known-b : tie.Need-enum-known-b
-enum-known-b c = search needs
-
--- src/lib.rt:109:9
-enum-told-2 : tie.Need-enum-told-2
-enum-told-2 c = search needs
-
--- src/lib.rt:109:9
-returns-5 : tie.Need-returns-5
-returns-5 c = (row-second t= (readDecimal comma (limits.points - 1)) (readDecimal feed (limits.points - 1)) _ _ _ _ (key-whole (c .before .before .before .before .before .before .before .before .before .before .before .before .before .args .text .now) _ 116 61 (omega (arith, c .before .before .before .before .before .before .before .before .before .before .before .if1 .left)) (c .before .before .before .before .before .before .before .before .before .if2 .left) (c .before .before .before .before .before .before .before .if3 .left)) (number-is (c .before .before .before .before .before .before .before .before .before .before .before .before .before .args .text .now) _ _ _ _ (c .before .before .before .before .before .before .number-at .ensures .0) (c .before .before .before .before .a .given .1)) (number-not (c .before .before .before .before .before .before .before .before .before .before .before .before .before .args .text .now) _ _ (c .before .before .number-at2 .ensures .0) (c .enum-told2 .given .1)), tt)
-
--- src/lib.rt:111:31
-number-at-requires-3 : tie.Need-number-at-requires-3
-number-at-requires-3 c κs = (omega (arith, c .before .before .before .before .before .before .before .before .before .before .before .before .if1 .left, number-by _ _ _ _ (c .before .before .before .before .before .before .before .number-at .ensures .1) (c .before .before .before .before .before .a .given .1), number-by _ _ _ _ (c .before .before .before .number-at2 .ensures .1) (c .before .b .given .1)), omega arith, omega arith, omega arith)
-
--- src/lib.rt:111:20
-enum-known-c : tie.Need-enum-known-c
-enum-known-c c = search needs
-
--- src/lib.rt:112:9
-enum-told-3 : tie.Need-enum-told-3
-enum-told-3 c = search needs
-
--- src/lib.rt:112:9
-returns-6 : tie.Need-returns-6
-returns-6 c = (row-third t= (readDecimal comma (limits.points - 1)) (readDecimal feed (limits.points - 1)) _ _ _ _ _ _ (key-whole (c .before .before .before .before .before .before .before .before .before .before .before .before .before .before .before .before .before .args .text .now) _ 116 61 (omega (arith, c .before .before .before .before .before .before .before .before .before .before .before .before .before .before .before .if1 .left)) (c .before .before .before .before .before .before .before .before .before .before .before .before .before .if2 .left) (c .before .before .before .before .before .before .before .before .before .before .before .if3 .left)) (number-is (c .before .before .before .before .before .before .before .before .before .before .before .before .before .before .before .before .before .args .text .now) _ _ _ _ (c .before .before .before .before .before .before .before .before .before .before .number-at .ensures .0) (c .before .before .before .before .before .before .before .before .a .given .1)) (number-is (c .before .before .before .before .before .before .before .before .before .before .before .before .before .before .before .before .before .args .text .now) _ _ _ _ (c .before .before .before .before .before .before .number-at2 .ensures .0) (c .before .before .before .before .b .given .1)) (number-not (c .before .before .before .before .before .before .before .before .before .before .before .before .before .before .before .before .before .args .text .now) _ _ (c .before .before .number-at3 .ensures .0) (c .enum-told3 .given .1)), tt)
-
--- src/lib.rt:91:1
-returns-7 : tie.Need-returns-7
-returns-7 c = (row-whole t= (readDecimal comma (limits.points - 1)) (readDecimal feed (limits.points - 1)) _ _ _ _ _ _ _ _ (key-whole (c .before .before .before .before .before .before .before .before .before .before .before .before .before .before .before .before .before .before .args .text .now) _ 116 61 (omega (arith, c .before .before .before .before .before .before .before .before .before .before .before .before .before .before .before .before .if1 .left)) (c .before .before .before .before .before .before .before .before .before .before .before .before .before .before .if2 .left) (c .before .before .before .before .before .before .before .before .before .before .before .before .if3 .left)) (number-is (c .before .before .before .before .before .before .before .before .before .before .before .before .before .before .before .before .before .before .args .text .now) _ _ _ _ (c .before .before .before .before .before .before .before .before .before .before .before .number-at .ensures .0) (c .before .before .before .before .before .before .before .before .before .a .given .1)) (number-is (c .before .before .before .before .before .before .before .before .before .before .before .before .before .before .before .before .before .before .args .text .now) _ _ _ _ (c .before .before .before .before .before .before .before .number-at2 .ensures .0) (c .before .before .before .before .before .b .given .1)) (number-is (c .before .before .before .before .before .before .before .before .before .before .before .before .before .before .before .before .before .before .args .text .now) _ _ _ _ (c .before .before .before .number-at3 .ensures .0) (c .before .c .given .1)), omega (arith, c .before .before .before .before .before .before .before .before .before .before .before .before .before .before .before .before .if1 .left, number-by _ _ _ _ (c .before .before .before .before .before .before .before .before .before .before .before .number-at .ensures .1) (c .before .before .before .before .before .before .before .before .before .a .given .1), number-by _ _ _ _ (c .before .before .before .before .before .before .before .number-at2 .ensures .1) (c .before .before .before .before .before .b .given .1), number-by _ _ _ _ (c .before .before .before .number-at3 .ensures .1) (c .before .c .given .1)))
+abbrev to-after-b : tie.After-number-at3 → tie.After-b
+to-after-b p = search
 
 pub triangle-at-spec : {M : Type 1} → statement M
 triangle-at-spec =
     tie.close
     (tie.spec
-    add-if1
-    last-at-requires
-    returns
-    shared-slice-read-if2
-    returns-2
-    add-if3
-    shared-slice-read-if3
-    returns-3
-    sub-most
-    cast-most
-    add-number-at
-    number-at-requires
-    enum-known-a
-    enum-told
-    returns-4
-    number-at-requires-2
-    enum-known-b
-    enum-told-2
-    returns-5
-    number-at-requires-3
-    enum-known-c
-    enum-told-3
-    returns-6
-    returns-7)
+    (λ c. search needs)
+    (λ c κs. search needs)
+    (λ c. search needs)
+    (λ c. search needs)
+    (λ c.
+    let start : tie.Start = search in let else1 : tie.Else1 = search in (
+      row-key t= (readDecimal comma (limits.points - 1)) (readDecimal feed (limits.points - 1)) _
+          (key-first-bad (start .args .text .now) _ 116 61 (omega (arith, else1 .if1 .left)) (c .if2 .taken)),
+      tt,
+    ))
+    (λ c. search needs)
+    (λ c. search needs)
+    (λ c.
+    let start : tie.Start = search in let else1 : tie.Else1 = search in let else2 : tie.Else2 = search in (
+      row-key t= (readDecimal comma (limits.points - 1)) (readDecimal feed (limits.points - 1)) _
+          (key-second-bad (start .args .text .now) _ 116 61 (omega (arith, else1 .if1 .left)) (else2 .if2 .left) (c .if3 .taken)),
+      tt,
+    ))
+    (λ c. search needs)
+    (λ c. search needs)
+    (λ c. search needs)
+    (λ c κs. search needs)
+    (λ c. search needs)
+    (λ c. search needs)
+    (λ c.
+    let after-number-at : tie.After-number-at = search in let start = to-start after-number-at in (
+      row-first t= (readDecimal comma (limits.points - 1)) (readDecimal feed (limits.points - 1)) _ _
+          (key-whole (start .args .text .now) _ 116 61 (omega (arith, (to-else1 after-number-at) .if1 .left)) (to-else2 after-number-at .if2 .left)
+          (to-else3 after-number-at .if3 .left))
+          (number-not (start .args .text .now) _ _ (after-number-at .number-at .ensures .0) (c .enum-told .given .1)),
+      tt,
+    ))
+    (λ c κs.
+    let after-number-at : tie.After-number-at = search in (
+      omega (arith, (to-else1 after-number-at) .if1 .left, number-by _ _ _ _ (after-number-at .number-at .ensures .1) (c .before .a .given .1)),
+      omega arith,
+      omega arith,
+      omega arith,
+    ))
+    (λ c. search needs)
+    (λ c. search needs)
+    (λ c.
+    let after-number-at2 : tie.After-number-at2 = search in let after-number-at = to-after-number-at after-number-at2 in
+    let start = to-start after-number-at in (
+      row-second t= (readDecimal comma (limits.points - 1)) (readDecimal feed (limits.points - 1)) _ _ _ _
+          (key-whole (start .args .text .now) _ 116 61 (omega (arith, (to-else1 after-number-at) .if1 .left)) (to-else2 after-number-at .if2 .left)
+          (to-else3 after-number-at .if3 .left))
+          (number-is (start .args .text .now) _ _ _ _ (after-number-at .number-at .ensures .0) (to-after-a after-number-at2 .a .given .1))
+          (number-not (start .args .text .now) _ _ (after-number-at2 .number-at2 .ensures .0) (c .enum-told2 .given .1)),
+      tt,
+    ))
+    (λ c κs.
+    let after-number-at2 : tie.After-number-at2 = search in let after-number-at = to-after-number-at after-number-at2 in (
+      omega (
+        arith,
+        (to-else1 after-number-at) .if1 .left,
+        number-by _ _ _ _ (after-number-at .number-at .ensures .1) (to-after-a after-number-at2 .a .given .1),
+        number-by _
+            _ _ _ (after-number-at2 .number-at2 .ensures .1) (c .before .b .given .1),
+      ),
+      omega arith,
+      omega arith,
+      omega arith,
+    ))
+    (λ c. search needs)
+    (λ c. search needs)
+    (λ c.
+    let after-number-at3 : tie.After-number-at3 = search in let after-number-at2 = to-after-number-at2 after-number-at3 in
+    let after-number-at = to-after-number-at after-number-at2 in let start = to-start after-number-at in (
+      row-third t= (readDecimal comma (limits.points - 1)) (readDecimal feed (limits.points - 1)) _ _ _ _ _ _
+          (key-whole (start .args .text .now) _ 116 61 (omega (arith, (to-else1 after-number-at) .if1 .left)) (to-else2 after-number-at .if2 .left)
+          (to-else3 after-number-at .if3 .left))
+          (number-is (start .args .text .now) _ _ _ _ (after-number-at .number-at .ensures .0) (to-after-a after-number-at2 .a .given .1))
+          (number-is (start .args .text .now) _ _ _ _ (after-number-at2 .number-at2 .ensures .0) (to-after-b after-number-at3 .b .given .1))
+          (number-not (start .args .text .now) _ _ (after-number-at3 .number-at3 .ensures .0) (c .enum-told3 .given .1)),
+      tt,
+    ))
+    (λ c.
+    let after-number-at3 : tie.After-number-at3 = search in let after-number-at2 = to-after-number-at2 after-number-at3 in
+    let after-number-at = to-after-number-at after-number-at2 in let start = to-start after-number-at in let else1 = to-else1 after-number-at in
+    let after-a = to-after-a after-number-at2 in let after-b = to-after-b after-number-at3 in (
+      row-whole t= (readDecimal comma (limits.points - 1)) (readDecimal feed (limits.points - 1)) _ _ _ _ _ _ _ _
+          (key-whole (start .args .text .now) _ 116 61 (omega (arith, else1 .if1 .left)) (to-else2 after-number-at .if2 .left) (to-else3 after-number-at .if3 .left))
+          (number-is (start .args .text .now) _ _ _ _ (after-number-at .number-at .ensures .0) (after-a .a .given .1))
+          (number-is (start .args .text .now) _ _ _ _ (after-number-at2 .number-at2 .ensures .0) (after-b .b .given .1))
+          (number-is (start .args .text .now) _ _ _ _ (after-number-at3 .number-at3 .ensures .0) (c .before .c .given .1)),
+      omega (
+        arith,
+        else1 .if1 .left,
+        number-by _ _ _ _ (after-number-at .number-at .ensures .1) (after-a .a .given .1),
+        number-by _ _ _ _
+            (after-number-at2 .number-at2 .ensures .1) (after-b .b .given .1),
+        number-by _ _ _ _ (after-number-at3 .number-at3 .ensures .1) (c .before .c .given .1),
+      ),
+    )))

@@ -15,49 +15,28 @@ Inv-loop points fours₀ i₀ fours i = (i ≤ points) × (length fours ≡ leng
 abbrev μ-loop : tie.MeasureT-loop
 μ-loop points fours₀ i₀ fours i = points - i
 
-loop-holds : tie.Need-loop-holds Inv-loop μ-loop
-loop-holds c = (search needs, refl, number-none _)
+abbrev to-at-loop : tie.After-four-of Inv-loop μ-loop → tie.At-loop Inv-loop μ-loop
+to-at-loop p = search
 
-cast-four-of : tie.Need-cast-four-of Inv-loop μ-loop
-cast-four-of c = search needs
-
-four-of-requires : tie.Need-four-of-requires Inv-loop μ-loop
-four-of-requires c κs = search needs
-
-mul-fours : tie.Need-mul-fours Inv-loop μ-loop
-mul-fours c = search needs
-
-slice-write-fours : tie.Need-slice-write-fours Inv-loop μ-loop
-slice-write-fours c = omega (arith, c .before .before .loop .inv .1, c .before .before .before .before .pre .1)
-
-add-i : tie.Need-add-i Inv-loop μ-loop
-add-i c = search needs
-
-loop-less : tie.Need-loop-less Inv-loop μ-loop
-loop-less c = search needs
-
-loop-again : tie.Need-loop-again Inv-loop μ-loop
-loop-again c = (search needs, length-set (c .before .before .loop .fours) (c .before .before .loop .i) (c .four-of .result) ∙ c .before .before .loop .inv .1, number-more _ _ _ (omega (arith, c .before .before .loop .inv .1, c .before .before .before .before .pre .1)) (omega arith) (c .four-of .ensures) (c .before .before .loop .inv .2))
-
-same-length : tie.Need-same-length Inv-loop μ-loop
-same-length c = c .before .loop .inv .1
-
-returns : tie.Need-returns Inv-loop μ-loop
-returns c = number-end _ _ _ (c .loop-test .left) (c .before .loop .inv .2)
+abbrev to-start : tie.After-four-of Inv-loop μ-loop → tie.Start Inv-loop μ-loop
+to-start p = search
 
 pub number-points-spec : {M : Type 1} → statement M
 number-points-spec =
     tie.close
-    (tie.spec
-    Inv-loop
-    μ-loop
-    loop-holds
-    cast-four-of
-    four-of-requires
-    mul-fours
-    slice-write-fours
-    add-i
-    loop-less
-    loop-again
-    same-length
-    returns)
+    (tie.spec Inv-loop μ-loop
+    (λ c. (search needs, refl, number-none _))
+    (λ c. search needs)
+    (λ c κs. search needs)
+    (λ c. search needs)
+    (λ c. omega (arith, (to-at-loop c) .loop .inv .1, (to-start c) .pre .1))
+    (λ c. search needs)
+    (λ c. search needs)
+    (λ c.
+    let at-loop = to-at-loop c in (
+      search needs,
+      length-set (at-loop .loop .fours) (at-loop .loop .i) (c .four-of .result) ∙ at-loop .loop .inv .1,
+      number-more _ _ _ (omega (arith, at-loop .loop .inv .1, (to-start c) .pre .1)) (omega arith) (c .four-of .ensures) (at-loop .loop .inv .2),
+    ))
+    (λ c. c .before .loop .inv .1)
+    (λ c. search number-end))

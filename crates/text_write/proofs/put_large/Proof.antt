@@ -4,18 +4,11 @@ use Rattle.text_write.proofs.Laws.Whole.{points-few}
 use Rattle.text_write.proofs.put_large.Statement.{statement}
 use Rattle.text_write.proofs.put_large.Tie as tie
 
-slice-aggregate-put-sheet : tie.Need-slice-aggregate-put-sheet
-slice-aggregate-put-sheet c = search needs
-
-put-sheet-requires : tie.Need-put-sheet-requires
-put-sheet-requires c κs = (c .before .before .before .before .before .pre, points-few (c .before .before .before .before .before .args .words .now) (c .before .before .before .before .before .args .corners .now) (c .before .before .before .before .before .args .buffer .now) (c .before .before .before .before .before .pre))
-
-same-length : tie.Need-same-length
-same-length c = search needs
-
-returns : tie.Need-returns
-returns c = search needs
-
 pub put-large-spec : {M : Type 1} → statement M
 put-large-spec =
-    tie.close (tie.spec slice-aggregate-put-sheet put-sheet-requires same-length returns)
+    tie.close
+    (tie.spec
+    (λ c. search needs)
+    (λ c κs. let start : tie.Start = search in (start .pre, points-few _ _ _ (start .pre)))
+    (λ c. search needs)
+    (λ c. search needs))

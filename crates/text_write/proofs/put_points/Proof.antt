@@ -18,97 +18,65 @@ Inv-loop buffer₀ at words n pairs place₀ k₀ buffer place k = Laying (lines
 abbrev μ-loop : tie.MeasureT-loop
 μ-loop buffer₀ at words n pairs place₀ k₀ buffer place k = n - k
 
-slice-aggregate-spell-bytes : tie.Need-slice-aggregate-spell-bytes Inv-loop μ-loop
-slice-aggregate-spell-bytes c = search needs
+abbrev to-start : tie.After-spell-bytes Inv-loop μ-loop → tie.Start Inv-loop μ-loop
+to-start p = search
 
-spell-bytes-requires : tie.Need-spell-bytes-requires Inv-loop μ-loop
-spell-bytes-requires c κs = spell-none _ (length-replicate {A = ℕ} 256 0)
+abbrev to-after-spell-bytes : tie.After-put-point Inv-loop μ-loop → tie.After-spell-bytes Inv-loop μ-loop
+to-after-spell-bytes p = search
 
-loop-holds : tie.Need-loop-holds Inv-loop μ-loop
-loop-holds c = laying-begins _ _ _ (c .before .before .before .before .before .pre .1)
-
-mul-put-point : tie.Need-mul-put-point Inv-loop μ-loop
-mul-put-point c = search needs
-
-mul-put-point-2 : tie.Need-mul-put-point-2 Inv-loop μ-loop
-mul-put-point-2 c = search needs
-
-shared-slice-read-put-point : tie.Need-shared-slice-read-put-point Inv-loop μ-loop
-shared-slice-read-put-point c = search needs
-
-mul-put-point-3 : tie.Need-mul-put-point-3 Inv-loop μ-loop
-mul-put-point-3 c = search needs
-
-add-put-point : tie.Need-add-put-point Inv-loop μ-loop
-add-put-point c = search needs
-
-mul-put-point-4 : tie.Need-mul-put-point-4 Inv-loop μ-loop
-mul-put-point-4 c = search needs
-
-shared-slice-read-put-point-2 : tie.Need-shared-slice-read-put-point-2 Inv-loop μ-loop
-shared-slice-read-put-point-2 c = search needs
-
-mul-put-point-5 : tie.Need-mul-put-point-5 Inv-loop μ-loop
-mul-put-point-5 c = search needs
-
-add-put-point-2 : tie.Need-add-put-point-2 Inv-loop μ-loop
-add-put-point-2 c = search needs
-
-mul-put-point-6 : tie.Need-mul-put-point-6 Inv-loop μ-loop
-mul-put-point-6 c = search needs
-
-shared-slice-read-put-point-3 : tie.Need-shared-slice-read-put-point-3 Inv-loop μ-loop
-shared-slice-read-put-point-3 c = search needs
-
-slice-aggregate-put-point : tie.Need-slice-aggregate-put-point Inv-loop μ-loop
-slice-aggregate-put-point c = search needs
-
-put-point-requires : tie.Need-put-point-requires Inv-loop μ-loop
-put-point-requires c κs = (omega (arith, putting-room (points .show) (c .before .before .before .before .before .before .before .before .before .before .before .before .args .words .now) (c .before .before .before .before .before .before .loop .k) (c .before .before .before .before .before .before .loop .inv) (omega arith), point-length (three (getD (c .before .before .before .before .before .before .before .before .before .before .before .before .args .words .now) (3 * c .before .before .before .before .before .before .loop .k) 0) (getD (c .before .before .before .before .before .before .before .before .before .before .before .before .args .words .now) (3 * c .before .before .before .before .before .before .loop .k + 1) 0) (getD (c .before .before .before .before .before .before .before .before .before .before .before .before .args .words .now) (3 * c .before .before .before .before .before .before .loop .k + 2) 0))), c .before .before .before .before .before .before .before .before .spell-bytes .ensures)
-
-add-place : tie.Need-add-place Inv-loop μ-loop
-add-place c = omega (arith, putting-room (points .show) (c .before .before .before .before .before .before .before .before .before .before .before .before .before .before .before .args .words .now) (c .before .before .before .before .before .before .before .before .before .loop .k) (c .before .before .before .before .before .before .before .before .before .loop .inv) (omega arith), point-length (three (getD (c .before .before .before .before .before .before .before .before .before .before .before .before .before .before .before .args .words .now) (3 * c .before .before .before .before .before .before .before .before .before .loop .k) 0) (getD (c .before .before .before .before .before .before .before .before .before .before .before .before .before .before .before .args .words .now) (3 * c .before .before .before .before .before .before .before .before .before .loop .k + 1) 0) (getD (c .before .before .before .before .before .before .before .before .before .before .before .before .before .before .before .args .words .now) (3 * c .before .before .before .before .before .before .before .before .before .loop .k + 2) 0)))
-
-add-k : tie.Need-add-k Inv-loop μ-loop
-add-k c = search needs
-
-loop-less : tie.Need-loop-less Inv-loop μ-loop
-loop-less c = search needs
-
-loop-again : tie.Need-loop-again Inv-loop μ-loop
-loop-again c = putting-more (points .show) (c .before .before .before .before .before .before .before .before .before .before .before .before .before .before .before .args .words .now) (c .before .before .before .before .before .before .before .before .before .loop .k) (c .before .before .before .before .before .before .before .before .before .loop .inv) (omega arith) (c .before .before .put-point .ensures) (omega (arith, point-length (three (getD (c .before .before .before .before .before .before .before .before .before .before .before .before .before .before .before .args .words .now) (3 * c .before .before .before .before .before .before .before .before .before .loop .k) 0) (getD (c .before .before .before .before .before .before .before .before .before .before .before .before .before .before .before .args .words .now) (3 * c .before .before .before .before .before .before .before .before .before .loop .k + 1) 0) (getD (c .before .before .before .before .before .before .before .before .before .before .before .before .before .before .before .args .words .now) (3 * c .before .before .before .before .before .before .before .before .before .loop .k + 2) 0))))
-
-same-length : tie.Need-same-length Inv-loop μ-loop
-same-length c = c .before .loop .inv .same
-
-returns : tie.Need-returns Inv-loop μ-loop
-returns c = putting-ends (points .show) (c .before .before .before .before .before .before .before .args .words .now) (c .before .loop .k) (c .before .loop .inv) (omega arith)
+abbrev to-at-loop : tie.After-put-point Inv-loop μ-loop → tie.At-loop Inv-loop μ-loop
+to-at-loop p = search
 
 pub put-points-spec : {M : Type 1} → statement M
 put-points-spec =
     tie.close
-    (tie.spec
-    Inv-loop
-    μ-loop
-    slice-aggregate-spell-bytes
-    spell-bytes-requires
-    loop-holds
-    mul-put-point
-    mul-put-point-2
-    shared-slice-read-put-point
-    mul-put-point-3
-    add-put-point
-    mul-put-point-4
-    shared-slice-read-put-point-2
-    mul-put-point-5
-    add-put-point-2
-    mul-put-point-6
-    shared-slice-read-put-point-3
-    slice-aggregate-put-point
-    put-point-requires
-    add-place
-    add-k
-    loop-less
-    loop-again
-    same-length
-    returns)
+    (tie.spec Inv-loop μ-loop
+    (λ c. search needs)
+    (λ c κs. spell-none _ (length-replicate {A = ℕ} 256 0))
+    (λ c. search laying-begins)
+    (λ c. search needs)
+    (λ c. search needs)
+    (λ c. search needs)
+    (λ c. search needs)
+    (λ c. search needs)
+    (λ c. search needs)
+    (λ c. search needs)
+    (λ c. search needs)
+    (λ c. search needs)
+    (λ c. search needs)
+    (λ c. search needs)
+    (λ c. search needs)
+    (λ c κs.
+    let after-spell-bytes : tie.After-spell-bytes Inv-loop μ-loop = search in let start = to-start after-spell-bytes in
+    let at-loop : tie.At-loop Inv-loop μ-loop = search in (
+      omega (
+        arith,
+        putting-room (points .show) (start .args .words .now) (at-loop .loop .k) (at-loop .loop .inv) (omega arith),
+        point-length
+            (three (getD (start .args .words .now) (3 * at-loop .loop .k) 0) (getD (start .args .words .now) (3 * at-loop .loop .k + 1) 0)
+            (getD (start .args .words .now) (3 * at-loop .loop .k + 2) 0)),
+      ),
+      after-spell-bytes .spell-bytes .ensures,
+    ))
+    (λ c.
+    let after-put-point : tie.After-put-point Inv-loop μ-loop = search in
+    let start = to-start (to-after-spell-bytes after-put-point) in let at-loop = to-at-loop after-put-point in omega (
+      arith,
+      putting-room (points .show) (start .args .words .now) (at-loop .loop .k) (at-loop .loop .inv) (omega arith),
+      point-length
+          (three (getD (start .args .words .now) (3 * at-loop .loop .k) 0) (getD (start .args .words .now) (3 * at-loop .loop .k + 1) 0)
+          (getD (start .args .words .now) (3 * at-loop .loop .k + 2) 0)),
+    ))
+    (λ c. search needs)
+    (λ c. search needs)
+    (λ c.
+    let after-put-point : tie.After-put-point Inv-loop μ-loop = search in
+    let start = to-start (to-after-spell-bytes after-put-point) in let at-loop = to-at-loop after-put-point in putting-more (points .show)
+    (start .args .words .now) (at-loop .loop .k) (at-loop .loop .inv) (omega arith) (after-put-point .put-point .ensures)
+    (omega (
+      arith,
+      point-length (three (getD (start .args .words .now) (3 * at-loop .loop .k) 0) (getD (start .args .words .now) (3 * at-loop .loop .k + 1) 0)
+          (getD (start .args .words .now) (3 * at-loop .loop .k + 2) 0)),
+    )))
+    (λ c. c .before .loop .inv .same)
+    (λ c. putting-ends (points .show) _ (c .before .loop .k) (c .before .loop .inv) (omega arith)))

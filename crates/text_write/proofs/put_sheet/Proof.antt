@@ -6,47 +6,61 @@ use Rattle.text_write.proofs.Laws.Whole.{words-whole, corners-whole, po
 use Rattle.text_write.proofs.put_sheet.Statement.{statement}
 use Rattle.text_write.proofs.put_sheet.Tie as tie
 
-number-points-requires : tie.Need-number-points-requires
-number-points-requires c κs = (omega (arith, points-few (c .before .before .before .before .before .args .words .now) (c .before .before .before .before .before .args .corners .now) (c .before .before .before .before .before .args .buffer .now) (c .before .before .before .before .before .pre .0)), c .before .before .before .before .before .pre .1)
+abbrev to-start : tie.After-number-points → tie.Start
+to-start p = search
 
-slice-aggregate-put-count : tie.Need-slice-aggregate-put-count
-slice-aggregate-put-count c = search needs
+abbrev to-after-number-points : tie.After-put-count → tie.After-number-points
+to-after-number-points p = search
 
-put-count-requires : tie.Need-put-count-requires
-put-count-requires c κs = (omega (arith, points-few (c .before .before .before .before .before .before .before .before .before .before .args .words .now) (c .before .before .before .before .before .before .before .before .before .before .args .corners .now) (c .before .before .before .before .before .before .before .before .before .before .args .buffer .now) (c .before .before .before .before .before .before .before .before .before .before .pre .0)), omega (arith, parts-room (c .before .before .before .before .before .before .before .before .before .before .args .words .now) (c .before .before .before .before .before .before .before .before .before .before .args .corners .now) (c .before .before .before .before .before .before .before .before .before .before .args .buffer .now) (c .before .before .before .before .before .before .before .before .before .before .pre .0)))
+abbrev to-after-put-count : tie.After-put-points → tie.After-put-count
+to-after-put-count p = search
 
-put-points-requires : tie.Need-put-points-requires
-put-points-requires c κs = (words-whole (c .before .before .before .before .before .before .before .before .before .before .before .before .before .before .args .words .now) (c .before .before .before .before .before .before .before .before .before .before .before .before .before .before .args .corners .now) (c .before .before .before .before .before .before .before .before .before .before .before .before .before .before .args .buffer .now) (c .before .before .before .before .before .before .before .before .before .before .before .before .before .before .pre .0), omega (arith, parts-room (c .before .before .before .before .before .before .before .before .before .before .before .before .before .before .args .words .now) (c .before .before .before .before .before .before .before .before .before .before .before .before .before .before .args .corners .now) (c .before .before .before .before .before .before .before .before .before .before .before .before .before .before .args .buffer .now) (c .before .before .before .before .before .before .before .before .before .before .before .before .before .before .pre .0), c .before .before .before .put-count .ensures .1))
+abbrev to-after-put-points : tie.After-put-count2 → tie.After-put-points
+to-after-put-points p = search
 
-slice-aggregate-put-count-2 : tie.Need-slice-aggregate-put-count-2
-slice-aggregate-put-count-2 c = search needs
-
-put-count-requires-2 : tie.Need-put-count-requires-2
-put-count-requires-2 c κs = (omega (arith, triangles-few (c .before .before .before .before .before .before .before .before .before .before .before .before .before .before .before .before .before .before .before .args .words .now) (c .before .before .before .before .before .before .before .before .before .before .before .before .before .before .before .before .before .before .before .args .corners .now) (c .before .before .before .before .before .before .before .before .before .before .before .before .before .before .before .before .before .before .before .args .buffer .now) (c .before .before .before .before .before .before .before .before .before .before .before .before .before .before .before .before .before .before .before .pre .0)), omega (arith, parts-room (c .before .before .before .before .before .before .before .before .before .before .before .before .before .before .before .before .before .before .before .args .words .now) (c .before .before .before .before .before .before .before .before .before .before .before .before .before .before .before .before .before .before .before .args .corners .now) (c .before .before .before .before .before .before .before .before .before .before .before .before .before .before .before .before .before .before .before .args .buffer .now) (c .before .before .before .before .before .before .before .before .before .before .before .before .before .before .before .before .before .before .before .pre .0), c .before .before .before .before .before .before .before .before .put-count .ensures .1, c .before .before .before .before .put-points .ensures .1))
-
-put-triangles-requires : tie.Need-put-triangles-requires
-put-triangles-requires c κs = ((corners-whole (c .before .before .before .before .before .before .before .before .before .before .before .before .before .before .before .before .before .before .before .before .before .before .before .before .args .words .now) (c .before .before .before .before .before .before .before .before .before .before .before .before .before .before .before .before .before .before .before .before .before .before .before .before .args .corners .now) (c .before .before .before .before .before .before .before .before .before .before .before .before .before .before .before .before .before .before .before .before .before .before .before .before .args .buffer .now) (c .before .before .before .before .before .before .before .before .before .before .before .before .before .before .before .before .before .before .before .before .before .before .before .before .pre .0), serves _ (c .before .before .before .before .before .before .before .before .before .before .before .before .before .before .before .before .before .before .before .before .before .before .before .before .args .corners .now) _ (c .before .before .before .before .before .before .before .before .before .before .before .before .before .before .before .before .before .before .before .before .before .before .before .before .pre .0 .named) (c .before .before .before .before .before .before .before .before .before .before .before .before .before .before .before .before .before .before .number-points .ensures)), omega (arith, parts-room (c .before .before .before .before .before .before .before .before .before .before .before .before .before .before .before .before .before .before .before .before .before .before .before .before .args .words .now) (c .before .before .before .before .before .before .before .before .before .before .before .before .before .before .before .before .before .before .before .before .before .before .before .before .args .corners .now) (c .before .before .before .before .before .before .before .before .before .before .before .before .before .before .before .before .before .before .before .before .before .before .before .before .args .buffer .now) (c .before .before .before .before .before .before .before .before .before .before .before .before .before .before .before .before .before .before .before .before .before .before .before .before .pre .0), c .before .before .before .before .before .before .before .before .before .before .before .before .before .put-count .ensures .1, c .before .before .before .before .before .before .before .before .before .put-points .ensures .1, c .before .before .before .before .put-count2 .ensures .1))
-
-same-length : tie.Need-same-length
-same-length c = search needs
-
-same-length-2 : tie.Need-same-length-2
-same-length-2 c = search needs
-
-returns : tie.Need-returns
-returns c = sheet-laid (c .before .before .before .before .before .before .before .before .before .before .before .before .before .before .before .before .before .before .before .before .before .before .before .before .before .before .before .args .words .now) (c .before .before .before .before .before .before .before .before .before .before .before .before .before .before .before .before .before .before .before .before .before .before .before .before .before .before .before .args .corners .now) (c .before .before .before .before .before .before .before .before .before .before .before .before .before .before .before .before .before .before .before .before .before .before .before .before .before .before .before .args .buffer .now) (c .before .before .before .before .before .before .before .before .before .before .before .before .before .before .before .before .before .before .before .before .before .before .before .before .before .before .before .pre .0) _ _ _ _ _ _ _ _ (c .before .before .before .before .before .before .before .before .before .before .before .before .before .before .before .before .put-count .ensures .1) (c .before .before .before .before .before .before .before .before .before .before .before .before .put-points .ensures .1) (c .before .before .before .before .before .before .before .put-count2 .ensures .1) (c .before .before .put-triangles .ensures .1) (c .before .before .before .before .before .before .before .before .before .before .before .before .before .before .before .before .put-count .ensures .0) (c .before .before .before .before .before .before .before .before .before .before .before .before .put-points .ensures .0) (c .before .before .before .before .before .before .before .put-count2 .ensures .0) (c .before .before .put-triangles .ensures .0)
+abbrev to-after-put-count2 : tie.After-put-triangles → tie.After-put-count2
+to-after-put-count2 p = search
 
 pub put-sheet-spec : {M : Type 1} → statement M
 put-sheet-spec =
     tie.close
     (tie.spec
-    number-points-requires
-    slice-aggregate-put-count
-    put-count-requires
-    put-points-requires
-    slice-aggregate-put-count-2
-    put-count-requires-2
-    put-triangles-requires
-    same-length
-    same-length-2
-    returns)
+    (λ c κs. let start : tie.Start = search in (omega (arith, points-few _ _ _ (start .pre .0)), start .pre .1))
+    (λ c. search needs)
+    (λ c κs.
+    let after-number-points : tie.After-number-points = search in let start = to-start after-number-points in
+    (omega (arith, points-few _ _ _ (start .pre .0)), omega (arith, parts-room _ _ _ (start .pre .0))))
+    (λ c κs.
+    let after-put-count : tie.After-put-count = search in
+    let start = to-start (to-after-number-points after-put-count) in
+    (words-whole _ _ _ (start .pre .0), omega (arith, parts-room _ _ _ (start .pre .0), after-put-count .put-count .ensures .1)))
+    (λ c. search needs)
+    (λ c κs.
+    let after-put-points : tie.After-put-points = search in let after-put-count = to-after-put-count after-put-points in
+    let start = to-start (to-after-number-points after-put-count) in (
+      omega (arith, triangles-few _ _ _ (start .pre .0)),
+      omega
+          (arith, parts-room _ _ _ (start .pre .0), after-put-count .put-count .ensures .1, after-put-points .put-points .ensures .1),
+    ))
+    (λ c κs.
+    let after-put-count2 : tie.After-put-count2 = search in let after-put-points = to-after-put-points after-put-count2 in
+    let after-put-count = to-after-put-count after-put-points in let after-number-points = to-after-number-points after-put-count in
+    let start = to-start after-number-points in (
+      (corners-whole _ _ _ (start .pre .0), serves _ _ _ (start .pre .0 .named) (after-number-points .number-points .ensures)),
+      omega (
+        arith,
+        parts-room _ _ _ (start .pre .0),
+        after-put-count .put-count .ensures .1,
+        after-put-points .put-points .ensures .1,
+        after-put-count2 .put-count2 .ensures .1,
+      ),
+    ))
+    (λ c. search needs)
+    (λ c. search needs)
+    (λ c.
+    let after-put-triangles : tie.After-put-triangles = search in let after-put-count2 = to-after-put-count2 after-put-triangles in
+    let after-put-points = to-after-put-points after-put-count2 in let after-put-count = to-after-put-count after-put-points in
+    sheet-laid _ _ _ (to-start (to-after-number-points after-put-count) .pre .0) _ _ _ _ _ _ _ _ (after-put-count .put-count .ensures .1)
+    (after-put-points .put-points .ensures .1) (after-put-count2 .put-count2 .ensures .1) (after-put-triangles .put-triangles .ensures .1)
+    (after-put-count .put-count .ensures .0) (after-put-points .put-points .ensures .0) (after-put-count2 .put-count2 .ensures .0)
+    (after-put-triangles .put-triangles .ensures .0)))

@@ -16,81 +16,40 @@ Inv-loop buffer₀ at corners n fours place₀ k₀ buffer place k = Laying (lin
 abbrev μ-loop : tie.MeasureT-loop
 μ-loop buffer₀ at corners n fours place₀ k₀ buffer place k = n - k
 
-loop-holds : tie.Need-loop-holds Inv-loop μ-loop
-loop-holds c = laying-begins _ _ _ (c .before .before .before .pre .1)
-
-mul-put-triangle : tie.Need-mul-put-triangle Inv-loop μ-loop
-mul-put-triangle c = search needs
-
-mul-put-triangle-2 : tie.Need-mul-put-triangle-2 Inv-loop μ-loop
-mul-put-triangle-2 c = search needs
-
-shared-slice-read-put-triangle : tie.Need-shared-slice-read-put-triangle Inv-loop μ-loop
-shared-slice-read-put-triangle c = search needs
-
-mul-put-triangle-3 : tie.Need-mul-put-triangle-3 Inv-loop μ-loop
-mul-put-triangle-3 c = search needs
-
-add-put-triangle : tie.Need-add-put-triangle Inv-loop μ-loop
-add-put-triangle c = search needs
-
-mul-put-triangle-4 : tie.Need-mul-put-triangle-4 Inv-loop μ-loop
-mul-put-triangle-4 c = search needs
-
-shared-slice-read-put-triangle-2 : tie.Need-shared-slice-read-put-triangle-2 Inv-loop μ-loop
-shared-slice-read-put-triangle-2 c = search needs
-
-mul-put-triangle-5 : tie.Need-mul-put-triangle-5 Inv-loop μ-loop
-mul-put-triangle-5 c = search needs
-
-add-put-triangle-2 : tie.Need-add-put-triangle-2 Inv-loop μ-loop
-add-put-triangle-2 c = search needs
-
-mul-put-triangle-6 : tie.Need-mul-put-triangle-6 Inv-loop μ-loop
-mul-put-triangle-6 c = search needs
-
-shared-slice-read-put-triangle-3 : tie.Need-shared-slice-read-put-triangle-3 Inv-loop μ-loop
-shared-slice-read-put-triangle-3 c = search needs
-
-put-triangle-requires : tie.Need-put-triangle-requires Inv-loop μ-loop
-put-triangle-requires c κs = ((served (c .before .before .before .before .before .before .before .before .before .args .corners .now) _ (c .before .before .before .before .before .before .before .before .before .pre .0 .1) (3 * c .before .before .before .before .before .loop .k) (omega arith), served (c .before .before .before .before .before .before .before .before .before .args .corners .now) _ (c .before .before .before .before .before .before .before .before .before .pre .0 .1) (3 * c .before .before .before .before .before .loop .k + 1) (omega arith), served (c .before .before .before .before .before .before .before .before .before .args .corners .now) _ (c .before .before .before .before .before .before .before .before .before .pre .0 .1) (3 * c .before .before .before .before .before .loop .k + 2) (omega arith)), putting-room (triangles .show) (c .before .before .before .before .before .before .before .before .before .args .corners .now) (c .before .before .before .before .before .loop .k) (c .before .before .before .before .before .loop .inv) (omega arith))
-
-add-k : tie.Need-add-k Inv-loop μ-loop
-add-k c = search needs
-
-loop-less : tie.Need-loop-less Inv-loop μ-loop
-loop-less c = search needs
-
-loop-again : tie.Need-loop-again Inv-loop μ-loop
-loop-again c = putting-more (triangles .show) (c .before .before .before .before .before .before .before .before .before .before .before .before .args .corners .now) (c .before .before .before .before .before .before .before .before .loop .k) (c .before .before .before .before .before .before .before .before .loop .inv) (omega arith) (c .before .before .put-triangle .ensures .0) (c .before .before .put-triangle .ensures .1)
-
-same-length : tie.Need-same-length Inv-loop μ-loop
-same-length c = c .before .loop .inv .same
-
-returns : tie.Need-returns Inv-loop μ-loop
-returns c = putting-ends (triangles .show) (c .before .before .before .before .before .args .corners .now) (c .before .loop .k) (c .before .loop .inv) (omega arith)
+abbrev to-at-loop : tie.After-put-triangle Inv-loop μ-loop → tie.At-loop Inv-loop μ-loop
+to-at-loop p = search
 
 pub put-triangles-spec : {M : Type 1} → statement M
 put-triangles-spec =
     tie.close
-    (tie.spec
-    Inv-loop
-    μ-loop
-    loop-holds
-    mul-put-triangle
-    mul-put-triangle-2
-    shared-slice-read-put-triangle
-    mul-put-triangle-3
-    add-put-triangle
-    mul-put-triangle-4
-    shared-slice-read-put-triangle-2
-    mul-put-triangle-5
-    add-put-triangle-2
-    mul-put-triangle-6
-    shared-slice-read-put-triangle-3
-    put-triangle-requires
-    add-k
-    loop-less
-    loop-again
-    same-length
-    returns)
+    (tie.spec Inv-loop μ-loop
+    (λ c. search laying-begins)
+    (λ c. search needs)
+    (λ c. search needs)
+    (λ c. search needs)
+    (λ c. search needs)
+    (λ c. search needs)
+    (λ c. search needs)
+    (λ c. search needs)
+    (λ c. search needs)
+    (λ c. search needs)
+    (λ c. search needs)
+    (λ c. search needs)
+    (λ c κs.
+    let start : tie.Start Inv-loop μ-loop = search in let at-loop : tie.At-loop Inv-loop μ-loop = search in (
+      (
+        served _ _ (start .pre .0 .1) (3 * at-loop .loop .k) (omega arith),
+        served _ _ (start .pre .0 .1) (3 * at-loop .loop .k + 1) (omega arith),
+        served _ _
+            (start .pre .0 .1) (3 * at-loop .loop .k + 2) (omega arith),
+      ),
+      putting-room (triangles .show) _ (at-loop .loop .k) (at-loop .loop .inv) (omega arith),
+    ))
+    (λ c. search needs)
+    (λ c. search needs)
+    (λ c.
+    let after-put-triangle : tie.After-put-triangle Inv-loop μ-loop = search in let at-loop = to-at-loop after-put-triangle in
+    putting-more (triangles .show) _ (at-loop .loop .k) (at-loop .loop .inv) (omega arith) (after-put-triangle .put-triangle .ensures .0)
+    (after-put-triangle .put-triangle .ensures .1))
+    (λ c. c .before .loop .inv .same)
+    (λ c. putting-ends (triangles .show) _ (c .before .loop .k) (c .before .loop .inv) (omega arith)))

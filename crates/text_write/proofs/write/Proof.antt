@@ -6,83 +6,115 @@ use Rattle.text_write.proofs.Laws.Outcomes.{counts-refused, counted, no
 use Rattle.text_write.proofs.write.Statement.{statement}
 use Rattle.text_write.proofs.write.Tie as tie
 
-check-counts-requires : tie.Need-check-counts-requires
-check-counts-requires c κs = search needs
+abbrev to-after-refuses : tie.After-unwritten → tie.After-refuses
+to-after-refuses p = search
 
-refuses-requires : tie.Need-refuses-requires
-refuses-requires c κs = search needs
+abbrev to-after-check-counts : tie.After-refuses → tie.After-check-counts
+to-after-check-counts p = search
 
-unwritten-requires : tie.Need-unwritten-requires
-unwritten-requires c κs = search needs
+abbrev to-start : tie.After-check-counts → tie.Start
+to-start p = search
 
-returns : tie.Need-returns
-returns c = counts-refused (c .before .before .before .before .before .before .before .args .words .now) (c .before .before .before .before .before .before .before .args .corners .now) (c .before .before .before .before .before .before .before .args .text .now) _ (c .before .before .before .check-counts .ensures) _ (c .unwritten .ensures) (sym (c .before .before .refuses .ensures) ∙ c .before .if1 .taken)
+abbrev to-after-has-room : tie.After-unwritten2 → tie.After-has-room
+to-after-has-room p = search
 
-has-room-requires : tie.Need-has-room-requires
-has-room-requires c κs = counted (c .before .before .before .before .before .before .args .words .now) (c .before .before .before .before .before .before .args .corners .now) (c .before .before .before .before .before .before .args .text .now) _ (c .before .before .check-counts .ensures) (sym (c .before .refuses .ensures) ∙ c .if1 .left)
+abbrev to-after-refuses-2 : tie.After-has-room → tie.After-refuses
+to-after-refuses-2 p = search
 
-unwritten-requires-2 : tie.Need-unwritten-requires-2
-unwritten-requires-2 c κs = search needs
+abbrev to-else1 : tie.After-has-room → tie.Else1
+to-else1 p = search
 
-returns-2 : tie.Need-returns-2
-returns-2 c = no-room (c .before .before .before .before .before .before .before .before .before .args .words .now) (c .before .before .before .before .before .before .before .before .before .args .corners .now) (c .before .before .before .before .before .before .before .before .before .args .text .now) _ (c .before .before .before .before .before .check-counts .ensures) (sym (c .before .before .before .before .refuses .ensures) ∙ c .before .before .before .if1 .left) _ (c .before .before .has-room .ensures) _ (c .unwritten2 .ensures) (c .before .if2 .taken)
+abbrev to-after-first-unnamed : tie.After-unwritten3 → tie.After-first-unnamed
+to-after-first-unnamed p = search
 
-cast-first-unnamed : tie.Need-cast-first-unnamed
-cast-first-unnamed c = omega (arith, counted (c .before .before .before .before .before .before .before .before .args .words .now) (c .before .before .before .before .before .before .before .before .args .corners .now) (c .before .before .before .before .before .before .before .before .args .text .now) _ (c .before .before .before .before .check-counts .ensures) (sym (c .before .before .before .refuses .ensures) ∙ c .before .before .if1 .left) .few-points)
+abbrev to-after-has-room-2 : tie.After-first-unnamed → tie.After-has-room
+to-after-has-room-2 p = search
 
-first-unnamed-requires : tie.Need-first-unnamed-requires
-first-unnamed-requires c κs = search needs
+abbrev to-else2 : tie.After-first-unnamed → tie.Else2
+to-else2 p = search
 
-enum-known-i : tie.Need-enum-known-i
-enum-known-i c = search needs
+abbrev to-after-i : tie.After-unwritten3 → tie.After-i
+to-after-i p = search
 
-unwritten-requires-3 : tie.Need-unwritten-requires-3
-unwritten-requires-3 c κs = search needs
+abbrev to-after-first-unnamed-2 : tie.After-put-small → tie.After-first-unnamed
+to-after-first-unnamed-2 p = search
 
-returns-3 : tie.Need-returns-3
-returns-3 c = corner-refused (c .before .before .before .before .before .before .before .before .before .before .before .before .before .args .words .now) (c .before .before .before .before .before .before .before .before .before .before .before .before .before .args .corners .now) (c .before .before .before .before .before .before .before .before .before .before .before .before .before .args .text .now) _ (c .before .before .before .before .before .before .before .before .before .check-counts .ensures) (sym (c .before .before .before .before .before .before .before .before .refuses .ensures) ∙ c .before .before .before .before .before .before .before .if1 .left) _ (c .before .before .before .before .before .before .has-room .ensures) (c .before .before .before .before .before .if2 .left) _ (c .before .before .before .before .first-unnamed .ensures) _ _ (c .unwritten3 .ensures) (c .before .before .i .given .1)
+abbrev to-after-enum-told : tie.After-put-small → tie.After-enum-told
+to-after-enum-told p = search
 
-enum-told : tie.Need-enum-told
-enum-told c = search needs
+abbrev to-after-first-unnamed-3 : tie.After-put-large → tie.After-first-unnamed
+to-after-first-unnamed-3 p = search
 
-put-small-requires : tie.Need-put-small-requires
-put-small-requires c κs = (ready (c .before .before .before .before .before .before .before .before .before .before .before .before .before .args .words .now) (c .before .before .before .before .before .before .before .before .before .before .before .before .before .args .corners .now) (c .before .before .before .before .before .before .before .before .before .before .before .before .before .args .text .now) _ (c .before .before .before .before .before .before .before .before .before .check-counts .ensures) (sym (c .before .before .before .before .before .before .before .before .refuses .ensures) ∙ c .before .before .before .before .before .before .before .if1 .left) _ (c .before .before .before .before .before .before .has-room .ensures) (c .before .before .before .before .before .if2 .left) _ (c .before .before .before .before .first-unnamed .ensures) (c .before .before .enum-told .given .1), c .before .if3 .taken)
-
-put-large-requires : tie.Need-put-large-requires
-put-large-requires c κs = ready (c .before .before .before .before .before .before .before .before .before .before .before .before .before .args .words .now) (c .before .before .before .before .before .before .before .before .before .before .before .before .before .args .corners .now) (c .before .before .before .before .before .before .before .before .before .before .before .before .before .args .text .now) _ (c .before .before .before .before .before .before .before .before .before .check-counts .ensures) (sym (c .before .before .before .before .before .before .before .before .refuses .ensures) ∙ c .before .before .before .before .before .before .before .if1 .left) _ (c .before .before .before .before .before .before .has-room .ensures) (c .before .before .before .before .before .if2 .left) _ (c .before .before .before .before .first-unnamed .ensures) (c .before .before .enum-told .given .1)
-
-same-length : tie.Need-same-length
-same-length c = search needs
-
-returns-4 : tie.Need-returns-4
-returns-4 c = wrote (c .before .before .before .before .before .before .before .before .before .before .before .before .before .before .before .before .args .words .now) (c .before .before .before .before .before .before .before .before .before .before .before .before .before .before .before .before .args .corners .now) (c .before .before .before .before .before .before .before .before .before .before .before .before .before .before .before .before .args .text .now) _ (c .before .before .before .before .before .before .before .before .before .before .before .before .check-counts .ensures) (sym (c .before .before .before .before .before .before .before .before .before .before .before .refuses .ensures) ∙ c .before .before .before .before .before .before .before .before .before .before .if1 .left) _ (c .before .before .before .before .before .before .before .before .before .has-room .ensures) (c .before .before .before .before .before .before .before .before .if2 .left) _ (c .before .before .before .before .before .before .before .first-unnamed .ensures) (c .before .before .before .before .before .enum-told .given .1) _ _ (c .before .before .put-small .ensures)
-
-same-length-2 : tie.Need-same-length-2
-same-length-2 c = search needs
-
-returns-5 : tie.Need-returns-5
-returns-5 c = wrote (c .before .before .before .before .before .before .before .before .before .before .before .before .before .before .before .before .args .words .now) (c .before .before .before .before .before .before .before .before .before .before .before .before .before .before .before .before .args .corners .now) (c .before .before .before .before .before .before .before .before .before .before .before .before .before .before .before .before .args .text .now) _ (c .before .before .before .before .before .before .before .before .before .before .before .before .check-counts .ensures) (sym (c .before .before .before .before .before .before .before .before .before .before .before .refuses .ensures) ∙ c .before .before .before .before .before .before .before .before .before .before .if1 .left) _ (c .before .before .before .before .before .before .before .before .before .has-room .ensures) (c .before .before .before .before .before .before .before .before .if2 .left) _ (c .before .before .before .before .before .before .before .first-unnamed .ensures) (c .before .before .before .before .before .enum-told .given .1) _ _ (c .before .before .put-large .ensures)
+abbrev to-after-enum-told-2 : tie.After-put-large → tie.After-enum-told
+to-after-enum-told-2 p = search
 
 pub write-spec : {M : Type 1} → statement M
 write-spec =
     tie.close
     (tie.spec
-    check-counts-requires
-    refuses-requires
-    unwritten-requires
-    returns
-    has-room-requires
-    unwritten-requires-2
-    returns-2
-    cast-first-unnamed
-    first-unnamed-requires
-    enum-known-i
-    unwritten-requires-3
-    returns-3
-    enum-told
-    put-small-requires
-    put-large-requires
-    same-length
-    returns-4
-    same-length-2
-    returns-5)
+    (λ c κs. search needs)
+    (λ c κs. search needs)
+    (λ c κs. search needs)
+    (λ c.
+    let after-refuses = to-after-refuses c in
+    counts-refused _ _ _ _ (to-after-check-counts after-refuses .check-counts .ensures) _ (c .unwritten .ensures)
+    (sym (after-refuses .refuses .ensures) ∙ c .before .if1 .taken))
+    (λ c κs.
+    let after-refuses : tie.After-refuses = search in let after-check-counts = to-after-check-counts after-refuses in
+    let start = to-start after-check-counts in
+    counted (start .args .words .now) (start .args .corners .now) (start .args .text .now) _ (after-check-counts .check-counts .ensures)
+    (sym (c .before .refuses .ensures) ∙ c .if1 .left))
+    (λ c κs. search needs)
+    (λ c.
+    let after-has-room = to-after-has-room c in let after-refuses = to-after-refuses-2 after-has-room in
+    no-room _ _ _ _ (to-after-check-counts after-refuses .check-counts .ensures)
+    (sym (after-refuses .refuses .ensures) ∙ (to-else1 after-has-room) .if1 .left) _ (after-has-room .has-room .ensures) _ (c .unwritten2 .ensures)
+    (c .before .if2 .taken))
+    (λ c.
+    let after-has-room : tie.After-has-room = search in let after-refuses = to-after-refuses-2 after-has-room in
+    let after-check-counts = to-after-check-counts after-refuses in let start = to-start after-check-counts in
+    omega (
+      arith,
+      counted (start .args .words .now) (start .args .corners .now) (start .args .text .now) _ (after-check-counts .check-counts .ensures)
+          (sym (after-refuses .refuses .ensures) ∙ (to-else1 after-has-room) .if1 .left) .few-points,
+    ))
+    (λ c κs. search needs)
+    (λ c. search needs)
+    (λ c κs. search needs)
+    (λ c.
+    let after-first-unnamed = to-after-first-unnamed c in let after-has-room = to-after-has-room-2 after-first-unnamed in
+    let after-refuses = to-after-refuses-2 after-has-room in
+    corner-refused _ _ _ _ (to-after-check-counts after-refuses .check-counts .ensures)
+    (sym (after-refuses .refuses .ensures) ∙ (to-else1 after-has-room) .if1 .left) _ (after-has-room .has-room .ensures)
+    (to-else2 after-first-unnamed .if2 .left) _ (after-first-unnamed .first-unnamed .ensures) _ _ (c .unwritten3 .ensures) (to-after-i c .i .given .1))
+    (λ c. search needs)
+    (λ c κs.
+    let after-first-unnamed : tie.After-first-unnamed = search in let after-has-room = to-after-has-room-2 after-first-unnamed in
+    let after-refuses = to-after-refuses-2 after-has-room in let after-enum-told : tie.After-enum-told = search in (
+      ready _ _ _ _ (to-after-check-counts after-refuses .check-counts .ensures)
+          (sym (after-refuses .refuses .ensures) ∙ (to-else1 after-has-room) .if1 .left) _ (after-has-room .has-room .ensures)
+          (to-else2 after-first-unnamed .if2 .left) _ (after-first-unnamed .first-unnamed .ensures) (after-enum-told .enum-told .given .1),
+      c .before .if3 .taken,
+    ))
+    (λ c κs.
+    let after-first-unnamed : tie.After-first-unnamed = search in let after-has-room = to-after-has-room-2 after-first-unnamed in
+    let after-refuses = to-after-refuses-2 after-has-room in let after-enum-told : tie.After-enum-told = search in
+    ready _ _ _ _ (to-after-check-counts after-refuses .check-counts .ensures)
+    (sym (after-refuses .refuses .ensures) ∙ (to-else1 after-has-room) .if1 .left) _ (after-has-room .has-room .ensures)
+    (to-else2 after-first-unnamed .if2 .left) _ (after-first-unnamed .first-unnamed .ensures) (after-enum-told .enum-told .given .1))
+    (λ c. search needs)
+    (λ c.
+    let after-put-small : tie.After-put-small = search in let after-first-unnamed = to-after-first-unnamed-2 after-put-small in
+    let after-has-room = to-after-has-room-2 after-first-unnamed in let after-refuses = to-after-refuses-2 after-has-room in
+    wrote _ _ _ _ (to-after-check-counts after-refuses .check-counts .ensures)
+    (sym (after-refuses .refuses .ensures) ∙ (to-else1 after-has-room) .if1 .left) _ (after-has-room .has-room .ensures)
+    (to-else2 after-first-unnamed .if2 .left) _ (after-first-unnamed .first-unnamed .ensures) (to-after-enum-told after-put-small .enum-told .given .1) _ _
+    (after-put-small .put-small .ensures))
+    (λ c. search needs)
+    (λ c.
+    let after-put-large : tie.After-put-large = search in let after-first-unnamed = to-after-first-unnamed-3 after-put-large in
+    let after-has-room = to-after-has-room-2 after-first-unnamed in let after-refuses = to-after-refuses-2 after-has-room in
+    wrote _ _ _ _ (to-after-check-counts after-refuses .check-counts .ensures)
+    (sym (after-refuses .refuses .ensures) ∙ (to-else1 after-has-room) .if1 .left) _ (after-has-room .has-room .ensures)
+    (to-else2 after-first-unnamed .if2 .left) _ (after-first-unnamed .first-unnamed .ensures) (to-after-enum-told-2 after-put-large .enum-told .given .1) _
+    _ (after-put-large .put-large .ensures)))

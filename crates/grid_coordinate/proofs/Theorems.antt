@@ -1,0 +1,4 @@
+-- What is true of one coordinate: its answer is determined, and the whole number is the nearest, a tie going to the even one.
+pub use Rattle.grid_coordinate.proofs.Laws.Only.{only}
+pub use Rattle.grid_coordinate.proofs.Laws.Rests.{whole-nearest, rest-half, tie-even}
+pub use Rattle.grid_coordinate.proofs.Laws.Nearest.{near-only}
