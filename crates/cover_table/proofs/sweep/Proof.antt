@@ -1,4 +1,4 @@
--- `sweep` takes the turns of a column from the last position down.
+-- `sweep` offers every apex of a column from the last position down.
 use Rattle.cover_table.proofs.Laws.Offers.{Going, going-begins, going-room, going-on, going-ends}
 use borrow.Author.Needs.{needs}
 use Rattle.cover_table.proofs.sweep.Statement.{statement}

@@ -1,4 +1,4 @@
--- The verdict over all loops, with the tray from one turn to the next.
+-- The verdict over all loops, with the tray from one loop to the next.
 use mathlib.Core.Path.{_≡_, refl, sym, subst}
 use mathlib.Core.Bool.{Bool}
 use mathlib.Core.List.{List, [], _++_}

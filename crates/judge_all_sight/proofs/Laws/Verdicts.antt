@@ -125,7 +125,7 @@ module _ {grid : List ℤ} {input : List ℕ} {rims : List Bool} {rs : List (Lis
         fault-decides below (d .rims-many) (d .states-many) g (Misdeclared l)
         (subst (λ (k : Bool). FaultIf grid input (take at set) l k (getD rs l []) (getD states l 0) (drop at set) (Misdeclared l)) is-rim (refl, n))
 
-    -- and after its own the next loop's turn comes
+    -- and after its own the next loop comes
     pub rim-goes : getD states l 0 ≡ rimMark → Gone grid input rims rs states set (l + 1) (r + getD lengths l 0) at
     rim-goes e =
         subst (Gone grid input rims rs states set (l + 1) (r + getD lengths l 0)) (add-zero at)
@@ -147,7 +147,7 @@ module _ {grid : List ℤ} {input : List ℕ} {rims : List Bool} {rs : List (Lis
         (finds-fault
         (subst (λ (x : List ℕ). Finds grid input (take at set) l x (getD states l 0) (drop at set) a) part-is f) n))
 
-    -- and after one that did the next loop's turn comes
+    -- and after one that did the next loop comes
     pub turn-goes : {a : Answer} {k : ℕ} → Finds grid input (take at set) l part (getD states l 0) (drop at set) a → a ≡ Done
         → ((ring : List ℕ) → length ring ≡ r + getD lengths l 0 - r → k ≡ taken ring (getD states l 0)) → Gone grid input rims rs states set (l + 1) (r + getD lengths l 0) (at + k)
     turn-goes {a} {k} f e t =

@@ -13,7 +13,7 @@ use Rattle.cover_rules.specs.Covers.{Triangle, on}
 use Rattle.cover_rules.specs.Sets.{Alike}
 use Rattle.judge_rules.specs.Faults.{Right, Fault}
 
--- what a loop's turn says: done, and the loop is right; or the fault that it has
+-- what is said of a loop: done, and the loop is right; or the fault that it has
 pub data Finds (grid : List ℤ) (input laid : List ℕ) (l : ℕ) (ring : List ℕ) (state : ℕ) (set : List ℕ) (a : Answer) : Type 0 where
   right : a ≡ Done → Right grid input laid ring state set → Finds grid input laid l ring state set a
   fault : Fault grid input laid l ring state set a → Finds grid input laid l ring state set a

@@ -6,7 +6,7 @@ use Rattle.base_limits.specs.Limits as limits
 use Rattle.surface_rules.specs.Edges.{Sound}
 use Rattle.surface_twins.specs.Workings.Turns.{Turns}
 
--- the finder has room and its table, and every corner names a point
+-- there is room, and the table of turns, and every corner names a point
 pub record Ready (corners turns rings lengths firsts : List ℕ) : Type 0 where
   pub sound : Sound corners
   pub few : length corners ≤ limits.corners
@@ -17,7 +17,7 @@ pub record Ready (corners turns rings lengths firsts : List ℕ) : Type 0 where
   pub lengths-long : length corners / 3 ≤ length lengths
   pub firsts-long : length corners / 3 ≤ length firsts
 
--- the path and the places that are lent to the finder are long enough
+-- the path and the places that are lent are long enough
 pub record Lent (corners path places : List ℕ) : Type 0 where
   pub path-long : length corners ≤ length path
   pub named : (i : ℕ) → i < length corners → getD corners i 0 < length places

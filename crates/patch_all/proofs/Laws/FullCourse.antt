@@ -1,4 +1,4 @@
--- The course over all loops, with the tray from one turn to the next.
+-- The course over all loops, with the tray from one loop to the next.
 use mathlib.Core.Path.{_≡_, sym, ap, subst}
 use mathlib.Core.Bool.{Bool, false}
 use mathlib.Core.List.{List, [], _++_}

@@ -1,4 +1,4 @@
--- `patch_each` takes the turns of all loops but rims, with one tray.
+-- `patch_each` patches all loops but rims, with one tray.
 use Rattle.fill_scratch.specs.Workings.Rings.{RingPlace}
 use Rattle.fill_scratch.proofs.Laws.Tray.{input-room}
 use Rattle.patch_all.proofs.Laws.Going.{places, state-in, weight-in, going-ends}

@@ -1,4 +1,4 @@
--- `turn` goes by how long the loop is.
+-- `patch_loop` goes by how long the loop is.
 use borrow.Author.Needs.{needs}
 use Rattle.patch_loop.proofs.Laws.Takes.{three-of, takes-three, takes-long}
 use Rattle.patch_loop.proofs.patch_loop.Statement.{statement}

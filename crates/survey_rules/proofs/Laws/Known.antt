@@ -72,7 +72,7 @@ module _ {words corners table : List ℕ} {grid : List ℤ} {rings lengths lent 
   pub enough : {n : ℕ} → limits.triangles ≤ n → length corners / 3 ≤ n
   enough h = omega (arith, k .fits .few-corners)
 
-  -- the finder can list the loops, in the lent buffers or apart from them
+  -- the loops can be listed, in the lent buffers or apart from them
   pub ready : (found sizes firsts : List ℕ) → length corners ≤ length table → length corners ≤ length found → length corners / 3 ≤ length sizes → length corners / 3 ≤ length firsts
       → Ready corners table found sizes firsts
   ready found sizes firsts t r l f = record {
