@@ -2,7 +2,8 @@
 use Prim.Native.Nat.{ℕ}
 use mathlib.Core.Bool.{Bool, true, false}
 use Rattle.base_answers.specs.declared.Answer.{Answer}
-use Rattle.base_answers.specs.declared.Answer.the-variants.{Done, Words, Corners, Buffer, Unnamed, Twice, Repeated, NotFinite, TooFar, States, Line, Misdeclared, Uncovered, Barred, Heavy, LeftOver}
+use Rattle.base_answers.specs.declared.Answer.the-variants.{Done, Words, Corners, Buffer, Unnamed, Twice, Repeated, NotFinite, TooFar, States, Line}
+use Rattle.base_answers.specs.declared.Answer.the-variants.{Misdeclared, Uncovered, Barred, Heavy, LeftOver}
 
 abbrev pub numberOf : Answer → ℕ
 numberOf Done = 0

@@ -64,7 +64,8 @@ crossed-rims grid =
     subst (λ (k : List Bool). Course grid crossed [] k (ringList crossed) (rim ∷ rim ∷ [])) (sym (ap₂ (λ (x y : Bool). x ∷ y ∷ []) (first grid) (second grid))) (refl, (refl, tt))
 
 pub table : Table
-unfolding numbersBelow many unite smallestBy smallestOf pieceOf stride strideOf runAt pieceAt outruns isRim ofBits fits units whole cornerRefusal unnamed twice repeats loops loopsBelow loopsOf growAll grow startsAt leads cycle around isOpen next turn step twin goes following least weightOf pointOf follows diagonal edge between barred
+unfolding numbersBelow many unite smallestBy smallestOf pieceOf stride strideOf runAt pieceAt outruns isRim ofBits fits units whole cornerRefusal unnamed twice repeats
+    loops loopsBelow loopsOf growAll grow startsAt leads cycle around isOpen next turn step twin goes following least weightOf pointOf follows diagonal edge between barred
 table = record {
   half = (record { number = tt; nearest = refl; within = lit≤ tt }, record { some = nonzero _ (lit< tt); fitting = tt; number = tt; exact = refl });
   half-up = (record { number = tt; nearest = refl; within = lit≤ tt }, record { some = nonzero _ (lit< tt); fitting = tt; number = tt; exact = refl });

@@ -4,6 +4,7 @@ ghost use mathlib.Core.Path.{_≡_};
 ghost use mathlib.Core.List.{[]};
 ghost use Prim.Native.Nat.{ℕ, _<_, _≤_};
 ghost use lib.ListN.{length, getD};
+ghost use lib.Seq.{slice};
 ghost use Rattle.base_types.specs.Lent.{was, left};
 ghost use Rattle.base_limits.specs.Limits.{longest};
 ghost use Rattle.cover_bars.specs.Workings.Chains.{ChainRoom, ChainDone, InputRoom, Tells, LaidRoom, LaidDone, StampRoom, StampDone, RowsRoom, FromDone, AllDone, SidesDone, BarsRoom, BarsDone};
@@ -62,7 +63,7 @@ pub fn chain_laid(
     e: usize,
 ) -> usize
     requires { ⌜ LaidRoom (now patches) p end (now heads) (now links) (now ends) e ⌝ }
-    ensures { λ r. ⌜ LaidDone (was patches) p end (was heads) (was links) (was ends) e r (left heads) (left links) (left ends) ⌝ }
+    ensures { λ r. ⌜ LaidDone (slice p end (was patches)) (was heads) (was links) (was ends) e r (left heads) (left links) (left ends) ⌝ }
 {
     let mut q = p;
     let mut f = e;

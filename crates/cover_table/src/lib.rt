@@ -8,7 +8,7 @@ ghost use Rattle.base_types.specs.Lent.{was, left};
 ghost use Rattle.base_limits.specs.Limits.{longest};
 ghost use Rattle.cover_weight.specs.Edition.{along};
 ghost use Rattle.cover_bits.specs.Workings.Masks.{bit};
-ghost use Rattle.cover_table.specs.Workings.Table.{settledOf, Points, Sweepable, Offered, Swept, Fillable, FillsTable};
+ghost use Rattle.cover_table.specs.Workings.Table.{settledOf, Points, strips, Sweepable, Offered, Swept, Fillable, FillsTable};
 ghost use Rattle.cover_table.specs.Workings.Loops.{GatherRoom, LoopRoom, Found};
 use base_types::Loop;
 use cover_column::FAR;
@@ -33,8 +33,8 @@ fn offer(
     zs: &[f64],
     column: &mut [f64],
 )
-    requires { ⌜ Sweepable k (suc m) (now bars) (now xs) (now ys) (now zs) (now column) (now table) ⌝ }
-    ensures { λ _. ⌜ Offered k m (was bars) (was xs) (was ys) (was zs) (was column) (was table) (left column) (left table) ⌝ }
+    requires { ⌜ Sweepable k (suc m) (now bars) (strips (now xs) (now ys) (now zs) (now column)) (now table) ⌝ }
+    ensures { λ _. ⌜ Offered k m (was bars) (strips (was xs) (was ys) (was zs) (was column)) (was table) (strips (was xs) (was ys) (was zs) (left column)) (left table) ⌝ }
 {
     let v = settled(bars[m], k, column[m]);
     table[WS + cover_column::row_of(k) + m] = v;
@@ -53,8 +53,8 @@ fn sweep(
     zs: &[f64],
     column: &mut [f64],
 )
-    requires { ⌜ Sweepable k k (now bars) (now xs) (now ys) (now zs) (now column) (now table) ⌝ }
-    ensures { λ _. ⌜ Swept k (was bars) (was xs) (was ys) (was zs) (was column) (was table) (left table) ⌝ }
+    requires { ⌜ Sweepable k k (now bars) (strips (now xs) (now ys) (now zs) (now column)) (now table) ⌝ }
+    ensures { λ _. ⌜ Swept k (was bars) (strips (was xs) (was ys) (was zs) (was column)) (was table) (left table) ⌝ }
 {
     let mut m = k;
     while 0 < m {

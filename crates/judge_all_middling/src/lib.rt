@@ -7,6 +7,7 @@ use base_types::State;
 use base_types::Surface;
 use cover_column::FAR;
 use cover_column::PLACES;
+use judge_loop::InHand;
 
 // Edges of the input, and at most as many diagonals.
 const EDGES: usize = 2 * Surface::CORNERS;
@@ -45,21 +46,24 @@ pub fn verdict_all(
             l += 1;
             continue;
         }
+        let hand = InHand {
+            l,
+            state: states[l],
+            at,
+            edges: e,
+            base: (r + 1) as u16,
+        };
         let found = judge_loop::judge_loop(
             grid,
             &rings[r..end],
-            states[l],
             set,
-            at,
-            l,
             &mut heads,
             &mut links,
             &mut ends,
             &mut stamps,
-            (r + 1) as u16,
             &mut rows,
             &mut table,
-            e,
+            hand,
         );
         let answer = found.answer;
         let Answer::Done = answer else {

@@ -11,6 +11,7 @@ use lib.ListN.{length, getD, take, drop}
 use Rattle.base_answers.specs.Numbers.{refusing, numberOf}
 use Rattle.base_answers.specs.declared.Answer.{Answer}
 use Rattle.base_answers.specs.declared.Answer.the-variants.{Done, Misdeclared, Uncovered, Barred, Heavy}
+use Rattle.base_limits.specs.States as stated
 use Rattle.surface_rules.specs.Threes.{threes}
 use Rattle.cover_rules.specs.Covers.{Cover, Uses, vertexOf}
 use Rattle.cover_rules.proofs.Laws.Closed.{Different, covered-once}
@@ -31,38 +32,35 @@ rings-rest r rings h = record {
   different = λ l s. h .different (suc l) (omega arith);
 }
 
-apart : (state a b : ℕ) → (a ≡ b → ⊥) → state ≡ a → state ≡ b → ⊥
-apart state a b n e f = n (sym e ∙ f)
-
 -- ---- one loop
 
-module _ (grid : List ℤ) (input laid ring : List ℕ) (state : ℕ) (set : List ℕ) where
-  -- a right loop is declared rightly,
+-- if a right loop is declared patched, the set has a cover that is allowed and has no lighter one
+pub record RightlyPatched (grid : List ℤ) (input laid ring set : List ℕ) : Type 0 where
+  pub cover : Cover
+  pub taken : IsCover ring set cover
+  pub allowed : AllowedHere input laid ring cover
+  pub least : Lighter grid input laid ring cover → ⊥
+
+module _ {grid : List ℤ} {input laid ring : List ℕ} {state : ℕ} {set : List ℕ} where
+  -- a right loop is declared rightly
   pub right-not-wrong : Right grid input laid ring state set → WrongState input laid ring state → ⊥
   right-not-wrong (patched e s c t a n) (no-state x y z) = x e
-  right-not-wrong (patched e s c t a n) (two-on-a-short f g) = apart state 1 2 (λ h. omega arith) e f
+  right-not-wrong (patched e s c t a n) (two-on-a-short f g) = omega arith
   right-not-wrong (patched e s c t a n) (not-two-on-a-long f g) = no-longer ring s g
-  right-not-wrong (patched e s c t a n) (three-with-a-cover f d b) = apart state 1 3 (λ h. omega arith) e f
+  right-not-wrong (patched e s c t a n) (three-with-a-cover f d b) = omega arith
   right-not-wrong (long e s) (no-state x y z) = y e
   right-not-wrong (long e s) (two-on-a-short f g) = no-longer ring g s
   right-not-wrong (long e s) (not-two-on-a-long f g) = f e
-  right-not-wrong (long e s) (three-with-a-cover f d b) = apart state 2 3 (λ h. omega arith) e f
+  right-not-wrong (long e s) (three-with-a-cover f d b) = omega arith
   right-not-wrong (open-left e s n) (no-state x y z) = z e
-  right-not-wrong (open-left e s n) (two-on-a-short f g) = apart state 3 2 (λ h. omega arith) e f
+  right-not-wrong (open-left e s n) (two-on-a-short f g) = omega arith
   right-not-wrong (open-left e s n) (not-two-on-a-long f g) = no-longer ring s g
   right-not-wrong (open-left e s n) (three-with-a-cover f d b) = n d b
 
-  -- and if it is declared patched, the set has a cover that is allowed and has no lighter one
-  pub record RightlyPatched : Type 0 where
-    pub cover : Cover
-    pub taken : IsCover ring set cover
-    pub allowed : AllowedHere input laid ring cover
-    pub least : Lighter grid input laid ring cover → ⊥
-
-  pub right-patched : state ≡ 1 → Right grid input laid ring state set → RightlyPatched
+  pub right-patched : state ≡ stated.patched → Right grid input laid ring state set → RightlyPatched grid input laid ring set
   right-patched f (patched e s c t a n) = record { cover = c; taken = t; allowed = a; least = n }
-  right-patched f (long e s) = absurd (apart state 1 2 (λ h. omega arith) f e)
-  right-patched f (open-left e s n) = absurd (apart state 1 3 (λ h. omega arith) f e)
+  right-patched f (long e s) = absurd (omega arith)
+  right-patched f (open-left e s n) = absurd (omega arith)
 
 -- the set is one cover at most: the one with a barred diagonal is not the allowed one, and the one that has a lighter one not the least
 module _ (ring set : List ℕ) (different : Different (length ring) (vertexOf ring)) where
@@ -80,68 +78,68 @@ module _ (ring set : List ℕ) (different : Different (length ring) (vertexOf ri
       → (Lighter grid input laid ring c → ⊥) → ⊥
   heavy-not-least grid input laid h c t n = n (subst (Lighter grid input laid ring) (one-cover (h .cover) c (h .taken) t) (h .lighter))
 
-module _ (grid : List ℤ) (input laid : List ℕ) (l : ℕ) (ring : List ℕ) (state : ℕ) (set : List ℕ) where
+said : {a : Answer} (b : Answer) (n : ℕ) → numberOf b ≡ suc n → a ≡ b → a ≡ Done → ⊥
+said b n k e d = let z : numberOf b ≡ numberOf Done = ap numberOf (sym e ∙ d) in omega (arith, k)
+
+module _ {grid : List ℤ} {input laid : List ℕ} {l : ℕ} {ring : List ℕ} {state : ℕ} {set : List ℕ} where
   -- a fault is no refusal, and something is said
-  pub fault-told : (a : Answer) → Fault grid input laid l ring state set a → refusing a ≡ false
-  fault-told a (misdeclared e w) = ap refusing e
-  fault-told a (no-cover e s n) = ap refusing e
-  fault-told a (cover-barred e s n) = ap refusing e
-  fault-told a (too-heavy e s n) = ap refusing e
+  pub fault-told : {a : Answer} → Fault grid input laid l ring state set a → refusing a ≡ false
+  fault-told (misdeclared e w) = ap refusing e
+  fault-told (no-cover e s n) = ap refusing e
+  fault-told (cover-barred e s n) = ap refusing e
+  fault-told (too-heavy e s n) = ap refusing e
 
-  not-done : (a b : Answer) (n : ℕ) → numberOf b ≡ suc n → a ≡ b → a ≡ Done → ⊥
-  not-done a b n k e d = let z : numberOf b ≡ numberOf Done = ap numberOf (sym e ∙ d) in omega (arith, k)
-
-  pub fault-said : (a : Answer) → Fault grid input laid l ring state set a → a ≡ Done → ⊥
-  fault-said a (misdeclared e w) = not-done a (Misdeclared l) 10 refl e
-  fault-said a (no-cover e s n) = not-done a (Uncovered l) 11 refl e
-  fault-said a (cover-barred e s n) = not-done a (Barred l) 12 refl e
-  fault-said a (too-heavy e s n) = not-done a (Heavy l) 13 refl e
+  pub fault-said : {a : Answer} → Fault grid input laid l ring state set a → a ≡ Done → ⊥
+  fault-said (misdeclared e w) = said (Misdeclared l) 10 refl e
+  fault-said (no-cover e s n) = said (Uncovered l) 11 refl e
+  fault-said (cover-barred e s n) = said (Barred l) 12 refl e
+  fault-said (too-heavy e s n) = said (Heavy l) 13 refl e
 
   module _ (different : Different (length ring) (vertexOf ring)) where
-    pub fault-once : (a b : Answer) → Fault grid input laid l ring state set a → Fault grid input laid l ring state set b → a ≡ b
-    fault-once a b (misdeclared e w) (misdeclared f x) = e ∙ sym f
-    fault-once a b (misdeclared e w) (no-cover f s n) = absurd (s .not-wrong w)
-    fault-once a b (misdeclared e w) (cover-barred f s n) = absurd (s .not-wrong w)
-    fault-once a b (misdeclared e w) (too-heavy f s n) = absurd (s .not-wrong w)
-    fault-once a b (no-cover e s n) (misdeclared f w) = absurd (s .not-wrong w)
-    fault-once a b (no-cover e s n) (no-cover f t m) = e ∙ sym f
-    fault-once a b (no-cover e s n) (cover-barred f t m) = absurd (n (m .cover) (m .taken))
-    fault-once a b (no-cover e s n) (too-heavy f t m) = absurd (n (m .cover) (m .taken))
-    fault-once a b (cover-barred e s n) (misdeclared f w) = absurd (s .not-wrong w)
-    fault-once a b (cover-barred e s n) (no-cover f t m) = absurd (m (n .cover) (n .taken))
-    fault-once a b (cover-barred e s n) (cover-barred f t m) = e ∙ sym f
-    fault-once a b (cover-barred e s n) (too-heavy f t m) = absurd (barred-not-allowed ring set different input laid n (m .cover) (m .taken) (m .allowed))
-    fault-once a b (too-heavy e s n) (misdeclared f w) = absurd (s .not-wrong w)
-    fault-once a b (too-heavy e s n) (no-cover f t m) = absurd (m (n .cover) (n .taken))
-    fault-once a b (too-heavy e s n) (cover-barred f t m) = absurd (barred-not-allowed ring set different input laid m (n .cover) (n .taken) (n .allowed))
-    fault-once a b (too-heavy e s n) (too-heavy f t m) = e ∙ sym f
+    pub fault-once : {a b : Answer} → Fault grid input laid l ring state set a → Fault grid input laid l ring state set b → a ≡ b
+    fault-once (misdeclared e w) (misdeclared f x) = e ∙ sym f
+    fault-once (misdeclared e w) (no-cover f s n) = absurd (s .not-wrong w)
+    fault-once (misdeclared e w) (cover-barred f s n) = absurd (s .not-wrong w)
+    fault-once (misdeclared e w) (too-heavy f s n) = absurd (s .not-wrong w)
+    fault-once (no-cover e s n) (misdeclared f w) = absurd (s .not-wrong w)
+    fault-once (no-cover e s n) (no-cover f t m) = e ∙ sym f
+    fault-once (no-cover e s n) (cover-barred f t m) = absurd (n (m .cover) (m .taken))
+    fault-once (no-cover e s n) (too-heavy f t m) = absurd (n (m .cover) (m .taken))
+    fault-once (cover-barred e s n) (misdeclared f w) = absurd (s .not-wrong w)
+    fault-once (cover-barred e s n) (no-cover f t m) = absurd (m (n .cover) (n .taken))
+    fault-once (cover-barred e s n) (cover-barred f t m) = e ∙ sym f
+    fault-once (cover-barred e s n) (too-heavy f t m) = absurd (barred-not-allowed ring set different input laid n (m .cover) (m .taken) (m .allowed))
+    fault-once (too-heavy e s n) (misdeclared f w) = absurd (s .not-wrong w)
+    fault-once (too-heavy e s n) (no-cover f t m) = absurd (m (n .cover) (n .taken))
+    fault-once (too-heavy e s n) (cover-barred f t m) = absurd (barred-not-allowed ring set different input laid m (n .cover) (n .taken) (n .allowed))
+    fault-once (too-heavy e s n) (too-heavy f t m) = e ∙ sym f
 
-    pub right-no-fault : (a : Answer) → Right grid input laid ring state set → Fault grid input laid l ring state set a → ⊥
-    right-no-fault a r (misdeclared e w) = right-not-wrong grid input laid ring state set r w
-    right-no-fault a r (no-cover e s n) = let p = right-patched grid input laid ring state set (s .is-one) r in n (p .cover) (p .taken)
-    right-no-fault a r (cover-barred e s n) = let p = right-patched grid input laid ring state set (s .is-one) r in barred-not-allowed ring set different input laid n (p .cover) (p .taken) (p .allowed)
-    right-no-fault a r (too-heavy e s n) = let p = right-patched grid input laid ring state set (s .is-one) r in heavy-not-least ring set different grid input laid n (p .cover) (p .taken) (p .least)
+    pub right-no-fault : {a : Answer} → Right grid input laid ring state set → Fault grid input laid l ring state set a → ⊥
+    right-no-fault r (misdeclared e w) = right-not-wrong r w
+    right-no-fault r (no-cover e s n) = let p = right-patched (s .is-one) r in n (p .cover) (p .taken)
+    right-no-fault r (cover-barred e s n) = let p = right-patched (s .is-one) r in barred-not-allowed ring set different input laid n (p .cover) (p .taken) (p .allowed)
+    right-no-fault r (too-heavy e s n) = let p = right-patched (s .is-one) r in heavy-not-least ring set different grid input laid n (p .cover) (p .taken) (p .least)
 
 -- ---- rims or not
 
 module _ (grid : List ℤ) (input laid : List ℕ) (l : ℕ) where
   pub fault-told-if : (k : Bool) (ring : List ℕ) (state : ℕ) (set : List ℕ) (a : Answer) → FaultIf grid input laid l k ring state set a → refusing a ≡ false
   fault-told-if true ring state set a f = ap refusing (f .0)
-  fault-told-if false ring state set a f = fault-told grid input laid l ring state set a f
+  fault-told-if false ring state set a f = fault-told f
 
   pub fault-said-if : (k : Bool) (ring : List ℕ) (state : ℕ) (set : List ℕ) (a : Answer) → FaultIf grid input laid l k ring state set a → a ≡ Done → ⊥
   fault-said-if true ring state set a f e = omega (arith, ap numberOf (sym (f .0) ∙ e))
-  fault-said-if false ring state set a f e = fault-said grid input laid l ring state set a f e
+  fault-said-if false ring state set a f e = fault-said f e
 
   pub fault-once-if : (k : Bool) (ring : List ℕ) (state : ℕ) (set : List ℕ) → Different (length ring) (vertexOf ring) → (a b : Answer)
       → FaultIf grid input laid l k ring state set a → FaultIf grid input laid l k ring state set b → a ≡ b
   fault-once-if true ring state set d a b f g = f .0 ∙ sym (g .0)
-  fault-once-if false ring state set d a b f g = fault-once grid input laid l ring state set d a b f g
+  fault-once-if false ring state set d a b f g = fault-once d f g
 
   pub right-no-fault-if : (k : Bool) (ring : List ℕ) (state : ℕ) (set : List ℕ) → Different (length ring) (vertexOf ring) → (a : Answer)
       → RightIf grid input laid k ring state set → FaultIf grid input laid l k ring state set a → ⊥
   right-no-fault-if true ring state set d a r f = f .1 r
-  right-no-fault-if false ring state set d a r f = right-no-fault grid input laid l ring state set d a r f
+  right-no-fault-if false ring state set d a r f = right-no-fault d r f
 
 -- ---- all loops
 

@@ -1,2 +1,2 @@
 -- The laws of the listing program.
-pub mod Ends
+pub mod Printing

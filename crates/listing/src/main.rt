@@ -1,6 +1,7 @@
 // Reads a sheet text from standard input and prints its loops and their patches, or an answer line.
 ghost use Prim.Native.Nat.{_≤_};
 ghost use lib.ListN.{length};
+ghost use Rattle.program_lines.specs.Workings.Telling.{inventory};
 ghost use Rattle.program_roll.specs.Workings.Listed.{Listed};
 use base_answers::Answer;
 use base_types::PatchSet;
@@ -62,7 +63,7 @@ fn print(
     patches: &[u16],
 )
     requires { do most ← ⟦ROOM⟧; ⌜ most ≤ length (now room) ⌝ }
-    requires { ⌜ Listed (now rings) (now lengths) (now states) (now weights) (now patches) loops ⌝ }
+    requires { ⌜ Listed (inventory (now rings) (now lengths) (now states) (now weights) (now patches)) loops ⌝ }
 {
     let mut progress = program_roll::begin(room, answer, loops);
     let mut going = true;

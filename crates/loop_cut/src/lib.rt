@@ -4,7 +4,7 @@ ghost use lib.ListN.{take};
 ghost use Rattle.base_types.specs.Lent.{was, left};
 ghost use Rattle.surface_rules.specs.Buffers.{laid};
 ghost use Rattle.loop_rules.specs.Loops.{ring, startsAt};
-ghost use Rattle.loop_cut.specs.Workings.Growing.{Sought, RingRoom, part, CutRoom, WasCut, GrowRoom, Grew};
+ghost use Rattle.loop_cut.specs.Workings.Growing.{Sought, part, RingRoom, ledger, CutRoom, WasCut, GrowRoom, Grew};
 use surface_rules::Found;
 
 // How many loops were listed, how many vertices their rings have in all, and how many edges the path has.
@@ -26,8 +26,8 @@ pub fn grow(
     firsts: &mut [u16],
     at: Listed,
 ) -> Listed
-    requires { ⌜ GrowRoom (now corners) e f (now path) (now places) (now rings) (now lengths) (now firsts) at ⌝ }
-    ensures { λ r. ⌜ Grew (was corners) e (was path) at (was rings) (was lengths) (was firsts) (left path) (left places) r (left rings) (left lengths) (left firsts) ⌝ }
+    requires { ⌜ GrowRoom (now corners) e f (now path) (now places) (ledger (now rings) (now lengths) (now firsts)) at ⌝ }
+    ensures { λ r. ⌜ Grew (was corners) e (was path) at (ledger (was rings) (was lengths) (was firsts)) (left path) (left places) r (ledger (left rings) (left lengths) (left firsts)) ⌝ }
 {
     let depth = at.path;
     path[depth] = e as u16;
@@ -54,8 +54,8 @@ fn cut(
     firsts: &mut [u16],
     at: Listed,
 ) -> Listed
-    requires { ⌜ CutRoom (now corners) (now path) j end (now rings) (now lengths) (now firsts) at ⌝ }
-    ensures { λ r. ⌜ WasCut (was corners) (was path) j end at (was rings) (was lengths) (was firsts) r (left rings) (left lengths) (left firsts) ⌝ }
+    requires { ⌜ CutRoom (now corners) (now path) j end (ledger (now rings) (now lengths) (now firsts)) at ⌝ }
+    ensures { λ r. ⌜ WasCut (was corners) (was path) j end at (ledger (was rings) (was lengths) (was firsts)) r (ledger (left rings) (left lengths) (left firsts)) ⌝ }
 {
     let n = at.loops;
     let from = at.vertices;

@@ -3,8 +3,9 @@
 ghost use Rattle.base_types.specs.Lent.{was, left};
 ghost use Rattle.loop_rules.specs.Loops.{loops};
 ghost use Rattle.loop_cut.specs.Listing.{ListsLoops};
+ghost use Rattle.loop_cut.specs.Workings.Growing.{ledger};
 ghost use Rattle.loop_find.specs.Workings.Asked.{Ready, Lent};
-ghost use Rattle.loop_find.specs.Workings.Walking.{KeepsTurns, CycleRoom, CycleListed};
+ghost use Rattle.loop_find.specs.Workings.Walking.{KeepsTurns, walk, CycleRoom, CycleListed};
 use base_types::Surface;
 use loop_cut::Listed;
 use loop_leaders::WALKED;
@@ -79,8 +80,8 @@ fn list_cycle(
     firsts: &mut [u16],
     from: Listed,
 ) -> Listed
-    requires { ⌜ CycleRoom (now corners) h (now turns) (now path) (now places) (now rings) (now lengths) (now firsts) from ⌝ }
-    ensures { λ r. ⌜ CycleListed (was corners) h (was rings) (was lengths) (was firsts) (left turns) r (left rings) (left lengths) (left firsts) ⌝ }
+    requires { ⌜ CycleRoom (now corners) h (walk (now turns) (now path) (now places) (now rings) (now lengths) (now firsts)) from ⌝ }
+    ensures { λ r. ⌜ CycleListed (was corners) h (ledger (was rings) (was lengths) (was firsts)) (left turns) r (ledger (left rings) (left lengths) (left firsts)) ⌝ }
 {
     let mut at = from;
     let mut e = h;

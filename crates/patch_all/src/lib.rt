@@ -1,12 +1,13 @@
 // The course over all loops, in listed order.
 ghost use Rattle.base_types.specs.Lent.{was, left};
 ghost use Rattle.fill_scratch.specs.Workings.Rings.{AtSight};
-ghost use Rattle.patch_all.specs.Workings.Courses.{CourseRoom, CourseDone};
+ghost use Rattle.patch_all.specs.Workings.Courses.{docket, CourseRoom, CourseDone};
 use base_types::Loop;
 use base_types::State;
 use base_types::Surface;
 use cover_column::FAR;
 use cover_column::PLACES;
+use patch_sight::Spot;
 
 // Edges of the input, and at most as many diagonals.
 const EDGES: usize = 2 * Surface::CORNERS;
@@ -21,8 +22,10 @@ fn patch_at_sight(
     weights: &mut [u64],
     patches: &mut [u16],
 ) -> usize
-    requires { ⌜ CourseRoom (now grid) (now corners) (now rings) (now lengths) (now states) (now weights) (now patches) × AtSight (now lengths) (now states) ⌝ }
-    ensures { λ r. ⌜ CourseDone (was grid) (was corners) (was rings) (was lengths) (was states) (was weights) (was patches) r (left states) (left weights) (left patches) ⌝ }
+    requires { ⌜ CourseRoom (now grid) (now corners) (now rings) (now lengths) (docket (now states) (now weights) (now patches))
+        × AtSight (now lengths) (now states) ⌝ }
+    ensures { λ r. ⌜ CourseDone (was grid) (was corners) (was rings) (was lengths) (docket (was states) (was weights) (was patches))
+        r (docket (left states) (left weights) (left patches)) ⌝ }
 {
     let mut r = 0;
     let mut p = 0;
@@ -62,8 +65,9 @@ fn patch_each(
     weights: &mut [u64],
     patches: &mut [u16],
 ) -> usize
-    requires { ⌜ CourseRoom (now grid) (now corners) (now rings) (now lengths) (now states) (now weights) (now patches) ⌝ }
-    ensures { λ r. ⌜ CourseDone (was grid) (was corners) (was rings) (was lengths) (was states) (was weights) (was patches) r (left states) (left weights) (left patches) ⌝ }
+    requires { ⌜ CourseRoom (now grid) (now corners) (now rings) (now lengths) (docket (now states) (now weights) (now patches)) ⌝ }
+    ensures { λ r. ⌜ CourseDone (was grid) (was corners) (was rings) (was lengths) (docket (was states) (was weights) (was patches))
+        r (docket (left states) (left weights) (left patches)) ⌝ }
 {
     let mut heads = [0u16; Surface::POINTS];
     let mut links = [0u16; EDGES];
@@ -91,12 +95,14 @@ fn patch_each(
             &mut links,
             &mut ends,
             &mut stamps,
-            (r + 1) as u16,
             &mut rows,
             &mut table,
             patches,
-            p,
-            e,
+            Spot {
+                corners: p,
+                edges: e,
+                base: (r + 1) as u16,
+            },
         );
         states[l] = done.state;
         weights[l] = done.weight;
@@ -119,8 +125,9 @@ pub fn patch_all(
     weights: &mut [u64],
     patches: &mut [u16],
 ) -> usize
-    requires { ⌜ CourseRoom (now grid) (now corners) (now rings) (now lengths) (now states) (now weights) (now patches) ⌝ }
-    ensures { λ r. ⌜ CourseDone (was grid) (was corners) (was rings) (was lengths) (was states) (was weights) (was patches) r (left states) (left weights) (left patches) ⌝ }
+    requires { ⌜ CourseRoom (now grid) (now corners) (now rings) (now lengths) (docket (now states) (now weights) (now patches)) ⌝ }
+    ensures { λ r. ⌜ CourseDone (was grid) (was corners) (was rings) (was lengths) (docket (was states) (was weights) (was patches))
+        r (docket (left states) (left weights) (left patches)) ⌝ }
 {
     if fill_scratch::any_middling(lengths, states) {
         return patch_each(grid, corners, rings, lengths, states, weights, patches);

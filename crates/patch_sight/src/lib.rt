@@ -4,6 +4,13 @@ ghost use Rattle.base_types.specs.Lent.{was, left};
 ghost use Rattle.patch_sight.specs.Workings.Threes.{ThreeRoom, ThreeTook};
 use base_types::State;
 
+// Where a loop's turn begins: how many corners are laid, how many edges are chained, and what its stamps begin at.
+pub struct Spot {
+    pub corners: usize,
+    pub edges: usize,
+    pub base: u16,
+}
+
 // What became of the loop: its state and weight, how many corners are laid and how many edges chained after it.
 pub struct Became {
     pub state: u16,

@@ -1,8 +1,11 @@
 -- The lines that the programs print: a key, and numbers joined by commas.
+use mathlib.Core.Path.{_≡_}
 use mathlib.Core.List.{List, [], _∷_, _++_}
-use Prim.Native.Nat.{ℕ}
+use Prim.Native.Nat.{ℕ, _+_}
+use lib.ListN.{length}
 use Rattle.base_answers.specs.Numbers.{numberOf, placeOf}
 use Rattle.base_answers.specs.declared.Answer.{Answer}
+use Rattle.surface_rules.specs.Buffers.{laid}
 use Rattle.text_digits.specs.Numeral.{decimal}
 use Rattle.text_rules.specs.Text.{feed}
 use Rattle.text_sheet.specs.Sheet.{comma}
@@ -31,6 +34,11 @@ ring= = 114 ∷ 105 ∷ 110 ∷ 103 ∷ 61 ∷ []
 
 abbrev pub patch= : List ℕ
 patch= = 112 ∷ 97 ∷ 116 ∷ 99 ∷ 104 ∷ 61 ∷ []
+
+-- bytes were put into a buffer from a place on, and r is the place behind them
+pub record PutAt (at : ℕ) (bytes before : List ℕ) (r : ℕ) (after : List ℕ) : Type 0 where
+  pub put : after ≡ laid at bytes before
+  pub behind : r ≡ at + length bytes
 
 -- "`answer=number,place`"
 abbrev pub answerLine : Answer → List ℕ

@@ -6,11 +6,12 @@ ghost use Prim.Native.Nat.{_+_, _-_, _*_, _^_, _<_, _≤_};
 ghost use lib.Dec.{eqb};
 ghost use lib.ListN.{length};
 ghost use Rattle.base_types.specs.Lent.{was, left};
+ghost use Rattle.base_limits.specs.States as stated;
 ghost use Rattle.surface_rules.specs.Buffers.{over, laid};
 ghost use Rattle.text_digits.specs.Numeral.{size, places, decimal};
-ghost use Rattle.program_lines.specs.Lines.{answerLine, line, loops=, ring=};
+ghost use Rattle.program_lines.specs.Lines.{answerLine, line, loops=, ring=, PutAt};
 ghost use Rattle.program_lines.specs.Listing.{loopLines, patchLines};
-ghost use Rattle.program_lines.specs.Workings.Telling.{shown, NextRoom, TellsNext};
+ghost use Rattle.program_lines.specs.Workings.Telling.{inventory, shown, NextRoom, TellsNext};
 use base_answers::Answer;
 use base_types::Loop;
 use base_types::State;
@@ -60,7 +61,7 @@ fn put_digits(out: &mut [u8], at: usize, n: u64, size: usize)
 // Puts a number and the byte that ends it, and answers the place after that.
 pub fn put_number(out: &mut [u8], at: usize, n: u64, end: u8) -> usize
     requires { ⌜ at + size n + 1 ≤ length (now out) ⌝ }
-    ensures { λ r. ⌜ (left out ≡ laid at (decimal n ++ (end ∷ [])) (was out)) × (r ≡ at + size n + 1) ⌝ }
+    ensures { λ r. ⌜ PutAt at (decimal n ++ (end ∷ [])) (was out) r (left out) ⌝ }
 {
     let size = size_of(n);
     put_digits(out, at, n, size);
@@ -71,10 +72,7 @@ pub fn put_number(out: &mut [u8], at: usize, n: u64, end: u8) -> usize
 // Puts a line of a key and one number.
 fn put_one(out: &mut [u8], at: usize, key: &[u8], a: u64) -> usize
     requires { ⌜ at + length (line (now key) (a ∷ [])) ≤ length (now out) ⌝ }
-    ensures { λ r. ⌜
-        (left out ≡ laid at (line (was key) (a ∷ [])) (was out))
-        × (r ≡ at + length (line (was key) (a ∷ [])))
-        ⌝ }
+    ensures { λ r. ⌜ PutAt at (line (was key) (a ∷ [])) (was out) r (left out) ⌝ }
 {
     text_figures::put_bytes(out, at, key);
     put_number(out, at + key.len(), a, b'\n')
@@ -83,10 +81,7 @@ fn put_one(out: &mut [u8], at: usize, key: &[u8], a: u64) -> usize
 // Puts a line of a key and two numbers.
 fn put_two(out: &mut [u8], at: usize, key: &[u8], a: u64, b: u64) -> usize
     requires { ⌜ at + length (line (now key) (a ∷ b ∷ [])) ≤ length (now out) ⌝ }
-    ensures { λ r. ⌜
-        (left out ≡ laid at (line (was key) (a ∷ b ∷ [])) (was out))
-        × (r ≡ at + length (line (was key) (a ∷ b ∷ [])))
-        ⌝ }
+    ensures { λ r. ⌜ PutAt at (line (was key) (a ∷ b ∷ [])) (was out) r (left out) ⌝ }
 {
     text_figures::put_bytes(out, at, key);
     let i = put_number(out, at + key.len(), a, b',');
@@ -96,10 +91,7 @@ fn put_two(out: &mut [u8], at: usize, key: &[u8], a: u64, b: u64) -> usize
 // Puts a line of a key and three numbers.
 fn put_three(out: &mut [u8], at: usize, key: &[u8], a: u64, b: u64, c: u64) -> usize
     requires { ⌜ at + length (line (now key) (a ∷ b ∷ c ∷ [])) ≤ length (now out) ⌝ }
-    ensures { λ r. ⌜
-        (left out ≡ laid at (line (was key) (a ∷ b ∷ c ∷ [])) (was out))
-        × (r ≡ at + length (line (was key) (a ∷ b ∷ c ∷ [])))
-        ⌝ }
+    ensures { λ r. ⌜ PutAt at (line (was key) (a ∷ b ∷ c ∷ [])) (was out) r (left out) ⌝ }
 {
     text_figures::put_bytes(out, at, key);
     let i = put_number(out, at + key.len(), a, b',');
@@ -121,10 +113,7 @@ pub fn put_answer(out: &mut [u8], answer: Answer) -> usize
 // Puts the line `loops=`.
 pub fn put_count(out: &mut [u8], at: usize, loops: usize) -> usize
     requires { do most ← ⟦LINE⟧; ⌜ at + most ≤ length (now out) ⌝ }
-    ensures { λ r. ⌜
-        (left out ≡ laid at (line loops= (loops ∷ [])) (was out))
-        × (r ≡ at + length (line loops= (loops ∷ [])))
-        ⌝ }
+    ensures { λ r. ⌜ PutAt at (line loops= (loops ∷ [])) (was out) r (left out) ⌝ }
     ensures { λ r. do most ← ⟦LINE⟧ .entry; ⌜ r ≤ at + most ⌝ }
 {
     put_one(out, at, b"loops=", loops as u64)
@@ -133,10 +122,7 @@ pub fn put_count(out: &mut [u8], at: usize, loops: usize) -> usize
 // Puts the line `ring=`.
 fn put_ring(out: &mut [u8], at: usize, ring: &[u16]) -> usize
     requires { ⌜ at + length (line ring= (now ring)) ≤ length (now out) ⌝ }
-    ensures { λ r. ⌜
-        (left out ≡ laid at (line ring= (was ring)) (was out))
-        × (r ≡ at + length (line ring= (was ring)))
-        ⌝ }
+    ensures { λ r. ⌜ PutAt at (line ring= (was ring)) (was out) r (left out) ⌝ }
 {
     text_figures::put_bytes(out, at, b"ring=");
     let mut place = at + 5;
@@ -152,10 +138,7 @@ fn put_ring(out: &mut [u8], at: usize, ring: &[u16]) -> usize
 // Puts a line `patch=` for each triangle.
 fn put_patch(out: &mut [u8], at: usize, patch: &[u16]) -> usize
     requires { ⌜ at + length (patchLines (now patch)) ≤ length (now out) ⌝ }
-    ensures { λ r. ⌜
-        (left out ≡ laid at (patchLines (was patch)) (was out))
-        × (r ≡ at + length (patchLines (was patch)))
-        ⌝ }
+    ensures { λ r. ⌜ PutAt at (patchLines (was patch)) (was out) r (left out) ⌝ }
 {
     let mut place = at;
     let mut i: usize = 0;
@@ -183,10 +166,7 @@ fn put_loop(
     patch: &[u16],
 ) -> usize
     requires { ⌜ at + length (loopLines (shown (now ring) state weight (now patch))) ≤ length (now out) ⌝ }
-    ensures { λ r. ⌜
-        (left out ≡ laid at (loopLines (shown (was ring) state weight (was patch))) (was out))
-        × (r ≡ at + length (loopLines (shown (was ring) state weight (was patch))))
-        ⌝ }
+    ensures { λ r. ⌜ PutAt at (loopLines (shown (was ring) state weight (was patch))) (was out) r (left out) ⌝ }
 {
     let i = put_three(out, at, b"loop=", ring.len() as u64, state as u64, weight);
     let j = put_ring(out, i, ring);
@@ -196,7 +176,7 @@ fn put_loop(
 // How many corners the patch of a loop with that many edges has in that state.
 fn corners_of(n: usize, state: u16) -> usize
     requires { ⌜ (2 ≤ n) × (n < 2 ^ 16) ⌝ }
-    ensures { λ r. ⌜ r ≡ cond (eqb state 1) (3 * (n - 2)) 0 ⌝ }
+    ensures { λ r. ⌜ r ≡ cond (eqb state stated.patched) (3 * (n - 2)) 0 ⌝ }
 {
     if state == State::PATCHED {
         3 * (n - 2)
@@ -216,8 +196,8 @@ pub fn put_next(
     patches: &[u16],
 ) -> Progress
     requires { do most ← ⟦WIDEST⟧; ⌜ progress .bytes + most ≤ length (now out) ⌝ }
-    requires { ⌜ NextRoom (now rings) (now lengths) (now states) (now weights) (now patches) progress ⌝ }
-    ensures { λ r. ⌜ TellsNext (was rings) (was lengths) (was states) (was weights) (was patches) progress r (was out) (left out) ⌝ }
+    requires { ⌜ NextRoom (inventory (now rings) (now lengths) (now states) (now weights) (now patches)) progress ⌝ }
+    ensures { λ r. ⌜ TellsNext (inventory (was rings) (was lengths) (was states) (was weights) (was patches)) progress r (was out) (left out) ⌝ }
     ensures { λ r. do most ← ⟦WIDEST⟧ .entry; ⌜ r .bytes ≤ progress .bytes + most ⌝ }
 {
     let l = progress.loops;

@@ -3,6 +3,7 @@ ghost use mathlib.Core.Path.{_≡_};
 ghost use Prim.Native.Nat.{_≤_};
 ghost use lib.ListN.{length};
 ghost use Rattle.base_types.specs.Lent.{was, left};
+ghost use Rattle.program_lines.specs.Workings.Telling.{inventory};
 ghost use Rattle.program_roll.specs.Workings.Roll.{Begins, Going, FillsOn};
 use base_answers::Answer;
 use program_lines::LINE;
@@ -52,8 +53,8 @@ pub fn fill(
     patches: &[u16],
 ) -> Progress
     requires { ⌜ progress .bytes ≤ length (now out) ⌝ }
-    requires { ⌜ Going (now rings) (now lengths) (now states) (now weights) (now patches) loops progress ⌝ }
-    ensures { λ r. do most ← ⟦WIDEST⟧ .entry; ⌜ FillsOn most (was rings) (was lengths) (was states) (was weights) (was patches) loops progress r (was out) (left out) ⌝ }
+    requires { ⌜ Going (inventory (now rings) (now lengths) (now states) (now weights) (now patches)) loops progress ⌝ }
+    ensures { λ r. do most ← ⟦WIDEST⟧ .entry; ⌜ FillsOn most (inventory (was rings) (was lengths) (was states) (was weights) (was patches)) loops progress r (was out) (left out) ⌝ }
 {
     let mut m = progress;
     while m.loops < loops {

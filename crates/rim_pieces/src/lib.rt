@@ -2,7 +2,7 @@
 ghost use Prim.Native.Nat.{_≤_};
 ghost use lib.ListN.{length};
 ghost use Rattle.base_types.specs.Lent.{was, left};
-ghost use Rattle.rim_pieces.specs.Workings.Flooding.{Cleared, VisitRoom, Visits, AroundRoom, Arounds, SpreadRoom, Spreads, NumberRoom, Numbers};
+ghost use Rattle.rim_pieces.specs.Workings.Flooding.{flooded, Cleared, VisitRoom, Visits, AroundRoom, Arounds, SpreadRoom, Spreads, NumberRoom, Numbers};
 use loop_leaders::WALKED;
 
 // A triangle that has no number yet stands with this, above every number.
@@ -54,8 +54,8 @@ fn spread(
     count: usize,
     pieces: &mut [u16],
 ) -> usize
-    requires { ⌜ SpreadRoom (now turns) from p (now queue) count (now pieces) ⌝ }
-    ensures { λ r. ⌜ Spreads (was turns) from p (was queue) count (was pieces) r (left queue) (left pieces) ⌝ }
+    requires { ⌜ SpreadRoom (now turns) from p (flooded (now queue) count (now pieces)) ⌝ }
+    ensures { λ r. ⌜ Spreads (was turns) from p (flooded (was queue) count (was pieces)) (flooded (left queue) r (left pieces)) ⌝ }
 {
     let mut done = from;
     let mut end = count;
@@ -76,8 +76,8 @@ fn around(
     count: usize,
     pieces: &mut [u16],
 ) -> usize
-    requires { ⌜ AroundRoom (now turns) t p (now queue) count (now pieces) ⌝ }
-    ensures { λ r. ⌜ Arounds (was turns) t p (was queue) count (was pieces) r (left queue) (left pieces) ⌝ }
+    requires { ⌜ AroundRoom (now turns) t p (flooded (now queue) count (now pieces)) ⌝ }
+    ensures { λ r. ⌜ Arounds (was turns) t p (flooded (was queue) count (was pieces)) (flooded (left queue) r (left pieces)) ⌝ }
 {
     let first = visit(turns, 3 * t, p, queue, count, pieces);
     let second = visit(turns, 3 * t + 1, p, queue, first, pieces);
@@ -93,8 +93,8 @@ fn visit(
     count: usize,
     pieces: &mut [u16],
 ) -> usize
-    requires { ⌜ VisitRoom (now turns) h p (now queue) count (now pieces) ⌝ }
-    ensures { λ r. ⌜ Visits (was turns) h p (was queue) count (was pieces) r (left queue) (left pieces) ⌝ }
+    requires { ⌜ VisitRoom (now turns) h p (flooded (now queue) count (now pieces)) ⌝ }
+    ensures { λ r. ⌜ Visits (was turns) h p (flooded (was queue) count (was pieces)) (flooded (left queue) r (left pieces)) ⌝ }
 {
     let turn = turns[h];
     if WALKED <= turn {

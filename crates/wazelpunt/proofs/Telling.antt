@@ -1,5 +1,5 @@
 -- From the library's answer to its plain numbers, and that these are determined.
-use mathlib.Core.Path.{_≡_, sym, ap, _∙_, subst}
+use mathlib.Core.Path.{_≡_, refl, sym, ap, _∙_, subst}
 use mathlib.Core.Bool.{not}
 use mathlib.Core.List.{List}
 use Prim.Native.Nat.{ℕ, _^_, _<_}
@@ -7,7 +7,7 @@ use native.Mathlib.Nat.{lt-of-le-of-lt}
 use native.Mathlib.Omega.{arith}
 use lib.Dec.{T, lit<}
 use lib.IntN.{ℤ, pos, negsuc, natAbs}
-use lib.Ieee.{Float, nan, inf, fin, isNan}
+use lib.Ieee.{Float, nan, inf, fin, isNan, binary32, toBits}
 use lib.Ieee.Scale.{finite}
 use mir.Syntax.{w32}
 use mir.Val.{SFits, toZ, ofZ}
@@ -16,7 +16,7 @@ use Rattle.base_answers.specs.Numbers.{numberOf, placeOf}
 use Rattle.base_answers.specs.declared.Answer.{Answer}
 use Rattle.grid_coordinate.specs.Places.{Places, Lands, answerOf}
 use Rattle.grid_coordinate.specs.declared.Coordinate.{Coordinate}
-use Rattle.grid_coordinate.specs.declared.Coordinate.the-variants.{Shifted, TooFar}
+use Rattle.grid_coordinate.specs.declared.Coordinate.the-variants.{Exact, Shifted, NotFinite, TooFar}
 use Rattle.grid_coordinate.proofs.Laws.Only.{only}
 use Rattle.survey_rules.specs.Outcome.{Buffers, Outcome, outcome}
 use Rattle.survey_rules.specs.declared.Surveyed.{Surveyed}
@@ -34,6 +34,13 @@ number-no-nan nan f = absurd f
 number-no-nan (inf s) f = absurd f
 number-no-nan (fin s m e) f = tt
 
+fits : (z : ℤ) → natAbs z < 2 ^ 31 → SFits w32 z
+fits (pos n) h = record { sfits = h }
+fits (negsuc n) h = record { sfits = omega arith }
+
+kept : {x : Float} {k : ℤ} → Lands 1 x k → toZ w32 (ofZ w32 k) ≡ k
+kept {x} {k} l = toZ-ofZ w32 k (fits k (lt-of-le-of-lt (l .within) (lit< tt)))
+
 -- the two floats that come with an answer have bits
 module _ (x : Float) (found : Coordinate) (right : Places 1 x found) where
   pub shifted-bits : {k : ℤ} {d : Float} → found ≡ Shifted k d → T (not (isNan d))
@@ -43,15 +50,21 @@ module _ (x : Float) (found : Coordinate) (right : Places 1 x found) where
   far-bits {y} e = let p = subst (Places 1 x) e right in subst (λ (z : Float). T (not (isNan z))) (sym (p .2)) (number-no-nan x (p .0))
 
   -- the four answers, each with what the code wrote
-  pub telling : {n : ℕ} {told : Answer} (a : Coordinate) {k : ℤ} {b : ℕ} → found ≡ a → n ≡ numberOf told → told ≡ answerOf 0 found → k ≡ wholeOf a → b ≡ floatOf a → Tells x n k b
-  telling a e p q u v = record { coordinate = a; right = subst (Places 1 x) e right; its-number = p ∙ ap numberOf (q ∙ ap (answerOf 0) e); its-whole = u; its-float = v }
+  module _ {n : ℕ} {told : Answer} (p : n ≡ numberOf told) (q : told ≡ answerOf 0 found) where
+    telling : (a : Coordinate) {k : ℤ} {b : ℕ} → found ≡ a → k ≡ wholeOf a → b ≡ floatOf a → Tells x n k b
+    telling a e u v = record { coordinate = a; right = subst (Places 1 x) e right; its-number = p ∙ ap numberOf (q ∙ ap (answerOf 0) e); its-whole = u; its-float = v }
 
-fits : (z : ℤ) → natAbs z < 2 ^ 31 → SFits w32 z
-fits (pos n) h = record { sfits = h }
-fits (negsuc n) h = record { sfits = omega arith }
+    pub tell-exact : {k : ℤ} → found ≡ Exact k → Tells x n (toZ w32 (ofZ w32 k)) 0
+    tell-exact {k} e = telling (Exact k) e (kept (subst (Places 1 x) e right .0)) refl
 
-pub kept : {x : Float} {k : ℤ} → Lands 1 x k → toZ w32 (ofZ w32 k) ≡ k
-kept {x} {k} l = toZ-ofZ w32 k (fits k (lt-of-le-of-lt (l .within) (lit< tt)))
+    pub tell-shifted : {k : ℤ} {d : Float} → found ≡ Shifted k d → Tells x n (toZ w32 (ofZ w32 k)) (toBits binary32 d)
+    tell-shifted {k} {d} e = telling (Shifted k d) e (kept (subst (Places 1 x) e right .0)) refl
+
+    pub tell-not-finite : found ≡ NotFinite → Tells x n (pos 0) 0
+    tell-not-finite e = telling NotFinite e refl refl
+
+    pub tell-too-far : {y : Float} → found ≡ TooFar y → Tells x n (pos 0) (toBits binary32 y)
+    tell-too-far {y} e = telling (TooFar y) e refl refl
 
 -- any two answers for a coordinate are equal
 pub told-once : (x : Float) (n m : ℕ) (k l : ℤ) (b c : ℕ) → Tells x n k b → Tells x m l c → (n ≡ m) × (k ≡ l) × (b ≡ c)

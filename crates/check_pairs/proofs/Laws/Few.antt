@@ -1,11 +1,11 @@
 -- Few corners are paired half-edge after half-edge, as far as no triangle names a point twice; the first that does stops the pairing if nothing did before.
-use mathlib.Core.Path.{_≡_, refl, sym, ap, _∙_, subst}
-use mathlib.Core.Bool.{Bool, true, false}
+use mathlib.Core.Path.{_≡_, refl, sym, ap, _∙_}
+use mathlib.Core.Bool.{Bool, true, false, not}
 use mathlib.Core.List.{List}
 use Prim.Native.Nat.{ℕ, _+_, _*_, _/_, _%_, _<_, _≤_}
 use native.Mathlib.Omega.{arith}
 use lib.ListN.{length, getD, replicate}
-use borrow.Author.Tests.{not-false}
+use borrow.Author.Tests.{not-true, not-false}
 use Rattle.base_limits.specs.Limits as limits
 use Rattle.surface_rules.specs.declared.Found.the-variants.{At, Nothing}
 use Rattle.surface_rules.specs.Smallest.{least}
@@ -13,11 +13,11 @@ use Rattle.surface_rules.specs.Edges.{following, startOf, twice}
 use Rattle.surface_rules.proofs.Laws.Smallest.{At-not-Nothing, least-at, least-never, least-sound, least-first}
 use Rattle.surface_rules.proofs.Laws.Edges.{following-below}
 use Rattle.surface_twins.specs.Workings.Turns.{stops, Room}
-use Rattle.surface_twins.specs.Workings.Chains.{TurnsBelow, Going, PairRoom, PairDone}
+use Rattle.surface_twins.specs.Workings.Chains.{Going, PairRoom, PairDone}
 use Rattle.check_pairs.specs.Workings.Outcome.{Paired}
 use Rattle.check_pairs.specs.Workings.Triangles.{fewCorners, fewBuckets, ProperTo, AfterRoom}
 use Rattle.check_pairs.proofs.Laws.Triangles.{repeats-stops, twice-stops}
-use Rattle.check_pairs.proofs.Laws.Rounds.{round-begins, turns-all}
+use Rattle.check_pairs.proofs.Laws.Rounds.{round-begins, all-paired}
 
 -- ---- as far as no triangle names a point twice
 
@@ -75,10 +75,11 @@ pub record Side (corners : List ℕ) (end i h : ℕ) (heads links ends table : L
   pub to : h < i + 3
   pub within : h ≤ end
 
-pub side-begins : (corners table : List ℕ) (end : ℕ) → Room corners table → length corners ≤ fewCorners → ProperTo corners end → Side corners end 0 0 (replicate fewBuckets 0) (replicate fewCorners 0) (replicate fewCorners 0) table
-side-begins corners table end room few proper =
+pub side-begins : {corners table : List ℕ} {end : ℕ} → Room corners table × (length corners ≤ fewCorners) → ProperTo corners end
+    → Side corners end 0 0 (replicate fewBuckets 0) (replicate fewCorners 0) (replicate fewCorners 0) table
+side-begins room proper =
     record {
-      going = round-begins fewBuckets fewCorners corners table (omega arith) few room .going;
+      going = round-begins fewBuckets fewCorners (omega arith) (room .1) (room .0) .going;
       proper = proper;
       first = refl;
       from = omega arith;
@@ -86,39 +87,33 @@ side-begins corners table end room few proper =
       within = omega arith;
     }
 
-module _ (corners : List ℕ) (end i h : ℕ) (heads links ends table : List ℕ) (side : Side corners end i h heads links ends table) where
+module _ {corners : List ℕ} {end i h : ℕ} {heads links ends table : List ℕ} (side : Side corners end i h heads links ends table) where
+  -- the pairing stopped at k
+  stopped : {k : ℕ} {left : List ℕ} → least (stops corners) k ≡ Nothing → stops corners k ≡ true → k < length corners → Paired corners (At k) left
+  stopped {k} f s l = record { answer = sym (least-at (stops corners) k (length corners) f s l); turns = λ q. absurd (At-not-Nothing q) }
+
   -- the pairing came to a triangle that names a point twice
-  pub side-twice : end ≤ h → end < length corners → (left : List ℕ) → Paired corners (At end) left
-  side-twice l more left =
+  pub side-twice : {left : List ℕ} → end ≤ h → end < length corners → Paired corners (At end) left
+  side-twice l more =
       let w : h ≤ end = side .within in
       let e : h ≡ end = omega arith in
-      record {
-        answer = sym (least-at (stops corners) end (length corners) (ap (least (stops corners)) (sym e) ∙ side .going .fresh) (twice-stops corners end (side .proper .first) (side .proper .there more)) more);
-        turns = λ q. absurd (At-not-Nothing q);
-      }
+      stopped (ap (least (stops corners)) (sym e) ∙ side .going .fresh) (twice-stops corners end (side .proper .first) (side .proper .there more)) more
 
   -- or to the end
   pub side-ends : end ≤ h → length corners ≤ end → Paired corners Nothing table
-  side-ends l all =
-      let w : h ≤ end = side .within in
-      let p : end ≤ length corners = side .proper .within in
-      let e : h ≡ length corners = omega arith in
-      record {
-        answer = sym (ap (least (stops corners)) (sym e) ∙ side .going .fresh);
-        turns = λ q. turns-all corners table (subst (λ (z : ℕ). TurnsBelow corners z table) e (side .going .turns));
-      }
+  side-ends l all = all-paired (let w = side .within in let p = side .proper .within in omega arith) (side .going)
 
   module _ (more : h < end) where
     pub side-inside : h < length corners
     side-inside = let p : end ≤ length corners = side .proper .within in omega arith
 
-    pub side-after : AfterRoom h i
-    side-after =
-        let a : h < length corners = side-inside in
-        let b : length corners ≤ limits.corners = side .going .room .few in
-        record { first = side .first; from = side .from; to = side .to; small = omega arith }
+    pub side-fits : h < limits.corners
+    side-fits = let f = side .going .room .few in let l = side-inside in omega arith
 
-    module _ (f : ℕ) (e : f ≡ following h) where
+    pub side-after : AfterRoom h i
+    side-after = record { first = side .first; from = side .from; to = side .to; small = side-fits }
+
+    module _ {f : ℕ} (e : f ≡ following h) where
       pub side-there : f < length corners
       side-there = rw e (following-below (length corners) h (side .going .room .triples) side-inside)
 
@@ -133,16 +128,12 @@ module _ (corners : List ℕ) (end i h : ℕ) (heads links ends table : List ℕ
             end = ap (startOf corners) e;
           }
 
-      module _ (d : Bool) (heads′ links′ ends′ table′ : List ℕ) (p : PairDone fewBuckets corners h d heads′ links′ ends′ table′) where
-        pub side-stops : d ≡ false → (left : List ℕ) → Paired corners (At h) left
-        side-stops q left =
-            record {
-              answer = sym (least-at (stops corners) h (length corners) (side .going .fresh) (repeats-stops corners h (not-false _ (sym (p .answer) ∙ q))) side-inside);
-              turns = λ r. absurd (At-not-Nothing r);
-            }
+      module _ {d : Bool} {heads′ links′ ends′ table′ : List ℕ} (p : PairDone fewBuckets corners h d heads′ links′ ends′ table′) where
+        pub side-stops : {left : List ℕ} → not d ≡ true → Paired corners (At h) left
+        side-stops q = stopped (side .going .fresh) (repeats-stops corners h (not-false _ (sym (p .answer) ∙ not-true _ q))) side-inside
 
         -- the next half-edge is of the next triangle
-        pub side-next : d ≡ true → f ≡ i → Side corners end (i + 3) (h + 1) heads′ links′ ends′ table′
+        pub side-next : not d ≡ false → f ≡ i → Side corners end (i + 3) (h + 1) heads′ links′ ends′ table′
         unfolding following
         side-next q r =
             let z : i % 3 ≡ 0 = side .first in
@@ -150,17 +141,17 @@ module _ (corners : List ℕ) (end i h : ℕ) (heads links ends table : List ℕ
             let b : h < i + 3 = side .to in
             let c : i ≡ following h = sym r ∙ e in
             let g : h + 1 ≡ i + 3 = omega arith in
-            record { going = p .going q; proper = side .proper; first = omega arith; from = omega arith; to = omega arith; within = omega arith }
+            record { going = p .going (not-false _ q); proper = side .proper; first = omega arith; from = omega arith; to = omega arith; within = omega arith }
 
         -- or of the same
-        pub side-same : d ≡ true → (f ≡ i → ⊥) → Side corners end i (h + 1) heads′ links′ ends′ table′
+        pub side-same : not d ≡ false → (f ≡ i → ⊥) → Side corners end i (h + 1) heads′ links′ ends′ table′
         unfolding following
         side-same q n =
             let z : i % 3 ≡ 0 = side .first in
             let a : i ≤ h = side .from in
             let b : h < i + 3 = side .to in
             let g : h + 1 < i + 3 = below a b z in
-            record { going = p .going q; proper = side .proper; first = z; from = omega arith; to = g; within = omega arith }
+            record { going = p .going (not-false _ q); proper = side .proper; first = z; from = omega arith; to = g; within = omega arith }
           where
             below : i ≤ h → h < i + 3 → i % 3 ≡ 0 → h + 1 < i + 3
             below a b z = omega (arith, n, e)

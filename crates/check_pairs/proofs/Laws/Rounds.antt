@@ -5,6 +5,7 @@ use Prim.Native.Nat.{ℕ, _+_, _%_, _<_, _≤_}
 use native.Mathlib.Nat.{not-suc-le-zero}
 use native.Mathlib.Omega.{arith}
 use lib.ListN.{length, replicate}
+use Rattle.base_limits.specs.Limits as limits
 use Rattle.surface_rules.specs.declared.Found.{Found}
 use Rattle.surface_rules.specs.declared.Found.the-variants.{At, Nothing}
 use Rattle.surface_rules.specs.Smallest.{least}
@@ -23,34 +24,31 @@ pub record Round (size : ℕ) (corners : List ℕ) (i : ℕ) (heads links ends t
   pub first : i % 3 ≡ 0
   pub within : i ≤ length corners
 
-turns-none : (corners table : List ℕ) → TurnsBelow corners 0 table
+pub round-begins : {corners table : List ℕ} (size many : ℕ) → 0 < size → length corners ≤ many → Room corners table
+    → Round size corners 0 (replicate size 0) (replicate many 0) (replicate many 0) table
 unfolding TurnsBelow
-turns-none corners table k l = absurd (not-suc-le-zero l)
-
-pub round-begins : (size many : ℕ) (corners table : List ℕ) → 0 < size → length corners ≤ many → Room corners table → Round size corners 0 (replicate size 0) (replicate many 0) (replicate many 0) table
-round-begins size many corners table some enough room =
+round-begins {corners} size many some enough room =
     record {
-      going = record { room = room; fresh = least-none (stops corners); chained = chained-begins size many corners some enough; turns = turns-none corners table };
+      going =
+          record { room = room; fresh = least-none (stops corners); chained = chained-begins size many corners some enough; turns = λ k l. absurd (not-suc-le-zero l) };
       first = refl;
       within = omega arith;
     }
 
-pub turns-all : (corners table : List ℕ) → TurnsBelow corners (length corners) table → Turns corners table
+-- all half-edges are paired
+pub all-paired : {size n : ℕ} {corners heads links ends table : List ℕ} → n ≡ length corners → Going size corners n heads links ends table → Paired corners Nothing table
 unfolding TurnsBelow Turns twin
-turns-all corners table t = t
+all-paired {corners = corners} {table = table} e g = record {
+  answer = sym (ap (least (stops corners)) (sym e) ∙ g .fresh);
+  turns = λ q. subst (λ (z : ℕ). TurnsBelow corners z table) e (g .turns);
+}
 
-module _ (size : ℕ) (corners : List ℕ) (i : ℕ) (heads links ends table : List ℕ) (round : Round size corners i heads links ends table) where
+module _ {size : ℕ} {corners : List ℕ} {i : ℕ} {heads links ends table : List ℕ} (round : Round size corners i heads links ends table) where
   pub round-room : i < length corners → TriangleRoom size corners i heads links ends table
   round-room l = record { going = round .going; edge = l; first = round .first }
 
   pub round-ends : length corners ≤ i → Paired corners Nothing table
-  round-ends l =
-      let w : i ≤ length corners = round .within in
-      let e : i ≡ length corners = omega arith in
-      record {
-        answer = sym (ap (least (stops corners)) (sym e) ∙ round .going .fresh);
-        turns = λ q. turns-all corners table (subst (λ (z : ℕ). TurnsBelow corners z table) e (round .going .turns));
-      }
+  round-ends l = all-paired (let w = round .within in omega arith) (round .going)
 
   module _ (more : i < length corners) where
     pub round-inside : i + 3 ≤ length corners
@@ -59,9 +57,12 @@ module _ (size : ℕ) (corners : List ℕ) (i : ℕ) (heads links ends table : L
         let b : length corners % 3 ≡ 0 = round .going .room .triples in
         omega arith
 
-    module _ (stop : Found) (heads′ links′ ends′ table′ : List ℕ) (d : TriangleDone size corners i stop heads′ links′ ends′ table′) where
-      pub round-stops : (h : ℕ) → stop ≡ At h → (left : List ℕ) → Paired corners (At h) left
-      round-stops h e left =
+    pub round-fits : i + 3 ≤ limits.corners
+    round-fits = let f = round .going .room .few in let l = round-inside in omega arith
+
+    module _ {stop : Found} {heads′ links′ ends′ table′ : List ℕ} (d : TriangleDone size corners i stop heads′ links′ ends′ table′) where
+      pub round-stops : {h : ℕ} {left : List ℕ} → stop ≡ At h → Paired corners (At h) left
+      round-stops {h} e =
           record {
             answer = sym (least-keeps (stops corners) (i + 3) (length corners) h (sym (d .answer) ∙ e) round-inside);
             turns = λ q. absurd (At-not-Nothing q);

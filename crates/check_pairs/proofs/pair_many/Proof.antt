@@ -6,7 +6,7 @@ use lib.ListN.{length}
 use borrow.Author.Needs.{needs}
 use Rattle.base_limits.specs.Limits as limits
 use Rattle.check_pairs.specs.Workings.Triangles.{buckets}
-use Rattle.check_pairs.proofs.Laws.Rounds.{Round, round-begins, round-room, round-ends, round-inside, round-stops, round-more}
+use Rattle.check_pairs.proofs.Laws.Rounds.{Round, round-begins, round-room, round-ends, round-inside, round-fits, round-stops, round-more}
 use Rattle.check_pairs.proofs.pair_many.Statement.{statement}
 use Rattle.check_pairs.proofs.pair_many.Tie as tie
 
@@ -17,41 +17,40 @@ Inv-loop corners turns₀ heads₀ links₀ ends₀ i₀ turns heads links ends 
 abbrev μ-loop : tie.MeasureT-loop
 μ-loop corners turns₀ heads₀ links₀ ends₀ i₀ turns heads links ends i = length corners - i
 
-abbrev to-at-loop : tie.After-pair-triangle Inv-loop μ-loop → tie.At-loop Inv-loop μ-loop
-to-at-loop p = search
+-- where a turn begins, and where its triangle was paired
+abbrev Turn : Type 0
+Turn = tie.In-loop Inv-loop μ-loop
 
-abbrev to-turn : tie.After-pair-triangle Inv-loop μ-loop → tie.In-loop Inv-loop μ-loop
-to-turn p = search
+abbrev Paired : Type 0
+Paired = tie.After-pair-triangle Inv-loop μ-loop
+
+abbrev turn : Paired → Turn
+turn p = search
+
+loop-again : tie.Need-loop-again Inv-loop μ-loop
+loop-again c =
+    let p : Paired = search in
+    let t = turn p in
+    let ts : tie.After-turns Inv-loop μ-loop = search in
+    let ls : tie.After-links2 Inv-loop μ-loop = search in
+    let es : tie.After-ends2 Inv-loop μ-loop = search in
+    (round-more (t .before .loop .inv .0) (t .loop-test .taken) (p .pair-triangle .ensures) (c .enum-told .given .1), ts .turns .given ∙ t .before .loop .inv .1, ls .links2 .given, es .ends2 .given)
 
 pub pair-many-spec : {M : Type 1} → statement M
 pair-many-spec =
     tie.close
     (tie.spec Inv-loop μ-loop
-    (λ c. let start : tie.Start Inv-loop μ-loop = search in (round-begins _ _ _ _ (omega arith) (start .pre .few) (start .pre), refl, refl, refl))
-    (λ c. let at-loop : tie.At-loop Inv-loop μ-loop = search in sym (at-loop .loop .inv .0 .going .chained .heads-long))
-    (λ c. let at-loop : tie.At-loop Inv-loop μ-loop = search in sym (at-loop .loop .inv .2))
-    (λ c. let at-loop : tie.At-loop Inv-loop μ-loop = search in sym (at-loop .loop .inv .3))
+    (λ c. let s : tie.Start Inv-loop μ-loop = search in (round-begins _ _ (omega arith) (s .pre .few) (s .pre), refl, refl, refl))
+    (λ c. let l : tie.At-loop Inv-loop μ-loop = search in sym (l .loop .inv .0 .going .chained .heads-long))
+    (λ c. let l : tie.At-loop Inv-loop μ-loop = search in sym (l .loop .inv .2))
+    (λ c. let l : tie.At-loop Inv-loop μ-loop = search in sym (l .loop .inv .3))
     (λ c κs. search round-room)
     (λ c. search needs)
-    (λ c.
-    let after-turns : tie.After-turns Inv-loop μ-loop = search in let after-pair-triangle : tie.After-pair-triangle Inv-loop μ-loop = search in
-    after-turns .turns .given ∙ (to-at-loop after-pair-triangle) .loop .inv .1)
+    (λ c. let p : Paired = search in let ts : tie.After-turns Inv-loop μ-loop = search in ts .turns .given ∙ turn p .before .loop .inv .1)
     (λ c. search round-stops)
     (λ c. search needs)
-    (λ c.
-    let after-pair-triangle : tie.After-pair-triangle Inv-loop μ-loop = search in let at-loop = to-at-loop after-pair-triangle in omega
-    (arith, round-inside _ _ _ _ _ _ _ (at-loop .loop .inv .0) (to-turn after-pair-triangle .loop-test .taken), at-loop .loop .inv .0 .going .room .few))
-    (λ c.
-    let after-pair-triangle : tie.After-pair-triangle Inv-loop μ-loop = search in omega
-    (arith, round-inside _ _ _ _ _ _ _ (to-at-loop after-pair-triangle .loop .inv .0) (to-turn after-pair-triangle .loop-test .taken)))
-    (λ c.
-    let after-pair-triangle : tie.After-pair-triangle Inv-loop μ-loop = search in let at-loop = to-at-loop after-pair-triangle in let after-turns : tie.After-turns
-    Inv-loop μ-loop = search in let after-links2 : tie.After-links2 Inv-loop μ-loop = search in let after-ends2 : tie.After-ends2 Inv-loop μ-loop = search in (
-      round-more _ _ _ _ _ _ _ (at-loop .loop .inv .0) (to-turn after-pair-triangle .loop-test .taken) _ _ _ _ _ (after-pair-triangle .pair-triangle .ensures)
-          (c .enum-told .given .1),
-      after-turns .turns .given ∙ at-loop .loop .inv .1,
-      after-links2 .links2 .given,
-      after-ends2 .ends2 .given,
-    ))
+    (λ c. let p : Paired = search in let t = turn p in omega (arith, round-fits (t .before .loop .inv .0) (t .loop-test .taken)))
+    (λ c. let p : Paired = search in let t = turn p in omega (arith, round-inside (t .before .loop .inv .0) (t .loop-test .taken)))
+    loop-again
     (λ c. search needs)
     (λ c. search round-ends))

@@ -6,8 +6,8 @@ use Rattle.check_pairs.proofs.Laws.Few.{proper-all, proper-below, prope
 use Rattle.check_pairs.proofs.proper_end.Statement.{statement}
 use Rattle.check_pairs.proofs.proper_end.Tie as tie
 
-abbrev to-start : tie.After-first-twice → tie.Start
-to-start p = search
+abbrev entry : tie.After-first-twice → tie.Start
+entry f = search
 
 pub proper-end-spec : {M : Type 1} → statement M
 proper-end-spec =
@@ -15,13 +15,7 @@ proper-end-spec =
     (tie.spec
     (λ c κs. search needs)
     (λ c. search needs)
-    (λ c.
-    let after-first-twice : tie.After-first-twice = search in omega
-    (arith, proper-fits _ (to-start after-first-twice .pre) _ (sym (after-first-twice .first-twice .ensures) ∙ c .before .twice .given .1)))
+    (λ c. let f : tie.After-first-twice = search in omega (arith, proper-fits _ (entry f .pre) _ (sym (f .first-twice .ensures) ∙ c .before .twice .given .1)))
     (λ c. search needs)
-    (λ c.
-    let after-first-twice : tie.After-first-twice = search in proper-below _ (to-start after-first-twice .pre) _
-    (sym (after-first-twice .first-twice .ensures) ∙ c .before .twice .given .1))
-    (λ c.
-    let after-first-twice : tie.After-first-twice = search in proper-all _ (to-start after-first-twice .pre)
-    (sym (after-first-twice .first-twice .ensures) ∙ c .enum-told .given .1)))
+    (λ c. let f : tie.After-first-twice = search in proper-below _ (entry f .pre) _ (sym (f .first-twice .ensures) ∙ c .before .twice .given .1))
+    (λ c. let f : tie.After-first-twice = search in proper-all _ (entry f .pre) (sym (f .first-twice .ensures) ∙ c .enum-told .given .1)))

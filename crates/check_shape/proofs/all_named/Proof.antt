@@ -16,8 +16,9 @@ Inv-loop corners points all₀ i₀ all i = (i ≤ length corners) × (all ≡ n
 abbrev μ-loop : tie.MeasureT-loop
 μ-loop corners points all₀ i₀ all i = length corners - i
 
-abbrev to-at-loop : tie.After-is-unnamed Inv-loop μ-loop → tie.At-loop Inv-loop μ-loop
-to-at-loop p = search
+-- where one was looked at, and the loop behind it
+abbrev loop : tie.After-is-unnamed Inv-loop μ-loop → tie.At-loop Inv-loop μ-loop
+loop a = search
 
 pub all-named-spec : {M : Type 1} → statement M
 all-named-spec =
@@ -27,5 +28,5 @@ all-named-spec =
     (λ c κs. search needs)
     (λ c. search needs)
     (λ c. search needs)
-    (λ c. (search needs, all-more _ _ _ _ (to-at-loop c .loop .inv .1) (c .is-unnamed .ensures)))
+    (λ c. (search needs, all-more _ _ _ _ (loop c .loop .inv .1) (c .is-unnamed .ensures)))
     (λ c. all-end _ _ _ _ (c .before .loop .inv .1) (search needs)))

@@ -13,11 +13,7 @@ check-buffers-spec =
     (tie.spec
     (λ c κs. search needs)
     (λ c. search needs)
-    (λ c.
-    let after-first-short : tie.After-first-short = search in
-    omega (arith, least-sound _ _ _ (sym (after-first-short .first-short .ensures) ∙ c .before .found .given .1) .0))
+    (λ c. let s : tie.After-first-short = search in omega (arith, least-sound _ _ _ (sym (s .first-short .ensures) ∙ c .before .found .given .1) .0))
     (λ c. search needs)
-    (λ c.
-    let after-first-short : tie.After-first-short = search in
-    buffer-refused _ _ _ (sym (after-first-short .first-short .ensures) ∙ c .before .found .given .1))
-    (λ c. let after-first-short : tie.After-first-short = search in buffers-done _ _ (sym (after-first-short .first-short .ensures) ∙ c .enum-told .given .1)))
+    (λ c. let s : tie.After-first-short = search in buffer-refused _ _ (s .first-short .ensures) (c .before .found .given .1))
+    (λ c. let s : tie.After-first-short = search in buffers-done _ _ (s .first-short .ensures) (c .enum-told .given .1)))

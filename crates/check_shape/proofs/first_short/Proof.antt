@@ -16,8 +16,9 @@ Inv-loop lent needs i₀ i = (i ≤ length needs) × (least (short lent needs) i
 abbrev μ-loop : tie.MeasureT-loop
 μ-loop lent needs i₀ i = length needs - i
 
-abbrev to-at-loop : tie.After-is-short Inv-loop μ-loop → tie.At-loop Inv-loop μ-loop
-to-at-loop p = search
+-- where one was looked at, and the loop behind it
+abbrev loop : tie.After-is-short Inv-loop μ-loop → tie.At-loop Inv-loop μ-loop
+loop a = search
 
 pub first-short-spec : {M : Type 1} → statement M
 first-short-spec =
@@ -25,12 +26,8 @@ first-short-spec =
     (tie.spec Inv-loop μ-loop
     (λ c. (search needs, least-none _))
     (λ c κs. search needs)
-    (λ c.
-    let after-is-short : tie.After-is-short Inv-loop μ-loop = search in
-    sym (least-at _ _ _ (to-at-loop after-is-short .loop .inv .1) (sym (c .before .is-short .ensures) ∙ c .if1 .taken) (search needs)))
+    (λ c. sym (least-at _ _ _ (loop (c .before) .loop .inv .1) (sym (c .before .is-short .ensures) ∙ c .if1 .taken) (search needs)))
     (λ c. search needs)
     (λ c. search needs)
-    (λ c.
-    let after-is-short : tie.After-is-short Inv-loop μ-loop = search in
-    (search needs, least-more _ _ (to-at-loop after-is-short .loop .inv .1) (sym (c .before .is-short .ensures) ∙ c .if1 .left)))
+    (λ c. (search needs, least-more _ _ (loop (c .before) .loop .inv .1) (sym (c .before .is-short .ensures) ∙ c .if1 .left)))
     (λ c. sym (ap (least _) (search needs) ∙ c .before .loop .inv .1)))

@@ -16,8 +16,9 @@ Inv-loop corners n t₀ t = (t ≤ n) × (n ≡ length corners / 3) × (least (t
 abbrev μ-loop : tie.MeasureT-loop
 μ-loop corners n t₀ t = n - t
 
-abbrev to-at-loop : tie.After-is-twice Inv-loop μ-loop → tie.At-loop Inv-loop μ-loop
-to-at-loop p = search
+-- where one was looked at, and the loop behind it
+abbrev loop : tie.After-is-twice Inv-loop μ-loop → tie.At-loop Inv-loop μ-loop
+loop a = search
 
 pub first-twice-spec : {M : Type 1} → statement M
 first-twice-spec =
@@ -25,12 +26,8 @@ first-twice-spec =
     (tie.spec Inv-loop μ-loop
     (λ c. (search needs, search needs, least-none _))
     (λ c κs. search needs)
-    (λ c.
-    let after-is-twice : tie.After-is-twice Inv-loop μ-loop = search in
-    sym (least-at _ _ _ (to-at-loop after-is-twice .loop .inv .2) (sym (c .before .is-twice .ensures) ∙ c .if1 .taken) (search needs)))
+    (λ c. sym (least-at _ _ _ (loop (c .before) .loop .inv .2) (sym (c .before .is-twice .ensures) ∙ c .if1 .taken) (search needs)))
     (λ c. search needs)
     (λ c. search needs)
-    (λ c.
-    let after-is-twice : tie.After-is-twice Inv-loop μ-loop = search in
-    (search needs, search needs, least-more _ _ (to-at-loop after-is-twice .loop .inv .2) (sym (c .before .is-twice .ensures) ∙ c .if1 .left)))
+    (λ c. (search needs, search needs, least-more _ _ (loop (c .before) .loop .inv .2) (sym (c .before .is-twice .ensures) ∙ c .if1 .left)))
     (λ c. sym (ap (least _) (search needs) ∙ c .before .loop .inv .2)))

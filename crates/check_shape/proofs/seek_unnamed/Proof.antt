@@ -16,8 +16,9 @@ Inv-loop corners points i₀ i = (i ≤ length corners) × (least (unnamed corne
 abbrev μ-loop : tie.MeasureT-loop
 μ-loop corners points i₀ i = length corners - i
 
-abbrev to-at-loop : tie.After-is-unnamed Inv-loop μ-loop → tie.At-loop Inv-loop μ-loop
-to-at-loop p = search
+-- where one was looked at, and the loop behind it
+abbrev loop : tie.After-is-unnamed Inv-loop μ-loop → tie.At-loop Inv-loop μ-loop
+loop a = search
 
 pub seek-unnamed-spec : {M : Type 1} → statement M
 seek-unnamed-spec =
@@ -25,12 +26,8 @@ seek-unnamed-spec =
     (tie.spec Inv-loop μ-loop
     (λ c. (search needs, least-none _))
     (λ c κs. search needs)
-    (λ c.
-    let after-is-unnamed : tie.After-is-unnamed Inv-loop μ-loop = search in
-    sym (least-at _ _ _ (to-at-loop after-is-unnamed .loop .inv .1) (sym (c .before .is-unnamed .ensures) ∙ c .if1 .taken) (search needs)))
+    (λ c. sym (least-at _ _ _ (loop (c .before) .loop .inv .1) (sym (c .before .is-unnamed .ensures) ∙ c .if1 .taken) (search needs)))
     (λ c. search needs)
     (λ c. search needs)
-    (λ c.
-    let after-is-unnamed : tie.After-is-unnamed Inv-loop μ-loop = search in
-    (search needs, least-more _ _ (to-at-loop after-is-unnamed .loop .inv .1) (sym (c .before .is-unnamed .ensures) ∙ c .if1 .left)))
+    (λ c. (search needs, least-more _ _ (loop (c .before) .loop .inv .1) (sym (c .before .is-unnamed .ensures) ∙ c .if1 .left)))
     (λ c. sym (ap (least _) (search needs) ∙ c .before .loop .inv .1)))

@@ -1,6 +1,6 @@
 -- From the answers of the single checks to the answer of all, and to what is known of a surface that passed.
 use mathlib.Core.Path.{_≡_, sym, ap, _∙_}
-use mathlib.Core.Bool.{true, false, true≢false}
+use mathlib.Core.Bool.{Bool, true, false, true≢false}
 use mathlib.Core.List.{List}
 use Prim.Native.Nat.{ℕ, _*_, _/_, _^_, _<_}
 use native.Mathlib.Omega.{arith}
@@ -16,46 +16,51 @@ use Rattle.surface_rules.proofs.Laws.Thens.{then-refused, then-next, buffer-pas
 use Rattle.surface_twins.specs.Workings.Turns.{Room}
 use Rattle.check_surface.specs.Workings.Checks.{Fitted, CornersChecked, Checked}
 
-module _ (words corners : List ℕ) where
-  -- a refusal is not `Done`
-  not-done : (a : Answer) → refusing a ≡ true → a ≡ Done → ⊥
-  not-done a r e = true≢false (sym r ∙ ap refusing e)
+module _ {words corners table : List ℕ} (k : Fitted words corners table) where
+  fitting : Fitting (length words) (length corners)
+  fitting = counts-fit (length words) (length corners) (k .counts)
 
-  pub fitting : (table : List ℕ) → Fitted words corners table → Fitting (length words) (length corners)
-  fitting table k = counts-fit (length words) (length corners) (k .counts)
-
-  pub room : (table : List ℕ) → Fitted words corners table → Room corners table
-  room table k = let f = fitting table k in record { triples = f .corner-threes; few = f .few-corners; long = k .long }
+  pub room : Room corners table
+  room = record { triples = fitting .corner-threes; few = fitting .few-corners; long = k .long }
 
   -- a count of points fits 16 bits
-  pub points-fit : (table : List ℕ) → Fitted words corners table → limits.words < 3 * 2 ^ 16 → Fits w16 (length words / 3)
-  points-fit table k s = record { fits = omega (arith, fitting table k .few-words) }
+  pub points-fit : limits.words < 3 * 2 ^ 16 → Fits w16 (length words / 3)
+  points-fit s = record { fits = omega (arith, fitting .few-words) }
 
-  module _ (lent needs : List ℕ) where
-    pub buffers-refuse : (a : Answer) (table : List ℕ) → a ≡ bufferRefusal lent needs → refusing a ≡ true → Checked words corners lent needs a table
-    unfolding contentRefusal
-    buffers-refuse a table e r = record {
-      said = e ∙ sym (then-refused (bufferRefusal lent needs) _ (ap refusing (sym e) ∙ r));
-      passed = λ d. absurd (not-done a r d);
+-- a refusal is not `Done`
+not-done : {a : Answer} → refusing a ≡ true → a ≡ Done → ⊥
+not-done r e = true≢false (sym r ∙ ap refusing e)
+
+-- what a check told is what the table of refusals says
+told-of : {a r : Answer} {t u : Bool} → a ≡ r → t ≡ refusing a → t ≡ u → refusing r ≡ u
+told-of e q f = ap refusing (sym e) ∙ sym q ∙ f
+
+past-buffers : (words corners lent needs : List ℕ) → refusing (bufferRefusal lent needs) ≡ false
+    → contentRefusal words corners lent needs ≡ thenCheck (cornerRefusal corners (length words / 3)) (wordRefusal words)
+unfolding contentRefusal
+past-buffers words corners lent needs f = then-next (bufferRefusal lent needs) _ f
+
+module _ {words corners lent needs : List ℕ} {b : Answer} {t : Bool} (eb : b ≡ bufferRefusal lent needs) (tb : t ≡ refusing b) where
+  pub buffers-refuse : {table : List ℕ} → t ≡ true → Checked words corners lent needs b table
+  unfolding contentRefusal
+  buffers-refuse r = record {
+    said = eb ∙ sym (then-refused (bufferRefusal lent needs) _ (told-of eb tb r));
+    passed = λ d. absurd (not-done (sym tb ∙ r) d);
+  }
+
+  module _ {a : Answer} {u : Bool} {table : List ℕ} (fb : t ≡ false) (k : CornersChecked corners (length words / 3) a table) (ta : u ≡ refusing a) where
+    pub corners-refuse : u ≡ true → Checked words corners lent needs a table
+    corners-refuse r = record {
+      said = k .said ∙ sym (past-buffers words corners lent needs (told-of eb tb fb) ∙ then-refused (cornerRefusal corners (length words / 3)) _ (told-of (k .said) ta r));
+      passed = λ d. absurd (not-done (sym ta ∙ r) d);
     }
 
-    module _ (b : Answer) (eb : b ≡ bufferRefusal lent needs) (fb : refusing b ≡ false) where
-      past-buffers : contentRefusal words corners lent needs ≡ thenCheck (cornerRefusal corners (length words / 3)) (wordRefusal words)
-      unfolding contentRefusal
-      past-buffers = then-next (bufferRefusal lent needs) _ (ap refusing (sym eb) ∙ fb)
-
-      pub corners-refuse : (a : Answer) (table : List ℕ) → CornersChecked corners (length words / 3) a table → refusing a ≡ true → Checked words corners lent needs a table
-      corners-refuse a table k r = record {
-        said = k .said ∙ sym (past-buffers ∙ then-refused (cornerRefusal corners (length words / 3)) _ (ap refusing (sym (k .said)) ∙ r));
-        passed = λ d. absurd (not-done a r d);
-      }
-
-      pub words-decide : (a w : Answer) (table : List ℕ) → CornersChecked corners (length words / 3) a table → refusing a ≡ false → w ≡ wordRefusal words → Checked words corners lent needs w table
-      words-decide a w table k f e = record {
-        said = e ∙ sym (past-buffers ∙ then-next (cornerRefusal corners (length words / 3)) _ (ap refusing (sym (k .said)) ∙ f));
-        passed = λ d. record {
-          long = buffers-long lent needs (done-of (bufferRefusal lent needs) (buffer-passing lent needs) (ap refusing (sym eb) ∙ fb));
-          woven = k .woven (k .said ∙ done-of (cornerRefusal corners (length words / 3)) (corner-passing corners (length words / 3)) (ap refusing (sym (k .said)) ∙ f));
-          on-grid = let p = words-pass words (sym e ∙ d) in record { numbers = p .0; near = p .1 };
-        };
-      }
+    pub words-decide : {w : Answer} → u ≡ false → w ≡ wordRefusal words → Checked words corners lent needs w table
+    words-decide f e = record {
+      said = e ∙ sym (past-buffers words corners lent needs (told-of eb tb fb) ∙ then-next (cornerRefusal corners (length words / 3)) _ (told-of (k .said) ta f));
+      passed = λ d. record {
+        long = buffers-long lent needs (done-of (bufferRefusal lent needs) (buffer-passing lent needs) (told-of eb tb fb));
+        woven = k .woven (k .said ∙ done-of (cornerRefusal corners (length words / 3)) (corner-passing corners (length words / 3)) (told-of (k .said) ta f));
+        on-grid = let p = words-pass words (sym e ∙ d) in record { numbers = p .0; near = p .1 };
+      };
+    }

@@ -17,34 +17,37 @@ use Rattle.check_pairs.specs.Workings.Outcome.{Paired}
 use Rattle.check_surface.specs.Workings.Checks.{CornersChecked}
 use Rattle.check_surface.proofs.Laws.Stops.{no-stop-single, no-stop-proper, stop-single}
 
-module _ (corners : List ℕ) (points : ℕ) where
-  pub unnamed-refused : (i : ℕ) (table : List ℕ) → least (unnamed corners points) (length corners) ≡ At i → CornersChecked corners points (Unnamed i) table
+pub unnamed-refused : {corners table : List ℕ} {points i : ℕ} {f : Found} → f ≡ least (unnamed corners points) (length corners) → f ≡ At i → CornersChecked corners points (Unnamed i) table
+unfolding cornerRefusal
+unnamed-refused told e = record { said = rw (sym told ∙ e); woven = λ d. let z : _≡_ {A = ℕ} 0 1 = cc in absurd (omega arith) }
+
+-- every corner names a point
+all-named : (corners : List ℕ) (points : ℕ) → least (unnamed corners points) (length corners) ≡ Nothing → (i : ℕ) → i < length corners → getD corners i 0 < points
+unfolding unnamed
+all-named corners points e i l = leb-false points (getD corners i 0) (least-never (unnamed corners points) (length corners) e i l)
+
+module _ {corners before table : List ℕ} {points : ℕ} {found first : Found} (room : Room corners before) (paired : Paired corners found table)
+    (told : first ≡ least (unnamed corners points) (length corners)) (none : first ≡ Nothing) where
+  pub woven-done : found ≡ Nothing → CornersChecked corners points Done table
   unfolding cornerRefusal
-  unnamed-refused i table e = record { said = rw e; woven = λ d. let z : _≡_ {A = ℕ} 0 1 = cc in absurd (omega arith) }
+  woven-done e =
+      let n = sym told ∙ none in
+      let s : least (stops corners) (length corners) ≡ Nothing = sym (paired .answer) ∙ e in
+      let single = no-stop-single corners (room .triples) s in
+      let proper = no-stop-proper corners (room .triples) s in
+      record {
+        said = rw (n, proper, single);
+        woven = λ d. record { sound = record { triples = room .triples; proper = proper; single = single }; named = all-named corners points n; turns = paired .turns e };
+      }
 
-  -- every corner names a point
-  all-named : least (unnamed corners points) (length corners) ≡ Nothing → (i : ℕ) → i < length corners → getD corners i 0 < points
-  unfolding unnamed
-  all-named e i l = leb-false points (getD corners i 0) (least-never (unnamed corners points) (length corners) e i l)
-
-  module _ (before table : List ℕ) (room : Room corners before) (found : Found) (paired : Paired corners found table) (n : least (unnamed corners points) (length corners) ≡ Nothing) where
-    pub woven-done : found ≡ Nothing → CornersChecked corners points Done table
+  module _ {f : Found} (looked : f ≡ least (twice corners) (length corners / 3)) where
+    pub twice-refused : {t : ℕ} → f ≡ At t → CornersChecked corners points (Twice t) table
     unfolding cornerRefusal
-    woven-done e =
-        let s : least (stops corners) (length corners) ≡ Nothing = sym (paired .answer) ∙ e in
-        let single = no-stop-single corners (room .triples) s in
-        let proper = no-stop-proper corners (room .triples) s in
-        record {
-          said = rw (n, proper, single);
-          woven = λ d. record { sound = record { triples = room .triples; proper = proper; single = single }; named = all-named n; turns = paired .turns e };
-        }
+    twice-refused e = record { said = rw (sym told ∙ none, sym looked ∙ e); woven = λ d. let z : _≡_ {A = ℕ} 0 1 = cc in absurd (omega arith) }
 
-    pub twice-refused : (t : ℕ) → least (twice corners) (length corners / 3) ≡ At t → CornersChecked corners points (Twice t) table
+    pub repeated-refused : {h : ℕ} → found ≡ At h → f ≡ Nothing → CornersChecked corners points (Repeated h) table
     unfolding cornerRefusal
-    twice-refused t e = record { said = rw (n, e); woven = λ d. let z : _≡_ {A = ℕ} 0 1 = cc in absurd (omega arith) }
-
-    pub repeated-refused : (h : ℕ) → found ≡ At h → least (twice corners) (length corners / 3) ≡ Nothing → CornersChecked corners points (Repeated h) table
-    unfolding cornerRefusal
-    repeated-refused h e p =
+    repeated-refused {h} e q =
+        let p = sym looked ∙ q in
         let s : least (repeats corners) (length corners) ≡ At h = sym (stop-single corners (room .triples) p) ∙ sym (paired .answer) ∙ e in
-        record { said = rw (n, p, s); woven = λ d. let z : _≡_ {A = ℕ} 0 1 = cc in absurd (omega arith) }
+        record { said = rw (sym told ∙ none, p, s); woven = λ d. let z : _≡_ {A = ℕ} 0 1 = cc in absurd (omega arith) }

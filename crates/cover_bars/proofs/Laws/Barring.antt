@@ -18,7 +18,8 @@ by-tests : (s x y : Bool) → ((s && x) && not (s && y)) ≡ ((s && not y) && x)
 by-tests true x y = and-comm x (not y)
 by-tests false x y = refl
 
-met-barred : (input laid ring : List ℕ) (es : List Edge) → ((u v : ℕ) → joins es u v ≡ (between input u v || between laid u v)) → (a b : ℕ) → a < length ring → clearedBelow (length ring) (length ring) (met es ring) a b ≡ barred input laid ring a b
+met-barred : (input laid ring : List ℕ) (es : List Edge) → ((u v : ℕ) → joins es u v ≡ (between input u v || between laid u v)) → (a b : ℕ) → a < length ring
+    → clearedBelow (length ring) (length ring) (met es ring) a b ≡ barred input laid ring a b
 unfolding clearedBelow met touches barred diagonal
 met-barred input laid ring es same a b l =
     let n : ℕ = length ring in
@@ -29,27 +30,27 @@ met-barred input laid ring es same a b l =
     ∙ by-tests (ltb b n) (between input u v || between laid u v) near
     ∙ sym (ap (λ (s : Bool). ((s && ltb b n) && not near) && (between input u v || between laid u v)) (lt-ltb a n l))
 
-module _ (ring heads links ends stamps₀ : List ℕ) (base : ℕ) (rows₀ : List ℕ) (room : BarsRoom ring heads links ends stamps₀ base rows₀) where
-  module _ (stamps rows : List ℕ) (stamp : StampDone ring base stamps rows) where
-    pub bars-room : RowsRoom ring heads links ends stamps base rows
-    bars-room =
-        record {
-          walkable = room .walkable;
-          stamped = stamp .stamped;
-          short = room .room .short;
-          inside = room .room .inside;
-          rows-long = stamp .rows-long;
-        }
+module _ {ring heads links ends stamps₀ : List ℕ} {base : ℕ} {rows₀ : List ℕ} (room : BarsRoom ring heads links ends stamps₀ base rows₀)
+    {stamps rows : List ℕ} (stamp : StampDone ring base stamps rows) where
+  pub bars-room : RowsRoom ring heads links ends stamps base rows
+  bars-room =
+      record {
+        walkable = room .walkable;
+        stamped = stamp .stamped;
+        short = room .room .short;
+        inside = room .room .inside;
+        rows-long = stamp .rows-long;
+      }
 
-    pub bars-done : (rows₁ rows₂ : List ℕ) → AllDone ring heads links ends rows₁ → SidesDone (length ring) rows₁ rows₂ → BarsDone ring heads links ends base stamps rows₂
-    bars-done rows₁ rows₂ all sides =
-        record {
-          stamped = stamp .stamped;
-          below = stamp .below;
-          rows-long = sides .rows-long;
-          bars =
-              λ input laid n t.
-              rows-same (length ring) (clearedBelow (length ring) (length ring) (met (t .edges) ring)) (barred input laid ring) rows₂
-              (sides .cleared (met (t .edges) ring) (all .all (t .edges) (t .chained)))
-              (λ a b l _. met-barred input laid ring (t .edges) (t .same) a b l);
-        }
+  pub bars-done : {rows₁ rows₂ : List ℕ} → AllDone ring heads links ends rows₁ → SidesDone (length ring) rows₁ rows₂
+      → BarsDone ring heads links ends base stamps rows₂
+  bars-done all sides =
+      record {
+        stamped = stamp .stamped;
+        below = stamp .below;
+        rows-long = sides .rows-long;
+        bars =
+            λ input laid n t.
+            rows-same (sides .cleared (met (t .edges) ring) (all .all (t .edges) (t .chained)))
+            (λ a b l _. met-barred input laid ring (t .edges) (t .same) a b l);
+      }

@@ -57,7 +57,7 @@ module _ (corners : List ℕ) where
   sides-length (suc h) = omega (arith, length-append (sides corners h) (edgeOf (startOf corners h) (endOf corners h) ∷ []), sides-length h)
 
 -- they join what they run between, either way
-pub sides-join : (corners : List ℕ) (u v h : ℕ) → joins (sides corners h) u v ≡ (any (least (goes corners u v) h) || any (least (goes corners v u) h))
+sides-join : (corners : List ℕ) (u v h : ℕ) → joins (sides corners h) u v ≡ (any (least (goes corners u v) h) || any (least (goes corners v u) h))
 unfolding sides joins least goes
 sides-join corners u v zero = refl
 sides-join corners u v (suc h) =

@@ -131,7 +131,9 @@ swapped true l f q e = refl
 swapped false l f q e = ap (λ (t : Bool). l || t) e
 
 -- with the first sides of a patch the chains tell of the patch
-pub laid-same : (input laid ring : List ℕ) (c : Cover) → length laid % 3 ≡ 0 → Covers 0 (length ring - 1) c → ((j : ℕ) → j + 1 < length ring → between input (getD ring j 0) (getD ring (j + 1) 0) ≡ true) → (u v : ℕ) → ((between input u v || between laid u v) || joins (firsts (patchOf ring c)) u v) ≡ (between input u v || between (laid ++ patchOf ring c) u v)
+pub laid-same : (input laid ring : List ℕ) (c : Cover) → length laid % 3 ≡ 0 → Covers 0 (length ring - 1) c
+    → ((j : ℕ) → j + 1 < length ring → between input (getD ring j 0) (getD ring (j + 1) 0) ≡ true)
+    → (u v : ℕ) → ((between input u v || between laid u v) || joins (firsts (patchOf ring c)) u v) ≡ (between input u v || between (laid ++ patchOf ring c) u v)
 laid-same input laid ring c w h sides u v =
     swapped (between input u v) (between laid u v) (joins (firsts (patchOf ring c)) u v) (between (patchOf ring c) u v)
     (firsts-tell (λ (j : ℕ). getD ring j 0) u v input (length ring) sides 0 (length ring - 1) c h (let l = covers-forward 0 (length ring - 1) c h in omega arith))

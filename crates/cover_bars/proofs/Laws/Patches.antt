@@ -34,7 +34,7 @@ each-three P a b c l x y z f (suc zero) s = y
 each-three P a b c l x y z f (suc (suc zero)) s = z
 each-three P a b c l x y z f (suc (suc (suc i))) s = f i (omega arith)
 
-pub corners-each : (P : ℕ → Type 0) (vertex : ℕ → ℕ) (n : ℕ) → ((j : ℕ) → j ≤ n → P (vertex j)) → (i k : ℕ) (c : Cover) → Covers i k c → k ≤ n → Each P (cornersOf vertex (triangles i k c))
+corners-each : (P : ℕ → Type 0) (vertex : ℕ → ℕ) (n : ℕ) → ((j : ℕ) → j ≤ n → P (vertex j)) → (i k : ℕ) (c : Cover) → Covers i k c → k ≤ n → Each P (cornersOf vertex (triangles i k c))
 corners-each P vertex n w i k empty h l = λ j s. absurd (not-suc-le-zero s)
 corners-each P vertex n w i k (apex m c d) h l =
     let lo : i < m = h .0 in
@@ -50,7 +50,8 @@ slice-at l p end i s m =
     let e : p + (i - p) ≡ i = omega arith in
     getD-drop p (take end l) (i - p) 0 ∙ ap (λ (z : ℕ). getD (take end l) z 0) e ∙ getD-take end l i 0 m
 
-pub patch-inside : (patches : List ℕ) (p end : ℕ) (ring : List ℕ) (c : Cover) → end ≤ length patches → slice p end patches ≡ patchOf ring c → Covers 0 (length ring - 1) c → ((j : ℕ) → j < length ring → getD ring j 0 < limits.points) → (i : ℕ) → p ≤ i → i < end → getD patches i 0 < limits.points
+pub patch-inside : (patches : List ℕ) (p end : ℕ) (ring : List ℕ) (c : Cover) → end ≤ length patches → slice p end patches ≡ patchOf ring c → Covers 0 (length ring - 1) c
+    → ((j : ℕ) → j < length ring → getD ring j 0 < limits.points) → (i : ℕ) → p ≤ i → i < end → getD patches i 0 < limits.points
 patch-inside patches p end ring c r is h w i s m =
     let f : 0 < length ring - 1 = covers-forward 0 (length ring - 1) c h in
     let n : length (slice p end patches) ≡ end - p = length-slice p end patches r in

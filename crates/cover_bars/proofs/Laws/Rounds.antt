@@ -58,11 +58,12 @@ met-all es ring a b l =
 
 -- ---- all positions
 
-module _ (ring heads links ends stamps : List ℕ) (base : ℕ) (rows : List ℕ) where
-  pub round-begins : RowsRoom ring heads links ends stamps base rows → ((j : ℕ) → j < length ring → getD rows j 0 ≡ 0) → Rounding ring heads links ends stamps base rows 0
-  round-begins room clear = record { room = room; within = zero-le; told = λ es c. rows-clear (length ring) (metBelow es ring 0) rows (room .rows-long) clear (met-none es ring) }
+module _ {ring heads links ends stamps : List ℕ} {base : ℕ} {rows : List ℕ} where
+  pub round-begins : RowsRoom ring heads links ends stamps base rows → ((j : ℕ) → j < length ring → getD rows j 0 ≡ 0)
+      → Rounding ring heads links ends stamps base rows 0
+  round-begins room clear = record { room = room; within = zero-le; told = λ es c. rows-clear (room .rows-long) clear (met-none es ring) }
 
-  module _ (j : ℕ) (round : Rounding ring heads links ends stamps base rows j) where
+  module _ {j : ℕ} (round : Rounding ring heads links ends stamps base rows j) where
     pub round-ends : length ring ≤ j → AllDone ring heads links ends rows
     round-ends l =
         let w : j ≤ length ring = round .within in
@@ -71,25 +72,15 @@ module _ (ring heads links ends stamps : List ℕ) (base : ℕ) (rows : List ℕ
           rows-long = round .room .rows-long;
           all =
               λ es c.
-              rows-same (length ring) (metBelow es ring (length ring)) (met es ring) rows
-              (subst (λ (z : ℕ). Rows (length ring) (metBelow es ring z) rows) e (round .told es c))
+              rows-same (subst (λ (z : ℕ). Rows (length ring) (metBelow es ring z) rows) e (round .told es c))
               (λ a b m _. met-all es ring a b m);
         }
 
-    pub round-more : (rows′ : List ℕ) → j < length ring → FromDone ring heads links ends j rows rows′ → Rounding ring heads links ends stamps base rows′ (j + 1)
-    round-more rows′ l d =
+    pub round-more : {rows′ : List ℕ} → j < length ring → FromDone ring heads links ends j rows rows′ → Rounding ring heads links ends stamps base rows′ (j + 1)
+    round-more l d =
+        let room = round .room in
         record {
-          room =
-              record {
-                walkable = round .room .walkable;
-                stamped = round .room .stamped;
-                short = round .room .short;
-                inside = round .room .inside;
-                rows-long = d .rows-long;
-              };
+          room = record { walkable = room .walkable; stamped = room .stamped; short = room .short; inside = room .inside; rows-long = d .rows-long };
           within = omega arith;
-          told =
-              λ es c.
-              rows-same (length ring) (withFrom es ring j (metBelow es ring j)) (metBelow es ring (j + 1)) rows′ (d .more es c (metBelow es ring j) (round .told es c))
-              (λ a b _ _. met-more es ring j a b);
+          told = λ es c. rows-same (d .more es c (metBelow es ring j) (round .told es c)) (λ a b _ _. met-more es ring j a b);
         }

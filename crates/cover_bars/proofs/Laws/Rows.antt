@@ -15,12 +15,13 @@ use Rattle.surface_rules.proofs.Laws.Tests.{eq-or-not}
 use Rattle.cover_bits.specs.Workings.Masks.{bit, Rows}
 use Rattle.cover_bits.proofs.Laws.Masks.{with-bit, less-bit, bit-zero}
 
-module _ (n : ℕ) (p q : ℕ → ℕ → Bool) (rows : List ℕ) (told : Rows n p rows) where
+module _ {n : ℕ} {p q : ℕ → ℕ → Bool} {rows : List ℕ} (told : Rows n p rows) where
   pub rows-same : ((a b : ℕ) → a < n → b < limits.longest → p a b ≡ q a b) → Rows n q rows
   rows-same w = record { long = told .long; tells = λ a b l m. told .tells a b l m ∙ w a b l m }
 
   -- row i gets another word
-  pub rows-set : (i x : ℕ) → i < limits.longest → ((b : ℕ) → b < limits.longest → bit x b ≡ q i b) → ((a b : ℕ) → (a ≡ i → ⊥) → p a b ≡ q a b) → Rows n q (set rows i x)
+  rows-set : (i x : ℕ) → i < limits.longest → ((b : ℕ) → b < limits.longest → bit x b ≡ q i b) → ((a b : ℕ) → (a ≡ i → ⊥) → p a b ≡ q a b)
+      → Rows n q (set rows i x)
   rows-set i x s here there =
       record {
         long = length-set rows i x ∙ told .long;
@@ -37,26 +38,29 @@ module _ (n : ℕ) (p q : ℕ → ℕ → Bool) (rows : List ℕ) (told : Rows n
       }
 
 -- rows that are clear tell nothing
-pub rows-clear : (n : ℕ) (p : ℕ → ℕ → Bool) (rows : List ℕ) → length rows ≡ limits.longest → ((j : ℕ) → j < n → getD rows j 0 ≡ 0) → ((a b : ℕ) → p a b ≡ false) → Rows n p rows
-rows-clear n p rows long clear w = record { long = long; tells = λ a b l m. ap (λ (z : ℕ). bit z b) (clear a l) ∙ bit-zero b ∙ sym (w a b) }
+pub rows-clear : {n : ℕ} {p : ℕ → ℕ → Bool} {rows : List ℕ} → length rows ≡ limits.longest → ((j : ℕ) → j < n → getD rows j 0 ≡ 0)
+    → ((a b : ℕ) → p a b ≡ false) → Rows n p rows
+rows-clear long clear w = record { long = long; tells = λ a b l m. ap (λ (z : ℕ). bit z b) (clear a l) ∙ bit-zero b ∙ sym (w a b) }
 
 -- p with the pair i, k, in this order
 abbrev pub one : (ℕ → ℕ → Bool) → ℕ → ℕ → ℕ → ℕ → Bool
 one p i k a b = p a b || (eqb a i && eqb b k)
 
--- row i with k set too
-pub rows-one : (n : ℕ) (p : ℕ → ℕ → Bool) (rows : List ℕ) (i k : ℕ) → n ≤ limits.longest → i < n → Rows n p rows → Rows n (one p i k) (set rows i (bitOr (getD rows i 0) (1 * 2 ^ k % 2 ^ limits.longest)))
-rows-one n p rows i k s l told =
-    rows-set n p (one p i k) rows told i (bitOr (getD rows i 0) (1 * 2 ^ k % 2 ^ limits.longest)) (omega arith)
-    (λ b m.
-    with-bit limits.longest (getD rows i 0) k b m
-    ∙ ap (λ (t : Bool). t || eqb b k) (told .tells i b l m)
-    ∙ ap (λ (t : Bool). p i b || (t && eqb b k)) (sym (eq-eqb i i refl)))
-    (λ a b e. sym (ap (λ (t : Bool). p a b || (t && eqb b k)) (ne-eqb a i e) ∙ or-false (p a b)))
+module _ {n : ℕ} {p : ℕ → ℕ → Bool} {rows : List ℕ} (short : n ≤ limits.longest) (i : ℕ) (l : i < n) (told : Rows n p rows) where
+  -- row i with k set too
+  pub rows-one : (k : ℕ) → Rows n (one p i k) (set rows i (bitOr (getD rows i 0) (1 * 2 ^ k % 2 ^ limits.longest)))
+  rows-one k =
+      rows-set told i _ (omega arith)
+      (λ b m.
+      with-bit limits.longest (getD rows i 0) k b m
+      ∙ ap (λ (t : Bool). t || eqb b k) (told .tells i b l m)
+      ∙ ap (λ (t : Bool). p i b || (t && eqb b k)) (sym (eq-eqb i i refl)))
+      (λ a b e. sym (ap (λ (t : Bool). p a b || (t && eqb b k)) (ne-eqb a i e) ∙ or-false (p a b)))
 
--- row i without the digits of a mask
-pub rows-less : (n : ℕ) (p q : ℕ → ℕ → Bool) (rows : List ℕ) (i mask : ℕ) → n ≤ limits.longest → i < n → Rows n p rows → mask < 2 ^ limits.longest → ((b : ℕ) → b < limits.longest → (p i b && not (bit mask b)) ≡ q i b) → ((a b : ℕ) → (a ≡ i → ⊥) → p a b ≡ q a b) → Rows n q (set rows i (bitAnd (getD rows i 0) (2 ^ limits.longest - 1 - mask)))
-rows-less n p q rows i mask s l told fits here there =
-    rows-set n p q rows told i (bitAnd (getD rows i 0) (2 ^ limits.longest - 1 - mask)) (omega arith)
-    (λ b m. less-bit limits.longest (getD rows i 0) mask b fits m ∙ ap (λ (t : Bool). t && not (bit mask b)) (told .tells i b l m) ∙ here b m)
-    there
+  -- row i without the digits of a mask
+  pub rows-less : {q : ℕ → ℕ → Bool} (mask : ℕ) → mask < 2 ^ limits.longest → ((b : ℕ) → b < limits.longest → (p i b && not (bit mask b)) ≡ q i b)
+      → ((a b : ℕ) → (a ≡ i → ⊥) → p a b ≡ q a b) → Rows n q (set rows i (bitAnd (getD rows i 0) (2 ^ limits.longest - 1 - mask)))
+  rows-less mask fits here there =
+      rows-set told i _ (omega arith)
+      (λ b m. less-bit limits.longest (getD rows i 0) mask b fits m ∙ ap (λ (t : Bool). t && not (bit mask b)) (told .tells i b l m) ∙ here b m)
+      there

@@ -52,11 +52,10 @@ module _ (n : ℕ) (p : ℕ → ℕ → Bool) where
       or-same true t q = refl
       or-same false t q = sym q
 
-clear-row : (n : ℕ) (p : ℕ → ℕ → Bool) (rows : List ℕ) (j mask : ℕ) → n ≤ limits.longest → j < n → mask < 2 ^ limits.longest → ((b : ℕ) → b < limits.longest → bit mask b ≡ touches n j b) → Rows n (clearedBelow n j p) rows → Rows n (clearedBelow n (j + 1) p) (less rows j mask)
-clear-row n p rows j mask s l f w told =
-    rows-less n (clearedBelow n j p) (clearedBelow n (j + 1) p) rows j mask s l told f
-    (λ b m. clear-here n p j b (bit mask b) (w b m))
-    (λ a b e. clear-there n p j a b e)
+clear-row : {n : ℕ} (p : ℕ → ℕ → Bool) {rows : List ℕ} (j mask : ℕ) → n ≤ limits.longest → j < n → mask < 2 ^ limits.longest
+    → ((b : ℕ) → b < limits.longest → bit mask b ≡ touches n j b) → Rows n (clearedBelow n j p) rows
+    → Rows n (clearedBelow n (j + 1) p) (less rows j mask)
+clear-row {n} p j mask s l f w told = rows-less s j l told mask f (λ b m. clear-here n p j b (bit mask b) (w b m)) (clear-there n p j)
 
 shifted-small : (a k : ℕ) → a * 2 ^ k % 2 ^ limits.longest < 2 ^ limits.longest
 shifted-small a k = mod-lt (a * 2 ^ k) (pow-pos limits.longest)
@@ -68,8 +67,8 @@ both-small a b k l = or-lt limits.longest a (b * 2 ^ k % 2 ^ limits.longest) l (
 abbrev begun : ℕ → List ℕ → List ℕ
 begun n rows = less rows 0 (bitOr 3 (1 * 2 ^ (n - 1) % 2 ^ limits.longest))
 
-pub sides-begin : (n : ℕ) (rows : List ℕ) → 3 ≤ n → n ≤ limits.longest → length rows ≡ limits.longest → Clearing n (begun n rows) (begun n rows) 1
-sides-begin n rows long short r =
+pub sides-begin : {n : ℕ} (rows : List ℕ) → 3 ≤ n → n ≤ limits.longest → length rows ≡ limits.longest → Clearing n (begun n rows) (begun n rows) 1
+sides-begin rows long short r =
     record {
       long = long;
       short = short;
@@ -79,13 +78,14 @@ sides-begin n rows long short r =
       told = λ p t. t;
     }
 
-first-told : (n : ℕ) (rows : List ℕ) (p : ℕ → ℕ → Bool) → 3 ≤ n → n ≤ limits.longest → Rows n p rows → Rows n (clearedBelow n 1 p) (begun n rows)
-first-told n rows p long short t =
-    clear-row n p rows 0 (bitOr 3 (1 * 2 ^ (n - 1) % 2 ^ limits.longest)) short (omega arith) (both-small 3 1 (n - 1) (omega arith)) (first-mask n long)
-    (rows-same n p (clearedBelow n 0 p) rows t (λ a b _ _. clear-none n p a b))
+first-told : {n : ℕ} {rows : List ℕ} (p : ℕ → ℕ → Bool) → 3 ≤ n → n ≤ limits.longest → Rows n p rows → Rows n (clearedBelow n 1 p) (begun n rows)
+first-told {n} p long short t =
+    clear-row p 0 (bitOr 3 (1 * 2 ^ (n - 1) % 2 ^ limits.longest)) short (omega arith) (both-small 3 1 (n - 1) (omega arith)) (first-mask n long)
+    (rows-same t (λ a b _ _. clear-none n p a b))
 
-pub sides-more : (n : ℕ) (rows₁ rows : List ℕ) (j : ℕ) → Clearing n rows₁ rows j → j < n - 1 → Clearing n rows₁ (less rows j (7 * 2 ^ (j - 1) % 2 ^ limits.longest)) (j + 1)
-sides-more n rows₁ rows j going l =
+pub sides-more : {n : ℕ} {rows₁ rows : List ℕ} {j : ℕ} → Clearing n rows₁ rows j → j < n - 1
+    → Clearing n rows₁ (less rows j (7 * 2 ^ (j - 1) % 2 ^ limits.longest)) (j + 1)
+sides-more {n} {rows} {j} going l =
     let b : 0 < j = going .begun in
     record {
       long = going .long;
@@ -95,21 +95,23 @@ sides-more n rows₁ rows j going l =
       rows-long = length-set rows j _ ∙ going .rows-long;
       told =
           λ p t.
-          clear-row n p rows j (7 * 2 ^ (j - 1) % 2 ^ limits.longest) (going .short) (omega arith) (shifted-small 7 (j - 1))
+          clear-row p j (7 * 2 ^ (j - 1) % 2 ^ limits.longest) (going .short) (omega arith) (shifted-small 7 (j - 1))
           (λ b m. inner-mask n (going .long) j b (going .begun) (omega arith) m) (going .told p t);
     }
 
-pub sides-end : (n : ℕ) (rows₀ rows : List ℕ) (j : ℕ) → Clearing n (begun n rows₀) rows j → n - 1 ≤ j → SidesDone n rows₀ (less rows (n - 1) (bitOr 1 (3 * 2 ^ (n - 2) % 2 ^ limits.longest)))
-sides-end n rows₀ rows j going l =
+pub sides-end : {n : ℕ} {rows₀ rows : List ℕ} {j : ℕ} → Clearing n (begun n rows₀) rows j → n - 1 ≤ j
+    → SidesDone n rows₀ (less rows (n - 1) (bitOr 1 (3 * 2 ^ (n - 2) % 2 ^ limits.longest)))
+sides-end {n} {rows} {j} going l =
     let w : j + 1 ≤ n = going .within in
     let s : 3 ≤ n = going .long in
     let e : j ≡ n - 1 = omega arith in
     let f : n - 1 + 1 ≡ n = omega arith in
+    let mask : ℕ = bitOr 1 (3 * 2 ^ (n - 2) % 2 ^ limits.longest) in
     record {
       rows-long = length-set rows (n - 1) _ ∙ going .rows-long;
       cleared =
           λ p t.
-          subst (λ (z : ℕ). Rows n (clearedBelow n z p) (less rows (n - 1) (bitOr 1 (3 * 2 ^ (n - 2) % 2 ^ limits.longest)))) f
-          (clear-row n p rows (n - 1) (bitOr 1 (3 * 2 ^ (n - 2) % 2 ^ limits.longest)) (going .short) (omega arith) (both-small 1 3 (n - 2) (omega arith)) (last-mask n (going .long))
-          (subst (λ (z : ℕ). Rows n (clearedBelow n z p) rows) e (going .told p (first-told n rows₀ p (going .long) (going .short) t))));
+          subst (λ (z : ℕ). Rows n (clearedBelow n z p) (less rows (n - 1) mask)) f
+          (clear-row p (n - 1) mask (going .short) (omega arith) (both-small 1 3 (n - 2) (omega arith)) (last-mask n s)
+          (subst (λ (z : ℕ). Rows n (clearedBelow n z p) rows) e (going .told p (first-told p s (going .short) t))));
     }

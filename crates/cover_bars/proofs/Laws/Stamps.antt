@@ -23,8 +23,8 @@ pub record Stamping (ring stamps₀ : List ℕ) (base : ℕ) (rows₀ : List ℕ
   pub below : (v : ℕ) → getD stamps v 0 < base + j
   pub clear : (i : ℕ) → i < j → getD rows i 0 ≡ 0
 
-pub stamp-begins : (ring stamps : List ℕ) (base : ℕ) (rows : List ℕ) → StampRoom ring stamps base rows → Stamping ring stamps base rows 0 stamps rows
-stamp-begins ring stamps base rows room =
+pub stamp-begins : {ring stamps : List ℕ} {base : ℕ} {rows : List ℕ} → StampRoom ring stamps base rows → Stamping ring stamps base rows 0 stamps rows
+stamp-begins {stamps} {base} room =
     record {
       room = room;
       within = omega arith;
@@ -36,7 +36,7 @@ stamp-begins ring stamps base rows room =
       clear = λ i l. absurd (not-suc-le-zero l);
     }
 
-module _ (ring stamps₀ : List ℕ) (base : ℕ) (rows₀ : List ℕ) (j : ℕ) (stamps rows : List ℕ) (going : Stamping ring stamps₀ base rows₀ j stamps rows) where
+module _ {ring stamps₀ : List ℕ} {base : ℕ} {rows₀ : List ℕ} {j : ℕ} {stamps rows : List ℕ} (going : Stamping ring stamps₀ base rows₀ j stamps rows) where
   pub stamp-ends : length ring ≤ j → StampDone ring base stamps rows
   stamp-ends l =
       let w : j ≤ length ring = going .within in

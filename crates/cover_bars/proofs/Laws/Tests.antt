@@ -1,6 +1,6 @@
 -- What two tests in one say, and tests in another order.
 use mathlib.Core.Path.{_≡_, refl, sym, ap, _∙_}
-use mathlib.Core.Bool.{Bool, true, false, _||_, true≢false}
+use mathlib.Core.Bool.{Bool, true, false, _||_, or-assoc, true≢false}
 use mathlib.Core.Logic.{_⊎_, inl, inr, ⊎-elim}
 use Prim.Native.Nat.{ℕ, _+_, _<_, _≤_}
 use native.Mathlib.Omega.{arith}
@@ -36,10 +36,7 @@ exchanged false true false d = refl
 exchanged false false c d = refl
 
 pub paired : (a b c d : Bool) → (((a || b) || c) || d) ≡ ((a || c) || (b || d))
-paired true b c d = refl
-paired false true true d = refl
-paired false true false d = refl
-paired false false c d = refl
+paired a b c d = or-assoc (a || b) c d ∙ exchanged a b c d
 
 -- below j + 1 is what is below j, and j
 pub ltb-more : (a j : ℕ) → ltb a (j + 1) ≡ (ltb a j || eqb a j)

@@ -68,7 +68,8 @@ with-none ring j es w p a b =
 -- ---- one step
 
 -- edges of a list that lead from j to b, where those of another do or where an edge to w does
-module _ (ring stamps : List ℕ) (base j : ℕ) (stamped : Stamped ring base stamps) (es fs : List Edge) (w : ℕ) (inside : w < limits.points) (reached : (v : ℕ) → reaches fs (getD ring j 0) v ≡ (eqb w v || reaches es (getD ring j 0) v)) where
+module _ {ring stamps : List ℕ} {base : ℕ} (stamped : Stamped ring base stamps) (j : ℕ) (es fs : List Edge) (w : ℕ) (inside : w < limits.points)
+    (reached : (v : ℕ) → reaches fs (getD ring j 0) v ≡ (eqb w v || reaches es (getD ring j 0) v)) where
   -- the vertex at b has the stamp of b
   stamped-at : (b : ℕ) → b < length ring → w ≡ getD ring b 0 → getD stamps w 0 ≡ base + b
   stamped-at b l e = ap (λ (z : ℕ). getD stamps z 0) e ∙ stamped .placed b l
@@ -84,7 +85,8 @@ module _ (ring stamps : List ℕ) (base j : ℕ) (stamped : Stamped ring base st
   leads-same : getD stamps w 0 < base → (b : ℕ) → leads es ring j b ≡ leads fs ring j b
   leads-same l b =
       ⊎-elim
-      (λ (m : b < length ring). sym (leads-in b m ∙ ap (λ (t : Bool). t || leads es ring j b) (ne-eqb w (getD ring b 0) (λ e. let q = stamped-at b m e in absurd (omega arith)))))
+      (λ (m : b < length ring).
+      sym (leads-in b m ∙ ap (λ (t : Bool). t || leads es ring j b) (ne-eqb w (getD ring b 0) (λ e. let q = stamped-at b m e in absurd (omega arith)))))
       (λ (m : length ring ≤ b). leads-out es b m ∙ sym (leads-out fs b m))
       (lt-or-le b (length ring))
 
@@ -108,140 +110,140 @@ module _ (ring stamps : List ℕ) (base j : ℕ) (stamped : Stamped ring base st
 
 -- ---- the walk
 
-module _ (ring heads links ends stamps : List ℕ) (base j : ℕ) (rows₀ : List ℕ) where
+module _ {ring heads links ends stamps : List ℕ} {base j : ℕ} {rows₀ : List ℕ} (room : RowsRoom ring heads links ends stamps base rows₀) (l : j < length ring) where
+  abbrev head : ℕ
+  head = getD heads (getD ring j 0) 0
+
+  head-is : (es : List Edge) → Chained es heads links ends → head ≡ top (leaves es (getD ring j 0)) (length es)
+  head-is es c = c .headed (getD ring j 0) (room .inside j l)
+
+  head-most : (es : List Edge) → Chained es heads links ends → head ≤ length es
+  head-most es c = omega (arith, head-is es c, top-le (leaves es (getD ring j 0)) (length es))
+
   -- the chain's head is the number of an edge
-  pub head-within : RowsRoom ring heads links ends stamps base rows₀ → j < length ring → getD heads (getD ring j 0) 0 ≤ length links
-  head-within room l =
-      let es : List Edge = room .walkable .edges in
-      let u : ℕ = getD ring j 0 in
-      let e : getD heads u 0 ≡ top (leaves es u) (length es) = room .walkable .chained .headed u (room .inside j l) in
-      let m : top (leaves es u) (length es) ≤ length es = top-le (leaves es u) (length es) in
-      let r : length es ≤ length links = room .walkable .chained .links-room in
-      omega arith
+  pub head-within : getD heads (getD ring j 0) 0 ≤ length links
+  head-within = let w = room .walkable in omega (arith, head-most (w .edges) (w .chained), w .chained .links-room)
 
   -- nothing is led to from the head of the chain on
-  nothing : (es : List Edge) → Chained es heads links ends → j < length ring → getD ring j 0 < limits.points → (b : ℕ) → leads (drop (getD heads (getD ring j 0) 0) es) ring j b ≡ false
+  nothing : (es : List Edge) → Chained es heads links ends → (b : ℕ) → leads (drop head es) ring j b ≡ false
   unfolding leads
-  nothing es c l s b =
+  nothing es c b =
       let u : ℕ = getD ring j 0 in
       ap (λ (t : Bool). ltb b (length ring) && t)
-      (ap (λ (z : ℕ). reaches (drop z es) u (getD ring b 0)) (c .headed u s)
+      (ap (λ (z : ℕ). reaches (drop z es) u (getD ring b 0)) (head-is es c)
       ∙ reaches-top es u (getD ring b 0) (length es) (le-refl (length es))
       ∙ reaches-none es u (getD ring b 0))
       ∙ and-false (ltb b (length ring))
 
-  pub walk-begins : RowsRoom ring heads links ends stamps base rows₀ → j < length ring → Walking ring heads links ends stamps base j rows₀ rows₀ (getD heads (getD ring j 0) 0)
-  walk-begins room l =
+  pub walk-begins : Walking ring heads links ends stamps base j rows₀ rows₀ (getD heads (getD ring j 0) 0)
+  walk-begins =
       record {
         room = room;
         from = l;
         rows-long = room .rows-long;
         all =
             λ es c.
-            let u : ℕ = getD ring j 0 in
-            let e : getD heads u 0 ≡ top (leaves es u) (length es) = c .headed u (room .inside j l) in
-            let m : top (leaves es u) (length es) ≤ length es = top-le (leaves es u) (length es) in
             record {
-              within = omega arith;
-              here = λ s. top-says (leaves es u) (length es) (getD heads u 0 - 1) (sym e ∙ omega arith);
-              told = λ p t. rows-same (length ring) p (withFrom (drop (getD heads u 0) es) ring j p) rows₀ t (λ a b _ _. with-none ring j (drop (getD heads u 0) es) (λ b. nothing es c l (room .inside j l) b) p a b);
+              within = head-most es c;
+              here = λ s. top-says (leaves es (getD ring j 0)) (length es) (head - 1) (sym (head-is es c) ∙ omega arith);
+              told = λ p t. rows-same t (λ a b _ _. with-none ring j (drop head es) (nothing es c) p a b);
             };
       }
 
-  module _ (rows : List ℕ) (g : ℕ) (walk : Walking ring heads links ends stamps base j rows₀ rows g) where
-    pub walk-ends : g ≤ 0 → FromDone ring heads links ends j rows₀ rows
-    walk-ends l =
-        let e : g ≡ 0 = omega arith in
+module _ {ring heads links ends stamps : List ℕ} {base j : ℕ} {rows₀ rows : List ℕ} {g : ℕ} (walk : Walking ring heads links ends stamps base j rows₀ rows g) where
+  pub walk-ends : g ≤ 0 → FromDone ring heads links ends j rows₀ rows
+  walk-ends l =
+      let e : g ≡ 0 = omega arith in
+      record {
+        rows-long = walk .rows-long;
+        more = λ es c p t. subst (λ (z : ℕ). Rows (length ring) (withFrom (drop z es) ring j p) rows) e (walk .all es c .told p t);
+      }
+
+  module _ (more : 0 < g) where
+    abbrev end : ℕ
+    end = getD ends (g - 1) 0
+
+    abbrev link : ℕ
+    link = getD links (g - 1) 0
+
+    abbrev place : ℕ
+    place = getD stamps end 0 - base
+
+    inside : (es : List Edge) → Chained es heads links ends → g - 1 < length es
+    inside es c = omega (arith, walk .all es c .within)
+
+    end-is : (es : List Edge) → Chained es heads links ends → end ≡ getD es (g - 1) (edgeOf 0 0) .to
+    end-is es c = c .ended (g - 1) (inside es c)
+
+    pub walk-inside : (g - 1 < length links) × (g - 1 < length ends) × (getD ends (g - 1) 0 < limits.points)
+    walk-inside =
+        let es : List Edge = walk .room .walkable .edges in
+        let c : Chained es heads links ends = walk .room .walkable .chained in
+        let l = inside es c in
+        let a : length es ≤ length links = c .links-room in
+        let b : length es ≤ length ends = c .ends-room in
+        (omega arith, omega arith, subst (λ (z : ℕ). z < limits.points) (sym (end-is es c)) (c .inside (g - 1) l .1))
+
+    pub walk-place : base ≤ getD stamps (getD ends (g - 1) 0) 0 → getD stamps (getD ends (g - 1) 0) 0 - base < length ring
+    walk-place l = walk .room .stamped .only end (walk-inside .2) l .0
+
+    link-is : (es : List Edge) → Chained es heads links ends → link ≡ top (leaves es (getD ring j 0)) (g - 1)
+    unfolding leaves
+    link-is es c = c .linked (g - 1) (inside es c) ∙ ap (λ (z : ℕ). top (leaves es z) (g - 1)) (eqb-true _ _ (walk .all es c .here more))
+
+    pub walk-less : getD links (g - 1) 0 < g
+    walk-less =
+        let es : List Edge = walk .room .walkable .edges in
+        omega (arith, link-is es (walk .room .walkable .chained), top-le (leaves es (getD ring j 0)) (g - 1))
+
+    reached : (es : List Edge) → Chained es heads links ends → (v : ℕ) → reaches (drop link es) (getD ring j 0) v ≡ (eqb end v || reaches (drop g es) (getD ring j 0) v)
+    reached es c v =
+        let l = inside es c in
+        let u : ℕ = getD ring j 0 in
+        let s : suc (g - 1) ≡ g = omega arith in
+        ap (λ (z : ℕ). reaches (drop z es) u v) (link-is es c)
+        ∙ reaches-top es u v (g - 1) (omega arith)
+        ∙ met-here es u v (g - 1) l (walk .all es c .here more)
+        ∙ ap₂ (λ (y z : ℕ). eqb y v || reaches (drop z es) u v) (sym (end-is es c)) s
+
+    -- on to the link, with the rows that the step leaves
+    onward : {rows′ : List ℕ} → length rows′ ≡ limits.longest
+        → ((es : List Edge) → Chained es heads links ends → (p : ℕ → ℕ → Bool) → Rows (length ring) (withFrom (drop g es) ring j p) rows
+        → Rows (length ring) (withFrom (drop link es) ring j p) rows′)
+        → Walking ring heads links ends stamps base j rows₀ rows′ link
+    onward long step =
         record {
-          rows-long = walk .rows-long;
-          more = λ es c p t. subst (λ (z : ℕ). Rows (length ring) (withFrom (drop z es) ring j p) rows) e (walk .all es c .told p t);
+          room = walk .room;
+          from = walk .from;
+          rows-long = long;
+          all =
+              λ es c.
+              record {
+                within = omega (arith, walk .all es c .within, walk-less);
+                here = λ s. top-says (leaves es (getD ring j 0)) (g - 1) (link - 1) (sym (link-is es c) ∙ omega arith);
+                told = λ p t. step es c p (walk .all es c .told p t);
+              };
         }
 
-    module _ (more : 0 < g) where
-      abbrev end : ℕ
-      end = getD ends (g - 1) 0
+    pub walk-passes : {rows′ : List ℕ} → rows′ ≡ rows → getD stamps (getD ends (g - 1) 0) 0 < base
+        → Walking ring heads links ends stamps base j rows₀ rows′ (getD links (g - 1) 0)
+    walk-passes e l =
+        onward (ap length e ∙ walk .rows-long)
+        (λ es c p t.
+        rows-same (rw e t)
+        (λ a b _ _.
+        with-same ring j (drop g es) (drop link es) (leads-same (walk .room .stamped) j (drop g es) (drop link es) end (walk-inside .2) (reached es c) l) p a b))
 
-      end-is : (es : List Edge) → Chained es heads links ends → end ≡ getD es (g - 1) (edgeOf 0 0) .to
-      end-is es c = let l : g ≤ length es = walk .all es c .within in c .ended (g - 1) (omega arith)
+    -- row i with k set too
+    abbrev set-too : List ℕ → ℕ → ℕ → List ℕ
+    set-too r i k = set r i (bitOr (getD r i 0) (1 * 2 ^ k % 2 ^ limits.longest))
 
-      pub walk-inside : (g - 1 < length links) × (g - 1 < length ends) × (getD ends (g - 1) 0 < limits.points)
-      walk-inside =
-          let es : List Edge = walk .room .walkable .edges in
-          let c : Chained es heads links ends = walk .room .walkable .chained in
-          let l : g ≤ length es = walk .all es c .within in
-          let a : length es ≤ length links = c .links-room in
-          let b : length es ≤ length ends = c .ends-room in
-          (omega arith, omega arith, subst (λ (z : ℕ). z < limits.points) (sym (end-is es c)) (c .inside (g - 1) (omega arith) .1))
-
-      pub walk-place : base ≤ getD stamps (getD ends (g - 1) 0) 0 → getD stamps (getD ends (g - 1) 0) 0 - base < length ring
-      walk-place l = walk .room .stamped .only end (walk-inside .2) l .0
-
-      link-is : (es : List Edge) → Chained es heads links ends → getD links (g - 1) 0 ≡ top (leaves es (getD ring j 0)) (g - 1)
-      unfolding leaves
-      link-is es c =
-          let l : g ≤ length es = walk .all es c .within in
-          c .linked (g - 1) (omega arith) ∙ ap (λ (z : ℕ). top (leaves es z) (g - 1)) (eqb-true _ _ (walk .all es c .here more))
-
-      pub walk-less : getD links (g - 1) 0 < g
-      walk-less =
-          let es : List Edge = walk .room .walkable .edges in
-          let e = link-is es (walk .room .walkable .chained) in
-          let m : top (leaves es (getD ring j 0)) (g - 1) ≤ g - 1 = top-le (leaves es (getD ring j 0)) (g - 1) in
-          omega arith
-
-      reached : (es : List Edge) → Chained es heads links ends → (v : ℕ) → reaches (drop (getD links (g - 1) 0) es) (getD ring j 0) v ≡ (eqb end v || reaches (drop g es) (getD ring j 0) v)
-      reached es c v =
-          let l : g ≤ length es = walk .all es c .within in
-          let u : ℕ = getD ring j 0 in
-          let s : suc (g - 1) ≡ g = omega arith in
-          ap (λ (z : ℕ). reaches (drop z es) u v) (link-is es c)
-          ∙ reaches-top es u v (g - 1) (omega arith)
-          ∙ met-here es u v (g - 1) (omega arith) (walk .all es c .here more)
-          ∙ ap₂ (λ (y z : ℕ). eqb y v || reaches (drop z es) u v) (sym (end-is es c)) s
-
-      -- on to the link, with the rows that the step leaves
-      onward : (rows′ : List ℕ) → length rows′ ≡ limits.longest → ((es : List Edge) → Chained es heads links ends → (p : ℕ → ℕ → Bool) → Rows (length ring) (withFrom (drop g es) ring j p) rows → Rows (length ring) (withFrom (drop (getD links (g - 1) 0) es) ring j p) rows′) → Walking ring heads links ends stamps base j rows₀ rows′ (getD links (g - 1) 0)
-      onward rows′ long step =
-          record {
-            room = walk .room;
-            from = walk .from;
-            rows-long = long;
-            all =
-                λ es c.
-                let l : g ≤ length es = walk .all es c .within in
-                let m : getD links (g - 1) 0 < g = walk-less in
-                record {
-                  within = omega arith;
-                  here = λ s. top-says (leaves es (getD ring j 0)) (g - 1) (getD links (g - 1) 0 - 1) (sym (link-is es c) ∙ omega arith);
-                  told = λ p t. step es c p (walk .all es c .told p t);
-                };
-          }
-
-      pub walk-passes : (rows′ : List ℕ) → rows′ ≡ rows → getD stamps (getD ends (g - 1) 0) 0 < base → Walking ring heads links ends stamps base j rows₀ rows′ (getD links (g - 1) 0)
-      walk-passes rows′ e l =
-          onward rows′ (ap length e ∙ walk .rows-long)
-          (λ es c p t.
-          rows-same (length ring) (withFrom (drop g es) ring j p) (withFrom (drop (getD links (g - 1) 0) es) ring j p) rows′ (rw e t)
-          (λ a b _ _.
-          with-same ring j (drop g es) (drop (getD links (g - 1) 0) es)
-          (leads-same ring stamps base j (walk .room .stamped) (drop g es) (drop (getD links (g - 1) 0) es) end (walk-inside .2) (reached es c) l) p a b))
-
-      -- row i with k set too
-      abbrev set-too : List ℕ → ℕ → ℕ → List ℕ
-      set-too r i k = set r i (bitOr (getD r i 0) (1 * 2 ^ k % 2 ^ limits.longest))
-
-      abbrev place : ℕ
-      place = getD stamps (getD ends (g - 1) 0) 0 - base
-
-      pub walk-bars : (rows′ : List ℕ) → rows′ ≡ set-too (set-too rows j (getD stamps (getD ends (g - 1) 0) 0 - base)) (getD stamps (getD ends (g - 1) 0) 0 - base) j → base ≤ getD stamps (getD ends (g - 1) 0) 0 → Walking ring heads links ends stamps base j rows₀ rows′ (getD links (g - 1) 0)
-      walk-bars rows′ e l =
-          let n : length ring ≤ limits.longest = walk .room .short in
-          onward rows′ (ap length e ∙ length-set (set-too rows j place) place _ ∙ length-set rows j _ ∙ walk .rows-long)
-          (λ es c p t.
-          rows-same (length ring) (one (one (withFrom (drop g es) ring j p) j place) place j) (withFrom (drop (getD links (g - 1) 0) es) ring j p) rows′
-          (rw e
-          (rows-one (length ring) (one (withFrom (drop g es) ring j p) j place) (set-too rows j place) place j n (walk-place l)
-          (rows-one (length ring) (withFrom (drop g es) ring j p) rows j place n (walk .from) t)))
-          (λ a b _ _.
-          with-more ring j (drop g es) (drop (getD links (g - 1) 0) es) place
-          (leads-more ring stamps base j (walk .room .stamped) (drop g es) (drop (getD links (g - 1) 0) es) end (walk-inside .2) (reached es c) l) p a b))
+    pub walk-bars : {rows′ : List ℕ} → rows′ ≡ set-too (set-too rows j place) place j → base ≤ getD stamps (getD ends (g - 1) 0) 0
+        → Walking ring heads links ends stamps base j rows₀ rows′ (getD links (g - 1) 0)
+    walk-bars e l =
+        let n : length ring ≤ limits.longest = walk .room .short in
+        onward (ap length e ∙ length-set (set-too rows j place) place _ ∙ length-set rows j _ ∙ walk .rows-long)
+        (λ es c p t.
+        rows-same (rw e (rows-one n place (walk-place l) (rows-one n j (walk .from) t place) j))
+        (λ a b _ _.
+        with-more ring j (drop g es) (drop link es) place (leads-more (walk .room .stamped) j (drop g es) (drop link es) end (walk-inside .2) (reached es c) l) p a b))

@@ -13,16 +13,16 @@ Inv-loop ring heads links ends stamps base rows₀ n j₀ rows j = Rounding ring
 abbrev μ-loop : tie.MeasureT-loop
 μ-loop ring heads links ends stamps base rows₀ n j₀ rows j = length ring - j
 
-abbrev to-at-loop : tie.After-bars-from Inv-loop μ-loop → tie.At-loop Inv-loop μ-loop
-to-at-loop p = search
+abbrev here : tie.After-bars-from Inv-loop μ-loop → tie.At-loop Inv-loop μ-loop
+here f = search
 
 pub bars-all-spec : {M : Type 1} → statement M
 bars-all-spec =
     tie.close
     (tie.spec Inv-loop μ-loop
-    (λ c. let start : tie.Start Inv-loop μ-loop = search in (round-begins _ _ _ _ _ _ _ (start .pre .0) (start .pre .1), refl))
-    (λ c κs. let at-loop : tie.At-loop Inv-loop μ-loop = search in (at-loop .loop .inv .0 .room, search needs))
+    (λ c. let s : tie.Start Inv-loop μ-loop = search in (round-begins (s .pre .0) (s .pre .1), refl))
+    (λ c κs. let h : tie.At-loop Inv-loop μ-loop = search in (h .loop .inv .0 .room, search needs))
     (λ c. search needs)
     (λ c. search needs)
-    (λ c. let at-loop = to-at-loop c in (round-more _ _ _ _ _ _ _ _ (at-loop .loop .inv .0) _ (search needs) (c .bars-from .ensures), at-loop .loop .inv .1))
+    (λ c. let g = here c .loop .inv in (round-more (g .0) (search needs) (c .bars-from .ensures), g .1))
     (λ c. search round-ends))

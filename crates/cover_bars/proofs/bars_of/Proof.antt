@@ -3,25 +3,21 @@ use Rattle.cover_bars.proofs.Laws.Barring.{bars-room, bars-done}
 use Rattle.cover_bars.proofs.bars_of.Statement.{statement}
 use Rattle.cover_bars.proofs.bars_of.Tie as tie
 
-abbrev to-start : tie.After-stamp-ring → tie.Start
-to-start p = search
+-- where the ring is stamped, and the function's entry behind it
+abbrev Stamped : Type 0
+Stamped = tie.After-stamp-ring
 
-abbrev to-after-stamp-ring : tie.After-bars-all → tie.After-stamp-ring
-to-after-stamp-ring p = search
+abbrev entry : Stamped → tie.Start
+entry s = search
 
-abbrev to-start-2 : tie.After-bars-all → tie.Start
-to-start-2 p = to-start (to-after-stamp-ring p)
+abbrev stamped : tie.After-bars-all → Stamped
+stamped a = search
 
 pub bars-of-spec : {M : Type 1} → statement M
 bars-of-spec =
     tie.close
     (tie.spec
-    (λ c κs. let start : tie.Start = search in start .pre .room)
-    (λ c κs.
-    let after-stamp-ring : tie.After-stamp-ring = search in
-    (bars-room _ _ _ _ _ _ _ (to-start after-stamp-ring .pre) _ _ (after-stamp-ring .stamp-ring .ensures), after-stamp-ring .stamp-ring .ensures .clear))
-    (λ c κs.
-    let after-bars-all : tie.After-bars-all = search in
-    let start = to-start-2 after-bars-all in
-    (start .pre .long, start .pre .room .short, c .before .bars-all .ensures .rows-long))
+    (λ c κs. let s : tie.Start = search in s .pre .room)
+    (λ c κs. let s : Stamped = search in let d = s .stamp-ring .ensures in (bars-room (entry s .pre) d, d .clear))
+    (λ c κs. let a : tie.After-bars-all = search in let r = entry (stamped a) .pre in (r .long, r .room .short, a .bars-all .ensures .rows-long))
     (λ c. search bars-done))

@@ -1,5 +1,5 @@
 -- `chain_input` chains triangle after triangle, with all half-edges before them chained.
-use Prim.Native.Nat.{_-_}
+use Prim.Native.Nat.{_-_, _<_}
 use mathlib.Core.Path.{_≡_, refl}
 use native.Mathlib.Omega.{arith}
 use lib.ListN.{length}
@@ -14,49 +14,61 @@ Inv-loop corners heads₀ links₀ ends₀ n h₀ heads links ends h = Inputting
 abbrev μ-loop : tie.MeasureT-loop
 μ-loop corners heads₀ links₀ ends₀ n h₀ heads links ends h = length corners - h
 
-abbrev to-at-loop : tie.After-chain Inv-loop μ-loop → tie.At-loop Inv-loop μ-loop
-to-at-loop p = search
+-- where a turn begins, and where each of its half-edges is chained
+abbrev Turn : Type 0
+Turn = tie.In-loop Inv-loop μ-loop
 
-abbrev to-after-chain : tie.After-chain2 Inv-loop μ-loop → tie.After-chain Inv-loop μ-loop
-to-after-chain p = search
+abbrev First : Type 0
+First = tie.After-chain Inv-loop μ-loop
 
-abbrev to-at-loop-2 : tie.After-chain2 Inv-loop μ-loop → tie.At-loop Inv-loop μ-loop
-to-at-loop-2 p = to-at-loop (to-after-chain p)
+abbrev Second : Type 0
+Second = tie.After-chain2 Inv-loop μ-loop
+
+abbrev Third : Type 0
+Third = tie.After-chain3 Inv-loop μ-loop
+
+abbrev entry : Turn → tie.Start Inv-loop μ-loop
+entry t = search
+
+abbrev turn : First → Turn
+turn f = search
+
+abbrev first : Second → First
+first s = search
+
+abbrev second : Third → Second
+second t = search
+
+-- a triangle is left
+more : (t : Turn) → t .before .loop .h < length (entry t .args .corners .now)
+more t = search needs
 
 pub chain-input-spec : {M : Type 1} → statement M
 chain-input-spec =
     tie.close
     (tie.spec Inv-loop μ-loop
-    (λ c. let start : tie.Start Inv-loop μ-loop = search in (input-begins _ _ _ _ (start .pre), refl))
+    (λ c. let s : tie.Start Inv-loop μ-loop = search in (input-begins (s .pre), refl))
     (λ c. search needs)
     (λ c. search needs)
     (λ c. search needs)
     (λ c. search needs)
-    (λ c. let at-loop : tie.At-loop Inv-loop μ-loop = search in omega (arith, input-inside _ _ _ _ _ _ _ _ (at-loop .loop .inv .0) (search needs)))
+    (λ c. let t : Turn = search in omega (arith, input-inside (t .before .loop .inv .0) (more t)))
     (λ c. search needs)
     (λ c. search needs)
-    (λ c. let at-loop : tie.At-loop Inv-loop μ-loop = search in omega (arith, input-inside _ _ _ _ _ _ _ _ (at-loop .loop .inv .0) (search needs)))
+    (λ c. let t : Turn = search in omega (arith, input-inside (t .before .loop .inv .0) (more t)))
     (λ c κs. search first-room)
     (λ c. search needs)
     (λ c κs. search second-room)
     (λ c. search needs)
-    (λ c κs.
-    let after-chain2 : tie.After-chain2 Inv-loop μ-loop = search in
-    third-room _ _ _ _ _ _ _ _ (to-at-loop-2 after-chain2 .loop .inv .0) (search needs) _ _ _ (to-after-chain after-chain2 .chain .ensures) _ _ _
-    (after-chain2 .chain2 .ensures))
+    (λ c κs. let s : Second = search in let f = first s in third-room (turn f .before .loop .inv .0) (more (turn f)) (f .chain .ensures) (s .chain2 .ensures))
     (λ c. search needs)
+    (λ c. let t : Third = search in omega (arith, input-inside (turn (first (second t)) .before .loop .inv .0) (more (turn (first (second t))))))
     (λ c.
-    omega
-    (arith, input-inside _ _ _ _ _ _ _ _ (c .before .before .before .before .before .before .before .before .before .before .before .before .before .before .before .before .before .before .before .before .before .before .before .before .before .before .before .before .loop .inv .0) (search needs)))
-    (λ c. (
-      input-more _ _ _ _ _ _ _ _
-          (c .before .before .before .before .before .before .before .before .before .before .before .before .before .before .before .before .before .before .before .before .before .before .before .before .before .before .before .before .loop .inv .0)
-          (search needs) _ _ _
-          (c .before .before .before .before .before .before .before .before .before .before .before .before .before .before .before .before .before .before .before .before .chain .ensures)
-          _ _ _ (c .before .before .before .before .before .before .before .before .before .before .before .before .chain2 .ensures) _ _ _
-          (c .before .before .before .before .chain3 .ensures),
-      c .before .before .before .before .before .before .before .before .before .before .before .before .before .before .before .before .before .before .before .before .before .before .before .before .before .before .before .before .loop .inv .1,
-    ))
+    let t : Third = search in
+    let s = second t in
+    let f = first s in
+    let g = turn f .before .loop .inv in
+    (input-more (g .0) (more (turn f)) (f .chain .ensures) (s .chain2 .ensures) (t .chain3 .ensures), g .1))
     (λ c. c .before .loop .inv .0 .links-kept)
     (λ c. c .before .loop .inv .0 .ends-kept)
     (λ c. search input-ends))

@@ -12,45 +12,28 @@ Inv-loop patches p end heads₀ links₀ ends₀ e q₀ f₀ heads links ends q 
 abbrev μ-loop : tie.MeasureT-loop
 μ-loop patches p end heads₀ links₀ ends₀ e q₀ f₀ heads links ends q f = end - q
 
-abbrev to-at-loop : tie.After-chain Inv-loop μ-loop → tie.At-loop Inv-loop μ-loop
-to-at-loop p = search
+-- where a turn begins, and where its edge is chained
+abbrev Turn : Type 0
+Turn = tie.In-loop Inv-loop μ-loop
 
-abbrev to-turn : tie.After-chain Inv-loop μ-loop → tie.In-loop Inv-loop μ-loop
-to-turn p = search
+abbrev turn : tie.After-chain Inv-loop μ-loop → Turn
+turn l = search
 
 pub chain-laid-spec : {M : Type 1} → statement M
 chain-laid-spec =
     tie.close
     (tie.spec Inv-loop μ-loop
     (λ c. search laying-begins)
-    (λ c.
-    let at-loop : tie.At-loop Inv-loop μ-loop = search in
-    let turn : tie.In-loop Inv-loop μ-loop = search in
-    omega (arith, laying-inside _ _ _ _ _ _ _ _ _ _ _ _ (at-loop .loop .inv) (turn .loop-test .taken)))
-    (λ c.
-    let at-loop : tie.At-loop Inv-loop μ-loop = search in
-    let turn : tie.In-loop Inv-loop μ-loop = search in
-    omega (arith, laying-inside _ _ _ _ _ _ _ _ _ _ _ _ (at-loop .loop .inv) (turn .loop-test .taken)))
+    (λ c. let t : Turn = search in omega (arith, laying-inside (t .before .loop .inv) (t .loop-test .taken)))
+    (λ c. let t : Turn = search in omega (arith, laying-inside (t .before .loop .inv) (t .loop-test .taken)))
     (λ c. search needs)
-    (λ c.
-    let at-loop : tie.At-loop Inv-loop μ-loop = search in
-    let turn : tie.In-loop Inv-loop μ-loop = search in
-    omega (arith, laying-inside _ _ _ _ _ _ _ _ _ _ _ _ (at-loop .loop .inv) (turn .loop-test .taken)))
-    (λ c.
-    let at-loop : tie.At-loop Inv-loop μ-loop = search in
-    let turn : tie.In-loop Inv-loop μ-loop = search in
-    omega (arith, laying-inside _ _ _ _ _ _ _ _ _ _ _ _ (at-loop .loop .inv) (turn .loop-test .taken)))
+    (λ c. let t : Turn = search in omega (arith, laying-inside (t .before .loop .inv) (t .loop-test .taken)))
+    (λ c. let t : Turn = search in omega (arith, laying-inside (t .before .loop .inv) (t .loop-test .taken)))
     (λ c κs. search laying-room)
-    (λ c.
-    let after-chain : tie.After-chain Inv-loop μ-loop = search in
-    omega (arith, laying-inside _ _ _ _ _ _ _ _ _ _ _ _ (to-at-loop after-chain .loop .inv) (to-turn after-chain .loop-test .taken)))
-    (λ c.
-    let after-chain : tie.After-chain Inv-loop μ-loop = search in
-    omega (arith, laying-inside _ _ _ _ _ _ _ _ _ _ _ _ (to-at-loop after-chain .loop .inv) (to-turn after-chain .loop-test .taken)))
-    (λ c.
-    let after-chain : tie.After-chain Inv-loop μ-loop = search in
-    omega (arith, laying-inside _ _ _ _ _ _ _ _ _ _ _ _ (to-at-loop after-chain .loop .inv) (to-turn after-chain .loop-test .taken)))
+    (λ c. let t = turn (search) in omega (arith, laying-inside (t .before .loop .inv) (t .loop-test .taken)))
+    (λ c. let t = turn (search) in omega (arith, laying-inside (t .before .loop .inv) (t .loop-test .taken)))
+    (λ c. let t = turn (search) in omega (arith, laying-inside (t .before .loop .inv) (t .loop-test .taken)))
     (λ c. search laying-more)
-    (λ c. c .before .loop .inv .links-kept)
-    (λ c. c .before .loop .inv .ends-kept)
+    (λ c. c .before .loop .inv .behind .links-kept)
+    (λ c. c .before .loop .inv .behind .ends-kept)
     (λ c. search laying-ends))

@@ -19,7 +19,7 @@ clear-sides-spec =
     (λ c. search needs)
     (λ c. search needs)
     (λ c. search needs)
-    (λ c. sides-begin _ (c .before .args .rows .now) (c .before .pre .0) (c .before .pre .1) (c .before .pre .2))
+    (λ c. sides-begin (c .before .args .rows .now) (c .before .pre .0) (c .before .pre .1) (c .before .pre .2))
     (λ c. search needs)
     (λ c. search needs)
     (λ c. search needs)

@@ -14,21 +14,25 @@ Inv-loop ring stamps₀ base rows₀ n j₀ stamps rows j = Stamping ring stamps
 abbrev μ-loop : tie.MeasureT-loop
 μ-loop ring stamps₀ base rows₀ n j₀ stamps rows j = length ring - j
 
+-- where a turn begins
+abbrev Turn : Type 0
+Turn = tie.In-loop Inv-loop μ-loop
+
 pub stamp-ring-spec : {M : Type 1} → statement M
 stamp-ring-spec =
     tie.close
     (tie.spec Inv-loop μ-loop
-    (λ c. (stamp-begins _ _ _ _ (c .pre), refl))
-    (λ c. omega (arith, stamp-inside _ _ _ _ _ _ _ (c .before .loop .inv .0) (search needs) .2))
-    (λ c. omega (arith, stamp-inside _ _ _ _ _ _ _ (c .before .loop .inv .0) (search needs) .2))
+    (λ c. (stamp-begins (c .pre), refl))
+    (λ c. omega (arith, stamp-inside (c .before .loop .inv .0) (search needs)))
+    (λ c. omega (arith, stamp-inside (c .before .loop .inv .0) (search needs)))
     (λ c. search needs)
     (λ c. search needs)
-    (λ c. let at-loop : tie.At-loop Inv-loop μ-loop = search in omega (arith, stamp-inside _ _ _ _ _ _ _ (at-loop .loop .inv .0) (search needs) .0))
-    (λ c. let at-loop : tie.At-loop Inv-loop μ-loop = search in omega (arith, stamp-inside _ _ _ _ _ _ _ (at-loop .loop .inv .0) (search needs) .0))
-    (λ c. let at-loop : tie.At-loop Inv-loop μ-loop = search in stamp-inside _ _ _ _ _ _ _ (at-loop .loop .inv .0) (search needs) .0)
+    (λ c. let t : Turn = search in omega (arith, stamp-inside (t .before .loop .inv .0) (search needs)))
+    (λ c. let t : Turn = search in omega (arith, stamp-inside (t .before .loop .inv .0) (search needs)))
+    (λ c. let t : Turn = search in stamp-inside (t .before .loop .inv .0) (search needs) .0)
     (λ c. search needs)
-    (λ c. let at-loop : tie.At-loop Inv-loop μ-loop = search in stamp-inside _ _ _ _ _ _ _ (at-loop .loop .inv .0) (search needs) .1)
+    (λ c. let t : Turn = search in stamp-inside (t .before .loop .inv .0) (search needs) .1)
     (λ c. search needs)
     (λ c. search needs)
-    (λ c. let at-loop : tie.At-loop Inv-loop μ-loop = search in (stamp-more _ _ _ _ _ _ _ (at-loop .loop .inv .0) (search needs), at-loop .loop .inv .1))
+    (λ c. let t : Turn = search in let g = t .before .loop .inv in (stamp-more (g .0) (search needs), g .1))
     (λ c. search stamp-ends))

@@ -6,7 +6,6 @@ use mathlib.Core.List.{List, [], _∷_, _++_}
 use Prim.Native.Nat.{ℕ, _+_, _-_, _/_, _%_, _^_, _<_, _≤_}
 use lib.Dec.{eqb, ltb}
 use lib.ListN.{length, getD}
-use lib.Seq.{slice}
 use Rattle.base_limits.specs.Limits as limits
 use Rattle.surface_twins.specs.Workings.Chains.{top}
 use Rattle.cover_rules.specs.Covers.{Cover, Covers, patchOf}
@@ -97,15 +96,15 @@ pub record LaidRoom (patches : List ℕ) (p end : ℕ) (heads links ends : List 
   pub ends-room : e + (end - p) / 3 ≤ length ends
   pub few : e + (end - p) / 3 < 2 ^ 16
 
--- an edge a triangle is chained; and if the triangles are a cover of a ring whose sides the input joins, and the chains told
--- what the input and the patches laid before join, then they tell what those and this one join
-pub record LaidDone (patches : List ℕ) (p end : ℕ) (heads links ends : List ℕ) (e r : ℕ) (heads′ links′ ends′ : List ℕ) : Type 0 where
-  pub count : r ≡ e + (end - p) / 3
+-- an edge a triangle of these is chained; and if they are a cover of a ring whose sides the input joins, and the chains told what the input
+-- and the patches laid before join, then they tell what those and this one join
+pub record LaidDone (these heads links ends : List ℕ) (e r : ℕ) (heads′ links′ ends′ : List ℕ) : Type 0 where
+  pub count : r ≡ e + length these / 3
   pub heads-long : length heads′ ≡ limits.points
   pub tells :
       (input laid ring : List ℕ) (c : Cover) → length laid % 3 ≡ 0 → Covers 0 (length ring - 1) c
       → ((j : ℕ) → j + 1 < length ring → between input (getD ring j 0) (getD ring (j + 1) 0) ≡ true)
-      → slice p end patches ≡ patchOf ring c → Tells input laid e heads links ends
+      → these ≡ patchOf ring c → Tells input laid e heads links ends
       → Tells input (laid ++ patchOf ring c) r heads′ links′ ends′
 
 -- ---- stamps

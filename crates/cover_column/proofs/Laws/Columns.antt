@@ -42,9 +42,9 @@ pub record Multiplying (k : ℕ) (px py pz : List Float) (i : ℕ) (xs ys zs col
   pub zs-long : Long zs
   pub column-long : Long column
 
-module _ (k : ℕ) (px py pz : List Float) where
-  pub multiplying-begins : (xs ys zs column : List Float) → ProductsRoom k px py pz xs ys zs column → Multiplying k px py pz 0 xs ys zs column
-  multiplying-begins xs ys zs column r = record {
+module _ {k : ℕ} {px py pz xs ys zs column : List Float} where
+  pub multiplying-begins : ProductsRoom k px py pz xs ys zs column → Multiplying k px py pz 0 xs ys zs column
+  multiplying-begins r = record {
     x = λ j h. absurd (omega arith);
     y = λ j h. absurd (omega arith);
     z = λ j h. absurd (omega arith);
@@ -56,13 +56,13 @@ module _ (k : ℕ) (px py pz : List Float) where
     column-long = r .column-long;
   }
 
-  pub multiplying-more : (i : ℕ) (xs ys zs column : List Float) → i < k → k < longest → Multiplying k px py pz i xs ys zs column
+  pub multiplying-more : {i : ℕ} → Multiplying k px py pz i xs ys zs column → i < k → k < longest
       → Multiplying k px py pz (i + 1)
       (set xs i (productOf (cell py i) (cell pz i) (cell py k) (cell pz k)))
       (set ys i (productOf (cell pz i) (cell px i) (cell pz k) (cell px k)))
       (set zs i (productOf (cell px i) (cell py i) (cell px k) (cell py k)))
       (set column i farFloat)
-  multiplying-more i xs ys zs column h s p =
+  multiplying-more {i} p h s =
       let lx : length xs ≡ longest = p .xs-long in
       let ly : length ys ≡ longest = p .ys-long in
       let lz : length zs ≡ longest = p .zs-long in
@@ -79,9 +79,9 @@ module _ (k : ℕ) (px py pz : List Float) where
         column-long = length-set column i _ ∙ p .column-long;
       }
 
-  pub multiplied : (i : ℕ) (xs ys zs column : List Float) → 0 < k → k < longest → i ≡ k → Multiplying k px py pz i xs ys zs column
+  pub multiplied : {i : ℕ} → Multiplying k px py pz i xs ys zs column → i ≡ k → 0 < k → k < longest
       → Multiplied k px py pz xs ys zs (set column (k - 1) noughtFloat)
-  multiplied i xs ys zs column h s e p =
+  multiplied p e h s =
       let lc : length column ≡ longest = p .column-long in
       record {
         x = λ j g. p .x j (omega arith);
@@ -106,16 +106,11 @@ pub record Relaxing (table : List Float) (at m : ℕ) (v : Float) (xs ys zs colu
   pub ahead : (j : ℕ) → i ≤ j → cell column j ≡ cell column₀ j
   pub long : Long column
 
--- an even number of places, of which only the last can be m
-pub end-most : (m i : ℕ) → i < 2 * ((m + 1) / 2) → i ≤ m
-end-most m i h = omega arith
-
-pub end-least : (m j : ℕ) → j < m → j < 2 * ((m + 1) / 2)
-end-least m j h = omega arith
-
-pub way-room : (table : List Float) (at m : ℕ) (xs ys zs column : List Float) → RelaxRoom table at m xs ys zs column → (i : ℕ) → i < 2 * ((m + 1) / 2) → WayRoom table at m xs ys zs i
-way-room table at m xs ys zs column r i h =
-    let l : i ≤ m = end-most m i h in
+-- the end is even: of the places below it only the last can be m
+pub way-room : {table : List Float} {at m : ℕ} {xs ys zs column : List Float} → RelaxRoom table at m xs ys zs column
+    → {i : ℕ} → i < 2 * ((m + 1) / 2) → WayRoom table at m xs ys zs i
+way-room {at} {m} r {i} h =
+    let l : i ≤ m = omega arith in
     let a : at + m < pairs = r .inside in
     let b : m < longest = r .short in
     record {
@@ -129,27 +124,23 @@ way-room table at m xs ys zs column r i h =
       sizable = r .sizable i l;
     }
 
-module _ (table : List Float) (at m : ℕ) (v : Float) (xs ys zs column₀ : List Float) (r : RelaxRoom table at m xs ys zs column₀) where
+module _ {table : List Float} {at m : ℕ} {v : Float} {xs ys zs column₀ : List Float} (r : RelaxRoom table at m xs ys zs column₀) where
   pub relaxing-begins : Relaxing table at m v xs ys zs column₀ 0 column₀
   relaxing-begins = record { most = zero-le; done = λ j h. absurd (omega arith); ahead = λ j h. refl; long = r .column-long }
 
-  pub relaxing-in : (i : ℕ) (column : List Float) → i < 2 * ((m + 1) / 2) → Relaxing table at m v xs ys zs column₀ i column → i < length column
-  relaxing-in i column h p =
-      let l : i ≤ m = end-most m i h in
-      let b : m < longest = r .short in
-      let c : length column ≡ longest = p .long in
-      omega arith
+  pub relaxing-in : {i : ℕ} {column : List Float} → Relaxing table at m v xs ys zs column₀ i column → i < 2 * ((m + 1) / 2) → i < length column
+  relaxing-in p h = omega (arith, r .short, p .long)
 
-  pub relaxing-more : (i : ℕ) (column : List Float) (s w : Float) → i < 2 * ((m + 1) / 2) → Relaxing table at m v xs ys zs column₀ i column
+  pub relaxing-more : {i : ℕ} {column : List Float} → Relaxing table at m v xs ys zs column₀ i column → i < 2 * ((m + 1) / 2) → {s w : Float}
       → s ≡ byWay table at m v xs ys zs i → w ≡ lesserOf s (cell column i) → Relaxing table at m v xs ys zs column₀ (i + 1) (set column i w)
-  relaxing-more i column s w h p e f = record {
+  relaxing-more {i} {column} p h {s} {w} e f = record {
     done =
-        cells-more (λ j u. u ≡ lesserOf (byWay table at m v xs ys zs j) (cell column₀ j)) column i w (relaxing-in i column h p) (p .done)
+        cells-more (λ j u. u ≡ lesserOf (byWay table at m v xs ys zs j) (cell column₀ j)) column i w (relaxing-in p h) (p .done)
         (f ∙ ap (λ (x : Float). lesserOf x (cell column i)) e ∙ ap (λ (x : Float). lesserOf (byWay table at m v xs ys zs i) x) (p .ahead i (le-refl i)));
     most = omega arith;
     ahead = λ j g. getD-set-other column i j w nan (λ q. absurd (omega arith)) ∙ p .ahead j (omega arith);
     long = length-set column i w ∙ p .long;
   }
 
-  pub relaxed : (i : ℕ) (column : List Float) → i ≡ 2 * ((m + 1) / 2) → Relaxing table at m v xs ys zs column₀ i column → Relaxed table at m v xs ys zs column₀ column
-  relaxed i column e p j h = p .done j (subst (λ (x : ℕ). j < x) (sym e) (end-least m j h))
+  pub relaxed : {i : ℕ} {column : List Float} → Relaxing table at m v xs ys zs column₀ i column → i ≡ 2 * ((m + 1) / 2) → Relaxed table at m v xs ys zs column₀ column
+  relaxed p e j h = p .done j (omega arith)

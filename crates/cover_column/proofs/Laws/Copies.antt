@@ -29,7 +29,7 @@ pub record Copying (k at : ℕ) (xs ys zs table₀ : List Float) (i : ℕ) (tabl
   pub z-below : (q : ℕ) → q < at → cell table (2 * pairs + q) ≡ cell table₀ (2 * pairs + q)
   pub weights : (q : ℕ) → q < pairs → cell table (3 * pairs + q) ≡ cell table₀ (3 * pairs + q)
 
-module _ (k at : ℕ) (xs ys zs table₀ : List Float) where
+module _ {k at : ℕ} {xs ys zs table₀ : List Float} where
   pub copying-begins : CopyRoom k xs ys zs table₀ → at ≡ row k → Copying k at xs ys zs table₀ 0 table₀
   copying-begins r e =
       let s : k < longest = r .short in
@@ -48,7 +48,7 @@ module _ (k at : ℕ) (xs ys zs table₀ : List Float) where
         weights = λ q h. refl;
       }
 
-  module _ (i : ℕ) (table : List Float) (l : i < k) (p : Copying k at xs ys zs table₀ i table) where
+  module _ {i : ℕ} {table : List Float} (p : Copying k at xs ys zs table₀ i table) (l : i < k) where
     pub second-inside : pairs + at + i < length (set table (at + i) (cell xs i))
     second-inside =
         let a : at + k ≤ pairs = p .inside in
@@ -119,8 +119,8 @@ module _ (k at : ℕ) (xs ys zs table₀ : List Float) where
               λ q h. elsewhere (3 * pairs + q) (λ e. absurd (omega arith)) (λ e. absurd (omega arith)) (λ e. absurd (omega arith)) ∙ p .weights q h;
         }
 
-  pub copied : (i : ℕ) (table : List Float) → i ≡ k → Copying k at xs ys zs table₀ i table → Copied k xs ys zs table₀ table
-  copied i table e p =
+  pub copied : {i : ℕ} {table : List Float} → Copying k at xs ys zs table₀ i table → i ≡ k → Copied k xs ys zs table₀ table
+  copied {i} {table} p e =
       let s : at ≡ row k = p .start in
       record {
         x = λ j h. subst (λ (n : ℕ). cell table (n + j) ≡ cell xs j) s (p .x j (omega arith));

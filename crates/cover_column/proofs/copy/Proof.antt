@@ -13,8 +13,8 @@ Inv-loop k xs ys zs table₀ at i₀ table i = Copying k at xs ys zs table₀ i 
 abbrev μ-loop : tie.MeasureT-loop
 μ-loop k xs ys zs table₀ at i₀ table i = k - i
 
-abbrev to-start : tie.After-row-of Inv-loop μ-loop → tie.Start Inv-loop μ-loop
-to-start p = search
+abbrev entry : tie.After-row-of Inv-loop μ-loop → tie.Start Inv-loop μ-loop
+entry r = search
 
 pub copy-spec : {M : Type 1} → statement M
 copy-spec =
@@ -42,5 +42,5 @@ copy-spec =
     (λ c. search needs)
     (λ c. search needs)
     (λ c. search copying-more)
-    (λ c. let after-row-of : tie.After-row-of Inv-loop μ-loop = search in c .before .loop .inv .long ∙ sym (to-start after-row-of .pre .table-long))
-    (λ c. copied _ _ _ _ _ _ _ _ (omega arith) (c .before .loop .inv)))
+    (λ c. c .before .loop .inv .long ∙ sym (entry (search) .pre .table-long))
+    (λ c. copied (c .before .loop .inv) (omega arith)))

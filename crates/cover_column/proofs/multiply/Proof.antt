@@ -15,9 +15,16 @@ Inv-loop px py pz k xs₀ ys₀ zs₀ column₀ x y z i₀ xs ys zs column i = M
 abbrev μ-loop : tie.MeasureT-loop
 μ-loop px py pz k xs₀ ys₀ zs₀ column₀ x y z i₀ xs ys zs column i = k - i
 
+-- where a turn begins, and the function's entry behind it
+abbrev Turn : Type 0
+Turn = tie.In-loop Inv-loop μ-loop
+
+abbrev entry : Turn → tie.Start Inv-loop μ-loop
+entry t = search
+
 loop-again : tie.Need-loop-again Inv-loop μ-loop
 unfolding productOf
-loop-again c = multiplying-more _ _ _ _ _ _ _ _ _ (omega arith) (c .before .before .before .before .before .before .before .before .before .before .before .pre .short) (c .before .before .before .before .before .before .before .loop .inv)
+loop-again c = let t : Turn = search in multiplying-more (t .before .loop .inv) (t .loop-test .taken) (entry t .pre .short)
 
 pub multiply-spec : {M : Type 1} → statement M
 multiply-spec =
@@ -56,10 +63,8 @@ multiply-spec =
     (λ c. search needs)
     (λ c. search needs)
     (λ c. search needs)
-    (λ c. let start : tie.Start Inv-loop μ-loop = search in c .before .loop .inv .xs-long ∙ sym (start .pre .xs-long))
-    (λ c. let start : tie.Start Inv-loop μ-loop = search in c .before .loop .inv .ys-long ∙ sym (start .pre .ys-long))
-    (λ c. let start : tie.Start Inv-loop μ-loop = search in c .before .loop .inv .zs-long ∙ sym (start .pre .zs-long))
-    (λ c. let start : tie.Start Inv-loop μ-loop = search in simp length-set (c .before .loop .inv .column-long ∙ sym (start .pre .column-long)))
-    (λ c.
-    let start : tie.Start Inv-loop μ-loop = search in
-    multiplied _ _ _ _ _ _ _ _ _ (start .pre .some) (start .pre .short) (omega arith) (c .before .loop .inv)))
+    (λ c. let s : tie.Start Inv-loop μ-loop = search in c .before .loop .inv .xs-long ∙ sym (s .pre .xs-long))
+    (λ c. let s : tie.Start Inv-loop μ-loop = search in c .before .loop .inv .ys-long ∙ sym (s .pre .ys-long))
+    (λ c. let s : tie.Start Inv-loop μ-loop = search in c .before .loop .inv .zs-long ∙ sym (s .pre .zs-long))
+    (λ c. let s : tie.Start Inv-loop μ-loop = search in simp length-set (c .before .loop .inv .column-long ∙ sym (s .pre .column-long)))
+    (λ c. let s : tie.Start Inv-loop μ-loop = search in multiplied (c .before .loop .inv) (omega arith) (s .pre .some) (s .pre .short)))

@@ -13,20 +13,15 @@ Inv-loop table at m v xs ys zs column₀ end i₀ column i = Relaxing table at m
 abbrev μ-loop : tie.MeasureT-loop
 μ-loop table at m v xs ys zs column₀ end i₀ column i = end - i
 
-abbrev to-start : tie.After-by-way Inv-loop μ-loop → tie.Start Inv-loop μ-loop
-to-start p = search
+-- where a turn begins, where its way is weighed, and the function's entry
+abbrev entry : tie.In-loop Inv-loop μ-loop → tie.Start Inv-loop μ-loop
+entry t = search
 
-abbrev to-after-by-way : tie.After-lesser Inv-loop μ-loop → tie.After-by-way Inv-loop μ-loop
-to-after-by-way p = search
+abbrev turn : tie.After-by-way Inv-loop μ-loop → tie.In-loop Inv-loop μ-loop
+turn w = search
 
-abbrev to-start-2 : tie.After-lesser Inv-loop μ-loop → tie.Start Inv-loop μ-loop
-to-start-2 p = to-start (to-after-by-way p)
-
-abbrev to-at-loop : tie.After-by-way Inv-loop μ-loop → tie.At-loop Inv-loop μ-loop
-to-at-loop p = search
-
-abbrev to-at-loop-2 : tie.After-lesser Inv-loop μ-loop → tie.At-loop Inv-loop μ-loop
-to-at-loop-2 p = to-at-loop (to-after-by-way p)
+abbrev weighed : tie.After-lesser Inv-loop μ-loop → tie.After-by-way Inv-loop μ-loop
+weighed l = search
 
 pub relax-spec : {M : Type 1} → statement M
 relax-spec =
@@ -43,8 +38,6 @@ relax-spec =
     (λ c. search relaxing-in)
     (λ c. search needs)
     (λ c. search needs)
-    (λ c.
-    relaxing-more _ _ _ _ _ _ _ _ (to-start-2 c .pre) _ _ _ _ (omega arith) (to-at-loop-2 c .loop .inv) (to-after-by-way c .by-way .ensures)
-    (c .lesser .ensures))
-    (λ c. let start : tie.Start Inv-loop μ-loop = search in c .before .loop .inv .long ∙ sym (start .pre .column-long))
-    (λ c. let start : tie.Start Inv-loop μ-loop = search in relaxed _ _ _ _ _ _ _ _ (start .pre) _ _ (omega arith) (c .before .loop .inv)))
+    (λ c. let w = weighed c in let t = turn w in relaxing-more (entry t .pre) (t .before .loop .inv) (omega arith) (w .by-way .ensures) (c .lesser .ensures))
+    (λ c. let s : tie.Start Inv-loop μ-loop = search in c .before .loop .inv .long ∙ sym (s .pre .column-long))
+    (λ c. let s : tie.Start Inv-loop μ-loop = search in relaxed (s .pre) (c .before .loop .inv) (omega arith)))

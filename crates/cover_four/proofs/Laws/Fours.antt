@@ -46,7 +46,7 @@ pair-only i (apex m c d) h =
     ∙ ap (λ (x : Cover). apex (suc i) x d) (side-only i c (subst (λ (n : ℕ). Covers i n c) e (h .2)))
     ∙ ap (apex (suc i) empty) (side-only (suc i) d (subst (λ (n : ℕ). Covers n (suc (suc i)) d) e (h .3)))
 
-pub four-only : (c : Cover) → Covers 0 3 c → (c ≡ oneWay) ⊎ (c ≡ twoWay)
+four-only : (c : Cover) → Covers 0 3 c → (c ≡ oneWay) ⊎ (c ≡ twoWay)
 four-only empty h = absurd (omega (arith, h))
 four-only (apex zero c d) h = absurd (omega (arith, h .0))
 four-only (apex (suc zero) c d) h = inl (ap (λ (x : Cover). apex 1 x d) (side-only 0 c (h .2)) ∙ ap (apex 1 empty) (pair-only 1 d (h .3)))
@@ -127,115 +127,110 @@ module _ (barred : ℕ → ℕ → Bool) where
 
 -- ---- the least weight
 
-module _ (grid : List ℤ) (ring bars : List ℕ) (r : FourOn grid ring bars) where
-  told : (barred : ℕ → ℕ → Bool) → Barring barred ring bars → (a b : ℕ) → a < 4 → b < 4 → bit (getD bars a 0) b ≡ barred a b
-  told barred k a b l m = k .rows .tells a b (subst (λ (n : ℕ). a < n) (sym (r .four)) l) (omega arith)
-
-  -- no cover is allowed
-  pub least-closed : bit (getD bars 0 0) 3 ≡ true → FindsLeast grid ring bars Nothing
-  least-closed t barred k = rw (r .four) (none-closed barred (sym (told barred k 0 3 (lit< tt) (lit< tt)) ∙ t))
-
-  pub least-across : bit (getD bars 1 0) 3 ≡ true → bit (getD bars 0 0) 2 ≡ true → FindsLeast grid ring bars Nothing
-  least-across s t barred k = rw (r .four) (none-across barred (sym (told barred k 1 3 (lit< tt) (lit< tt)) ∙ s) (sym (told barred k 0 2 (lit< tt) (lit< tt)) ∙ t))
+module _ {grid : List ℤ} {ring bars : List ℕ} (r : FourOn grid ring bars) where
+  told : {barred : ℕ → ℕ → Bool} → Barring barred ring bars → (a b : ℕ) → a < 4 → b < 4 → bit (getD bars a 0) b ≡ barred a b
+  told k a b l m = k .rows .tells a b (omega (arith, r .four)) (omega arith)
 
   abbrev at : ℕ → ℕ → ℕ → ℕ
   at = triOf (along grid ring)
 
-  module _ (barred : ℕ → ℕ → Bool) (k : Barring barred ring bars) (f : bit (getD bars 0 0) 3 ≡ false) where
-    -- the cover by the apex 1
-    pub patch-one : bit (getD bars 1 0) 3 ≡ false → (bit (getD bars 0 0) 2 ≡ false → byOne grid ring ≤ byTwo grid ring) → Patch naturals at barred 0 3 oneWay
-    patch-one g l =
-        one-best barred at (sym (told barred k 0 3 (lit< tt) (lit< tt)) ∙ f) (sym (told barred k 1 3 (lit< tt) (lit< tt)) ∙ g)
-        (λ h. let m : byOne grid ring ≤ byTwo grid ring = l (told barred k 0 2 (lit< tt) (lit< tt) ∙ h) in omega arith)
+  patch-weighs : {barred : ℕ → ℕ → Bool} {c : Cover} → Patch naturals at barred 0 3 c → {w : ℕ} → w ≡ weight naturals at 0 3 c → covers.Least naturals at barred 0 3 w
+  patch-weighs {barred} {c} p e = subst (covers.Least naturals at barred 0 3) (sym e) (patch-least naturals naturals-lawful at barred 0 3 c p)
 
-    -- the cover by the apex 2
-    pub patch-two : bit (getD bars 0 0) 2 ≡ false → (bit (getD bars 1 0) 3 ≡ false → byTwo grid ring < byOne grid ring) → Patch naturals at barred 0 3 twoWay
-    patch-two g l =
-        two-best barred at (sym (told barred k 0 3 (lit< tt) (lit< tt)) ∙ f) (sym (told barred k 0 2 (lit< tt) (lit< tt)) ∙ g)
-        (λ h. let m : byTwo grid ring < byOne grid ring = l (told barred k 1 3 (lit< tt) (lit< tt) ∙ h) in omega arith)
+  -- b tells whether the last side is barred
+  module _ {b : Bool} (e : b ≡ bit (getD bars 0 0) 3) where
+    pub least-closed : b ≡ true → FindsLeast grid ring bars Nothing
+    least-closed t barred k = rw (r .four) (none-closed barred (sym (told k 0 3 (lit< tt) (lit< tt)) ∙ sym e ∙ t))
 
-  patch-weighs : (barred : ℕ → ℕ → Bool) (c : Cover) → Patch naturals at barred 0 3 c → (w : ℕ) → w ≡ weight naturals at 0 3 c → covers.Least naturals at barred 0 3 w
-  patch-weighs barred c p w e = subst (covers.Least naturals at barred 0 3) (sym e) (patch-least naturals naturals-lawful at barred 0 3 c p)
+    -- s tells whether the cover by the apex 2 is taken, if either is
+    module _ (f : b ≡ false) {s : Bool} (g : GoesByTwo grid ring bars s) where
+      free : {barred : ℕ → ℕ → Bool} → Barring barred ring bars → barred 0 3 ≡ false
+      free k = sym (told k 0 3 (lit< tt) (lit< tt)) ∙ sym e ∙ f
 
-  pub least-one : bit (getD bars 0 0) 3 ≡ false → bit (getD bars 1 0) 3 ≡ false → (bit (getD bars 0 0) 2 ≡ false → byOne grid ring ≤ byTwo grid ring)
-      → (w : ℕ) → w ≡ byOne grid ring → FindsLeast grid ring bars (Weight w)
-  least-one f g l w e barred k = rw (r .four) (patch-weighs barred oneWay (patch-one barred k f g l) w (e ∙ omega arith))
+      pub patch-two : s ≡ true → {barred : ℕ → ℕ → Bool} → Barring barred ring bars → Patch naturals at barred 0 3 twoWay
+      patch-two y {barred} k =
+          two-best barred at (free k) (sym (told k 0 2 (lit< tt) (lit< tt)) ∙ g .free y)
+          (λ h. let m : byTwo grid ring < byOne grid ring = g .lighter y (told k 1 3 (lit< tt) (lit< tt) ∙ h) in omega arith)
 
-  pub least-two : bit (getD bars 0 0) 3 ≡ false → bit (getD bars 0 0) 2 ≡ false → (bit (getD bars 1 0) 3 ≡ false → byTwo grid ring < byOne grid ring)
-      → (w : ℕ) → w ≡ byTwo grid ring → FindsLeast grid ring bars (Weight w)
-  least-two f g l w e barred k = rw (r .four) (patch-weighs barred twoWay (patch-two barred k f g l) w (e ∙ omega arith))
+      pub least-two : s ≡ true → {w : ℕ} → w ≡ byTwo grid ring → FindsLeast grid ring bars (Weight w)
+      least-two y x barred k = rw (r .four) (patch-weighs (patch-two y k) (x ∙ omega arith))
 
-pub four-there : (grid : List ℤ) (ring bars : List ℕ) (table : List Float) → LoopRoom grid ring bars table → length ring ≡ 4 → FourOn grid ring bars
-four-there grid ring bars table r e = record { on = r .on; four = e; rows = r .barring .rows .long }
+      -- d tells whether the other diagonal is barred
+      module _ (n : s ≡ false) {d : Bool} (o : d ≡ bit (getD bars 1 0) 3) where
+        pub least-across : d ≡ true → FindsLeast grid ring bars Nothing
+        least-across y barred k =
+            rw (r .four) (none-across barred (sym (told k 1 3 (lit< tt) (lit< tt)) ∙ sym o ∙ y) (sym (told k 0 2 (lit< tt) (lit< tt)) ∙ g .barred n (sym o ∙ y)))
+
+        pub patch-one : d ≡ false → {barred : ℕ → ℕ → Bool} → Barring barred ring bars → Patch naturals at barred 0 3 oneWay
+        patch-one y {barred} k =
+            one-best barred at (free k) (sym (told k 1 3 (lit< tt) (lit< tt)) ∙ sym o ∙ y)
+            (λ h. let m : byOne grid ring ≤ byTwo grid ring = g .heavier n (sym o ∙ y) (told k 0 2 (lit< tt) (lit< tt) ∙ h) in omega arith)
+
+        pub least-one : d ≡ false → {w : ℕ} → w ≡ byOne grid ring → FindsLeast grid ring bars (Weight w)
+        least-one y x barred k = rw (r .four) (patch-weighs (patch-one y k) (x ∙ omega arith))
+
+pub four-there : {grid : List ℤ} {ring bars : List ℕ} {table : List Float} → LoopRoom grid ring bars table → length ring ≡ 4 → FourOn grid ring bars
+four-there r e = record { on = r .on; four = e; rows = r .barring .rows .long }
 
 -- ---- what is laid
 
-module _ (grid : List ℤ) (ring bars buffer : List ℕ) (p : ℕ) (r : FourRoom grid ring bars buffer p) where
-  -- no cover is allowed
-  pub four-closed : bit (getD bars 0 0) 3 ≡ true → LaysPatch grid ring bars buffer p Nothing buffer
-  four-closed t barred k = (least-closed grid ring bars (r .there) t barred k, refl)
+module _ {grid : List ℤ} {ring bars buffer : List ℕ} {p : ℕ} (r : FourRoom grid ring bars buffer p) {b : Bool} (e : b ≡ bit (getD bars 0 0) 3) where
+  six : (a b c d e f : ℕ) {buffer′ buffer″ : List ℕ} → buffer′ ≡ laid p (a ∷ b ∷ c ∷ []) buffer → buffer″ ≡ laid (p + 3) (d ∷ e ∷ f ∷ []) buffer′
+      → buffer″ ≡ laid p (a ∷ b ∷ c ∷ d ∷ e ∷ f ∷ []) buffer
+  six a b c d e f x y =
+      y ∙ ap (laid (p + 3) (d ∷ e ∷ f ∷ [])) x ∙ laid-then p (p + 3) (a ∷ b ∷ c ∷ []) (d ∷ e ∷ f ∷ []) buffer refl (omega (arith, r .room))
 
-  pub four-across : bit (getD bars 1 0) 3 ≡ true → bit (getD bars 0 0) 2 ≡ true → LaysPatch grid ring bars buffer p Nothing buffer
-  four-across s t barred k = (least-across grid ring bars (r .there) s t barred k, refl)
+  pub four-closed : b ≡ true → LaysPatch grid ring bars buffer p Nothing buffer
+  four-closed t barred k = (least-closed (r .there) e t barred k, refl)
 
-  six : (a b c d e f : ℕ) (buffer′ buffer″ : List ℕ) → buffer′ ≡ laid p (a ∷ b ∷ c ∷ []) buffer → buffer″ ≡ laid (p + 3) (d ∷ e ∷ f ∷ []) buffer′ → buffer″ ≡ laid p (a ∷ b ∷ c ∷ d ∷ e ∷ f ∷ []) buffer
-  six a b c d e f buffer′ buffer″ x y =
-      y ∙ ap (laid (p + 3) (d ∷ e ∷ f ∷ [])) x ∙ laid-then p (p + 3) (a ∷ b ∷ c ∷ []) (d ∷ e ∷ f ∷ []) buffer refl (let l : p + 6 ≤ length buffer = r .room in omega arith)
+  module _ (f : b ≡ false) {s : Bool} (g : GoesByTwo grid ring bars s) where
+    pub four-two : s ≡ true → {buffer′ buffer″ : List ℕ} → buffer′ ≡ laid p (vertexOf ring 0 ∷ vertexOf ring 3 ∷ vertexOf ring 2 ∷ []) buffer
+        → buffer″ ≡ laid (p + 3) (vertexOf ring 0 ∷ vertexOf ring 2 ∷ vertexOf ring 1 ∷ []) buffer′
+        → {w : ℕ} → w ≡ byTwo grid ring → LaysPatch grid ring bars buffer p (Weight w) buffer″
+    four-two y x₁ x₂ x barred k = rw (r .there .four) (twoWay, patch-two (r .there) e f g y k, x ∙ omega arith, six _ _ _ _ _ _ x₁ x₂)
 
-  -- the cover by the apex 1
-  pub four-one : bit (getD bars 0 0) 3 ≡ false → bit (getD bars 1 0) 3 ≡ false → (bit (getD bars 0 0) 2 ≡ false → byOne grid ring ≤ byTwo grid ring)
-      → (buffer′ buffer″ : List ℕ) → buffer′ ≡ laid p (vertexOf ring 0 ∷ vertexOf ring 3 ∷ vertexOf ring 1 ∷ []) buffer → buffer″ ≡ laid (p + 3) (vertexOf ring 1 ∷ vertexOf ring 3 ∷ vertexOf ring 2 ∷ []) buffer′
-      → (w : ℕ) → w ≡ byOne grid ring → LaysPatch grid ring bars buffer p (Weight w) buffer″
-  four-one f g l buffer′ buffer″ x y w e barred k =
-      rw (r .there .four) (
-        oneWay,
-        patch-one grid ring bars (r .there) barred k f g l,
-        e ∙ omega arith,
-        six _ _ _ _ _ _ buffer′ buffer″ x y,
-      )
+    module _ (n : s ≡ false) {d : Bool} (o : d ≡ bit (getD bars 1 0) 3) where
+      pub four-across : d ≡ true → LaysPatch grid ring bars buffer p Nothing buffer
+      four-across y barred k = (least-across (r .there) e f g n o y barred k, refl)
 
-  -- the cover by the apex 2
-  pub four-two : bit (getD bars 0 0) 3 ≡ false → bit (getD bars 0 0) 2 ≡ false → (bit (getD bars 1 0) 3 ≡ false → byTwo grid ring < byOne grid ring)
-      → (buffer′ buffer″ : List ℕ) → buffer′ ≡ laid p (vertexOf ring 0 ∷ vertexOf ring 3 ∷ vertexOf ring 2 ∷ []) buffer → buffer″ ≡ laid (p + 3) (vertexOf ring 0 ∷ vertexOf ring 2 ∷ vertexOf ring 1 ∷ []) buffer′
-      → (w : ℕ) → w ≡ byTwo grid ring → LaysPatch grid ring bars buffer p (Weight w) buffer″
-  four-two f g l buffer′ buffer″ x y w e barred k =
-      rw (r .there .four) (
-        twoWay,
-        patch-two grid ring bars (r .there) barred k f g l,
-        e ∙ omega arith,
-        six _ _ _ _ _ _ buffer′ buffer″ x y,
-      )
+      pub four-one : d ≡ false → {buffer′ buffer″ : List ℕ} → buffer′ ≡ laid p (vertexOf ring 0 ∷ vertexOf ring 3 ∷ vertexOf ring 1 ∷ []) buffer
+          → buffer″ ≡ laid (p + 3) (vertexOf ring 1 ∷ vertexOf ring 3 ∷ vertexOf ring 2 ∷ []) buffer′
+          → {w : ℕ} → w ≡ byOne grid ring → LaysPatch grid ring bars buffer p (Weight w) buffer″
+      four-one y x₁ x₂ x barred k = rw (r .there .four) (oneWay, patch-one (r .there) e f g n o y k, x ∙ omega arith, six _ _ _ _ _ _ x₁ x₂)
 
 -- ---- what the code finds
 
-pub weighed : (grid : List ℤ) (ring : List ℕ) (i k m : ℕ) → Coordinates grid → (w : ℕ) → w ≡ triOf (along grid ring) i k m → (w ≡ triOf (along grid ring) i k m) × (w < 2 ^ 35)
-weighed grid ring i k m h w e =
+pub weighed : (grid : List ℤ) (ring : List ℕ) (i k m : ℕ) → Coordinates grid → {w : ℕ} → w ≡ triOf (along grid ring) i k m
+    → (w ≡ triOf (along grid ring) i k m) × (w < 2 ^ 35)
+weighed grid ring i k m h e =
     let n = named-on-grid grid h in (
       e,
       subst (λ (x : ℕ). x < 2 ^ 35) (sym e) (lt-of-le-of-lt (weight-most (along grid ring i) (along grid ring k) (along grid ring m) (n (getD ring i 0), n (getD ring k 0), n (getD ring m 0))) (lit< tt)),
     )
 
-module _ (grid : List ℤ) (ring bars : List ℕ) where
-  pub goes-barred : bit (getD bars 0 0) 2 ≡ true → GoesByTwo grid ring bars false
+-- b and d tell whether the two diagonals are barred
+module _ {grid : List ℤ} {ring bars : List ℕ} {b : Bool} (e : b ≡ bit (getD bars 0 0) 2) where
+  pub goes-barred : b ≡ true → GoesByTwo grid ring bars false
   goes-barred t = record {
-    free = λ e. absurd (true≢false (sym e));
-    lighter = λ e g. absurd (true≢false (sym e));
-    barred = λ e g. t;
-    heavier = λ e g f. absurd (true≢false (sym t ∙ f));
+    free = λ q. absurd (true≢false (sym q));
+    lighter = λ q g. absurd (true≢false (sym q));
+    barred = λ q g. sym e ∙ t;
+    heavier = λ q g f. absurd (true≢false (sym t ∙ e ∙ f));
   }
 
-  pub goes-alone : bit (getD bars 0 0) 2 ≡ false → bit (getD bars 1 0) 3 ≡ true → GoesByTwo grid ring bars true
-  goes-alone f t = record {
-    free = λ e. f;
-    lighter = λ e g. absurd (true≢false (sym t ∙ g));
-    barred = λ e g. absurd (true≢false e);
-    heavier = λ e g h. absurd (true≢false e);
-  }
+  module _ (f : b ≡ false) {d : Bool} (o : d ≡ bit (getD bars 1 0) 3) where
+    pub goes-alone : d ≡ true → GoesByTwo grid ring bars true
+    goes-alone t = record {
+      free = λ q. sym e ∙ f;
+      lighter = λ q g. absurd (true≢false (sym t ∙ o ∙ g));
+      barred = λ q g. absurd (true≢false q);
+      heavier = λ q g h. absurd (true≢false q);
+    }
 
-  pub goes-lighter : bit (getD bars 0 0) 2 ≡ false → bit (getD bars 1 0) 3 ≡ false → (a b : ℕ) → a ≡ byTwo grid ring → b ≡ byOne grid ring → GoesByTwo grid ring bars (ltb a b)
-  goes-lighter f g a b x y = record {
-    free = λ e. f;
-    lighter = λ e h. let l : a < b = ltb-true a b e in omega arith;
-    barred = λ e t. absurd (true≢false (sym t ∙ g));
-    heavier = λ e h i. let l : b ≤ a = ltb-false a b e in omega arith;
-  }
+    pub goes-lighter : d ≡ false → {v w : ℕ} → v ≡ byTwo grid ring → w ≡ byOne grid ring → GoesByTwo grid ring bars (ltb v w)
+    goes-lighter g {v} {w} x y = record {
+      free = λ q. sym e ∙ f;
+      lighter = λ q h. let l : v < w = ltb-true v w q in omega arith;
+      barred = λ q t. absurd (true≢false (sym t ∙ sym o ∙ g));
+      heavier = λ q h i. let l : w ≤ v = ltb-false v w q in omega arith;
+    }

@@ -1,48 +1,50 @@
 -- `lay_four` lays the two triangles of the cover that is taken, or nothing where neither is allowed.
-use mathlib.Core.Path.{sym, _∙_}
 use borrow.Author.Needs.{needs}
 use Rattle.cover_four.proofs.Laws.Fours.{four-closed, four-across, four-one, four-two}
 use Rattle.cover_four.proofs.lay_four.Statement.{statement}
 use Rattle.cover_four.proofs.lay_four.Tie as tie
 
-abbrev to-start : tie.After-is-set → tie.Start
-to-start p = search
+-- where the bars are asked for, where the way is chosen, and the function's entry
+abbrev entry : tie.After-is-set → tie.Start
+entry s = search
 
-abbrev to-after-lay2 : tie.After-by-two → tie.After-lay2
-to-after-lay2 p = search
+abbrev closing : tie.After-goes-by-two → tie.After-is-set
+closing g = search
 
-abbrev to-after-lay : tie.After-lay2 → tie.After-lay
-to-after-lay p = search
+abbrev opened : tie.After-goes-by-two → tie.Else1
+opened g = search
 
-abbrev to-after-goes-by-two : tie.After-lay → tie.After-goes-by-two
-to-after-goes-by-two p = search
+-- the two triangles by the apex 2
+abbrev by-two : tie.After-lay → tie.After-goes-by-two
+by-two l = search
 
-abbrev to-after-is-set : tie.After-goes-by-two → tie.After-is-set
-to-after-is-set p = search
+abbrev two : tie.After-lay → tie.Then2
+two l = search
 
-abbrev to-else1 : tie.After-goes-by-two → tie.Else1
-to-else1 p = search
+abbrev first : tie.After-lay2 → tie.After-lay
+first l = search
 
-abbrev to-then2 : tie.After-lay → tie.Then2
-to-then2 p = search
+abbrev second : tie.After-by-two → tie.After-lay2
+second w = search
 
-abbrev to-after-goes-by-two-2 : tie.After-is-set2 → tie.After-goes-by-two
-to-after-goes-by-two-2 p = search
+-- the two by the apex 1
+abbrev not-two : tie.After-is-set2 → tie.After-goes-by-two
+not-two s = search
 
-abbrev to-else2 : tie.After-is-set2 → tie.Else2
-to-else2 p = search
+abbrev left : tie.After-is-set2 → tie.Else2
+left s = search
 
-abbrev to-after-lay4 : tie.After-by-one → tie.After-lay4
-to-after-lay4 p = search
+abbrev by-one : tie.After-lay3 → tie.After-is-set2
+by-one l = search
 
-abbrev to-after-lay3 : tie.After-lay4 → tie.After-lay3
-to-after-lay3 p = search
+abbrev one : tie.After-lay3 → tie.Else3
+one l = search
 
-abbrev to-after-is-set2 : tie.After-lay3 → tie.After-is-set2
-to-after-is-set2 p = search
+abbrev third : tie.After-lay4 → tie.After-lay3
+third l = search
 
-abbrev to-else3 : tie.After-lay3 → tie.Else3
-to-else3 p = search
+abbrev fourth : tie.After-by-one → tie.After-lay4
+fourth w = search
 
 pub lay-four-spec : {M : Type 1} → statement M
 lay-four-spec =
@@ -50,7 +52,7 @@ lay-four-spec =
     (tie.spec
     (λ c. search needs)
     (λ c κs. search needs)
-    (λ c. let after-is-set : tie.After-is-set = search in four-closed _ _ _ _ _ (to-start after-is-set .pre) (sym (c .before .is-set .ensures) ∙ c .if1 .taken))
+    (λ c. let s : tie.After-is-set = search in four-closed (entry s .pre) (s .is-set .ensures) (c .if1 .taken))
     (λ c κs. search needs)
     (λ c κs. search needs)
     (λ c. search needs)
@@ -58,26 +60,28 @@ lay-four-spec =
     (λ c κs. search needs)
     (λ c. search needs)
     (λ c.
-    let after-lay2 = to-after-lay2 c in let after-lay = to-after-lay after-lay2 in let after-goes-by-two = to-after-goes-by-two after-lay in
-    let after-is-set = to-after-is-set after-goes-by-two in let then2 = to-then2 after-lay in
-    four-two _ _ _ _ _ (to-start after-is-set .pre) (sym (after-is-set .is-set .ensures) ∙ (to-else1 after-goes-by-two) .if1 .left)
-    (after-goes-by-two .goes-by-two .ensures .free (then2 .if2 .taken)) (after-goes-by-two .goes-by-two .ensures .lighter (then2 .if2 .taken)) _ _
-    (after-lay .lay .ensures) (after-lay2 .lay2 .ensures) _ (c .by-two .ensures))
+    let l = second c in
+    let k = first l in
+    let g = by-two k in
+    let s = closing g in
+    four-two (entry s .pre) (s .is-set .ensures) (opened g .if1 .left) (g .goes-by-two .ensures) (two k .if2 .taken) (k .lay .ensures) (l .lay2 .ensures) (c .by-two .ensures))
     (λ c. search needs)
     (λ c κs. search needs)
     (λ c.
-    let after-is-set2 : tie.After-is-set2 = search in let after-goes-by-two = to-after-goes-by-two-2 after-is-set2 in
-    let s = sym (c .before .is-set2 .ensures) ∙ c .if3 .taken in four-across _ _ _ _ _ (to-start (to-after-is-set after-goes-by-two) .pre) s
-    (after-goes-by-two .goes-by-two .ensures .barred (to-else2 after-is-set2 .if2 .left) s))
+    let d : tie.After-is-set2 = search in
+    let g = not-two d in
+    let s = closing g in
+    four-across (entry s .pre) (s .is-set .ensures) (opened g .if1 .left) (g .goes-by-two .ensures) (left d .if2 .left) (d .is-set2 .ensures) (c .if3 .taken))
     (λ c κs. search needs)
     (λ c. search needs)
     (λ c κs. search needs)
     (λ c κs. search needs)
     (λ c. search needs)
     (λ c.
-    let after-lay4 = to-after-lay4 c in let after-lay3 = to-after-lay3 after-lay4 in let after-is-set2 = to-after-is-set2 after-lay3 in
-    let after-goes-by-two = to-after-goes-by-two-2 after-is-set2 in let after-is-set = to-after-is-set after-goes-by-two in
-    let g = sym (after-is-set2 .is-set2 .ensures) ∙ (to-else3 after-lay3) .if3 .left in four-one _ _ _ _ _ (to-start after-is-set .pre)
-    (sym (after-is-set .is-set .ensures) ∙ (to-else1 after-goes-by-two) .if1 .left) g
-    (after-goes-by-two .goes-by-two .ensures .heavier (to-else2 after-is-set2 .if2 .left) g) _ _ (after-lay3 .lay3 .ensures) (after-lay4 .lay4 .ensures) _
-    (c .by-one .ensures)))
+    let l = fourth c in
+    let k = third l in
+    let d = by-one k in
+    let g = not-two d in
+    let s = closing g in
+    four-one (entry s .pre) (s .is-set .ensures) (opened g .if1 .left) (g .goes-by-two .ensures) (left d .if2 .left) (d .is-set2 .ensures) (one k .if3 .left)
+    (k .lay3 .ensures) (l .lay4 .ensures) (c .by-one .ensures)))

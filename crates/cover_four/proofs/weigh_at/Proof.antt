@@ -5,8 +5,8 @@ use Rattle.cover_four.proofs.Laws.Fours.{weighed}
 use Rattle.cover_four.proofs.weigh_at.Statement.{statement}
 use Rattle.cover_four.proofs.weigh_at.Tie as tie
 
-abbrev to-start : tie.After-weigh-named → tie.Start
-to-start p = search
+abbrev entry : tie.After-weigh-named → tie.Start
+entry w = search
 
 pub weigh-at-spec : {M : Type 1} → statement M
 weigh-at-spec =
@@ -14,17 +14,12 @@ weigh-at-spec =
     (tie.spec
     (λ c. search needs)
     (λ c. search needs)
-    (λ c. let start : tie.Start = search in omega (arith, c .shared-slice-known2 .given (start .args .i)))
+    (λ c. let s : tie.Start = search in omega (arith, s .pre .0 .named _ (s .pre .1), s .good))
     (λ c. search needs)
     (λ c. search needs)
-    (λ c. let start : tie.Start = search in omega (arith, c .shared-slice-known3 .given (start .args .k)))
+    (λ c. let s : tie.Start = search in omega (arith, s .pre .0 .named _ (s .pre .2), s .good))
     (λ c. search needs)
     (λ c. search needs)
-    (λ c. let start : tie.Start = search in omega (arith, c .shared-slice-known4 .given (start .args .m)))
-    (λ c κs.
-    let start : tie.Start = search in
-    (start .pre .0 .coordinates, start .pre .0 .named _ (start .pre .1), start .pre .0 .named _ (start .pre .2), start .pre .0 .named _ (start .pre .3)))
-    (λ c.
-    let start = to-start c in
-    weighed (start .args .grid .now) (start .args .ring .now) (start .args .i) (start .args .k) (start .args .m) (start .pre .0 .coordinates) _
-    (c .weigh-named .ensures)))
+    (λ c. let s : tie.Start = search in omega (arith, s .pre .0 .named _ (s .pre .3), s .good))
+    (λ c κs. let s : tie.Start = search in let o = s .pre .0 in (o .coordinates, o .named _ (s .pre .1), o .named _ (s .pre .2), o .named _ (s .pre .3)))
+    (λ c. let s = entry c in let a = s .args in weighed (a .grid .now) (a .ring .now) (a .i) (a .k) (a .m) (s .pre .0 .coordinates) (c .weigh-named .ensures)))

@@ -3,7 +3,7 @@ use mathlib.Core.Path.{_≡_, refl, sym, ap, _∙_, subst}
 use mathlib.Core.Logic.{inl, inr}
 use mathlib.Core.Bool.{Bool}
 use mathlib.Core.List.{List, [], _∷_}
-use Prim.Native.Nat.{ℕ, _+_, _-_, _*_, _≤_, _<_}
+use Prim.Native.Nat.{ℕ, _-_}
 use native.Mathlib.Omega.{arith}
 use lib.IntN.{ℤ}
 use lib.ListN.{length}
@@ -14,7 +14,7 @@ use Rattle.cover_rules.specs.Workings.Least as covers
 use Rattle.cover_rules.proofs.Laws.Best.{patch-unique}
 use Rattle.cover_rules.proofs.Laws.Least.{patch-least, patch-weighs}
 use Rattle.cover_rules.proofs.Laws.Steps.{patched, Patched}
-use Rattle.cover_weight.specs.Weight.{weightOf, Names}
+use Rattle.cover_weight.specs.Weight.{weightOf}
 use Rattle.cover_weight.specs.Edition.{naturals, triOf, along}
 use Rattle.cover_weight.proofs.Laws.Naturals.{naturals-lawful}
 use Rattle.cover_weight.proofs.Laws.Named.{named-on-grid}
@@ -33,61 +33,54 @@ use Rattle.cover_lay.specs.Workings.Patches.{PatchRoom, ThreeRoom, LaysT
 -- ---- the patch of a loop
 
 -- a ring on the grid, with bars that leave its sides free, is a loop
-pub loop-along : (grid : List ℤ) (ring bars : List ℕ) (barred : ℕ → ℕ → Bool) → OnGrid grid ring → Barring barred ring bars → OnLoop (along grid ring) barred (length ring)
-loop-along grid ring bars barred o b = record { near = λ j h. named-on-grid grid (o .coordinates) _; few = o .few; sides = b .sides }
+loop-along : {grid : List ℤ} {ring bars : List ℕ} {barred : ℕ → ℕ → Bool} → OnGrid grid ring → Barring barred ring bars → OnLoop (along grid ring) barred (length ring)
+loop-along {grid} o b = record { near = λ j h. named-on-grid grid (o .coordinates) _; few = o .few; sides = b .sides }
+
+module _ {grid : List ℤ} {ring bars : List ℕ} {table : List Float} {buffer : List ℕ} {p : ℕ} (r : PatchRoom grid ring bars table buffer p)
+    {table′ : List Float} (least : Least) (f : Found grid ring bars least table′) where
+  -- what was found is a weight
+  module _ {w : ℕ} (e : least ≡ Weight w) where
+    weighed : (barred : ℕ → ℕ → Bool) → Barring barred ring bars → Weighed (along grid ring) barred (length ring) table′ 0 (length ring - 1) w
+    weighed barred b = record {
+      loop = loop-along (r .loop .on) b;
+      filled = f barred b .1;
+      low = omega (arith, r .loop .some);
+      high = omega (arith, r .loop .some);
+      least = subst (LeastIs grid ring barred) e (f barred b .0);
+    }
+
+    pub list-room : ListRoom table′ ring buffer p 0 (length ring - 1)
+    list-room = record {
+      weighable = record { at = along grid ring; barred = r .loop .barred; n = length ring; w = w; weighed = weighed (r .loop .barred) (r .loop .barring) };
+      in-ring = omega (arith, r .loop .some);
+      room = omega (arith, r .loop .some, r .room);
+    }
+
+    pub lays-some : {o : ℕ} {buffer′ : List ℕ} → ListsPatch table′ ring buffer p 0 (length ring - 1) o buffer′ → LaysPatch grid ring bars buffer p least buffer′
+    lays-some {o} {buffer′} l barred b =
+        subst (λ (x : Least). LaysIf grid ring barred buffer p x buffer′) (sym e) (go (patched naturals naturals-lawful (triOf (along grid ring)) barred 0 (length ring - 1) (x .low)))
+      where
+        x : Weighed (along grid ring) barred (length ring) table′ 0 (length ring - 1) w
+        x = weighed barred b
+
+        go : Patched naturals (triOf (along grid ring)) barred 0 (length ring - 1) → LaysIf grid ring barred buffer p (Weight w) buffer′
+        go (inl (c, q)) = (
+          c,
+          q,
+          sym (patch-weighs naturals naturals-lawful (triOf (along grid ring)) barred 0 (length ring - 1) w c (x .least) q),
+          l .1 (along grid ring) barred (length ring) w x c q,
+        )
+        go (inr n) = absurd (n (x .least .cover) (x .least .among))
+
+  -- nothing was found
+  pub lays-none : least ≡ Nothing → LaysPatch grid ring bars buffer p least buffer
+  lays-none e barred b =
+      subst (λ (x : Least). LaysIf grid ring barred buffer p x buffer) (sym e)
+      (subst (LeastIs grid ring barred) e (f barred b .0), refl)
+
+-- ---- two answers for one loop are equal
 
 module _ (grid : List ℤ) (ring bars : List ℕ) (table : List Float) (buffer : List ℕ) (p : ℕ) (r : PatchRoom grid ring bars table buffer p) where
-  long : 1 < length ring
-  long = r .loop .some
-
-  module _ (table′ : List Float) (least : Least) (f : Found grid ring bars least table′) where
-    -- what was found is a weight
-    module _ (w : ℕ) (e : least ≡ Weight w) where
-      weighed : (barred : ℕ → ℕ → Bool) → Barring barred ring bars → Weighed (along grid ring) barred (length ring) table′ 0 (length ring - 1) w
-      weighed barred b = record {
-        loop = loop-along grid ring bars barred (r .loop .on) b;
-        filled = f barred b .1;
-        low = let l = long in omega arith;
-        high = let l = long in omega arith;
-        least = subst (LeastIs grid ring barred) e (f barred b .0);
-      }
-
-      pub list-room : ListRoom table′ ring buffer p 0 (length ring - 1)
-      list-room = record {
-        weighable = record {
-          at = along grid ring;
-          barred = r .loop .barred;
-          n = length ring;
-          w = w;
-          weighed = weighed (r .loop .barred) (r .loop .barring);
-        };
-        in-ring = let l = long in omega arith;
-        room = let l = long in let h : p + 3 * (length ring - 2) ≤ length buffer = r .room in omega arith;
-      }
-
-      pub lays-some : (o : ℕ) (buffer′ : List ℕ) → ListsPatch table′ ring buffer p 0 (length ring - 1) o buffer′ → LaysPatch grid ring bars buffer p least buffer′
-      lays-some o buffer′ l barred b = subst (λ (x : Least). LaysIf grid ring barred buffer p x buffer′) (sym e) (go (patched naturals naturals-lawful (triOf (along grid ring)) barred 0 (length ring - 1) (x .low)))
-        where
-          x : Weighed (along grid ring) barred (length ring) table′ 0 (length ring - 1) w
-          x = weighed barred b
-
-          go : Patched naturals (triOf (along grid ring)) barred 0 (length ring - 1) → LaysIf grid ring barred buffer p (Weight w) buffer′
-          go (inl (c, q)) = (
-            c,
-            q,
-            sym (patch-weighs naturals naturals-lawful (triOf (along grid ring)) barred 0 (length ring - 1) w c (x .least) q),
-            l .1 (along grid ring) barred (length ring) w x c q,
-          )
-          go (inr n) = absurd (n (x .least .cover) (x .least .among))
-
-    -- nothing was found
-    pub lays-none : least ≡ Nothing → LaysPatch grid ring bars buffer p least buffer
-    lays-none e barred b =
-        subst (λ (x : Least). LaysIf grid ring barred buffer p x buffer) (sym e)
-        (subst (LeastIs grid ring barred) e (f barred b .0), refl)
-
-  -- ---- two answers for one loop are equal
-
   lays-least : (barred : ℕ → ℕ → Bool) (x : Least) (b : List ℕ) → LaysIf grid ring barred buffer p x b → LeastIs grid ring barred x
   lays-least barred (Weight w) b h =
       subst (covers.Least naturals (triOf (along grid ring)) barred 0 (length ring - 1)) (sym (h .2))
@@ -118,27 +111,22 @@ module _ (grid : List ℤ) (ring bars : List ℕ) (table : List Float) (buffer :
 
 -- ---- the least weight alone
 
-pub found-least : (grid : List ℤ) (ring bars : List ℕ) (r : Least) (table : List Float) → Found grid ring bars r table → FindsLeast grid ring bars r
-found-least grid ring bars r table f barred k = f barred k .0
+pub found-least : (grid : List ℤ) (ring bars : List ℕ) (r : Least) {table : List Float} → Found grid ring bars r table → FindsLeast grid ring bars r
+found-least grid ring bars r f barred k = f barred k .0
 
 -- ---- the patch of four
 
-pub four-room : (grid : List ℤ) (ring bars : List ℕ) (table : List Float) (buffer : List ℕ) (p : ℕ) → PatchRoom grid ring bars table buffer p → length ring ≡ 4 → FourRoom grid ring bars buffer p
-four-room grid ring bars table buffer p r e = record {
-  there = four-there grid ring bars table (r .loop) e;
-  room = let h : p + 3 * (length ring - 2) ≤ length buffer = r .room in omega arith;
-}
+pub four-room : {grid : List ℤ} {ring bars : List ℕ} {table : List Float} {buffer : List ℕ} {p : ℕ} → PatchRoom grid ring bars table buffer p → length ring ≡ 4
+    → FourRoom grid ring bars buffer p
+four-room r e = record { there = four-there (r .loop) e; room = omega (arith, r .room) }
 
 -- ---- the patch of three
 
-module _ (grid : List ℤ) (ring buffer : List ℕ) (p : ℕ) (r : ThreeRoom grid ring buffer p) where
-  pub three-named : (j : ℕ) → j < 3 → Names grid (vertexOf ring j)
-  three-named j h = r .on .named j (subst (λ (n : ℕ). j < n) (sym (r .three)) h)
-
-  pub lays-three : (w : ℕ) (buffer′ : List ℕ) → buffer′ ≡ laid p (vertexOf ring 0 ∷ vertexOf ring 2 ∷ vertexOf ring 1 ∷ []) buffer
+module _ {grid : List ℤ} {ring buffer : List ℕ} {p : ℕ} (r : ThreeRoom grid ring buffer p) where
+  pub lays-three : {w : ℕ} {buffer′ : List ℕ} → buffer′ ≡ laid p (vertexOf ring 0 ∷ vertexOf ring 2 ∷ vertexOf ring 1 ∷ []) buffer
       → w ≡ weightOf (along grid ring 0) (along grid ring 2) (along grid ring 1)
       → LaysThree grid ring buffer p w buffer′
-  lays-three w buffer′ e f = (
+  lays-three e f = (
     f ∙ omega arith,
     e ∙ ap (λ (n : ℕ). laid p (cornersOf (vertexOf ring) (triangles 0 (n - 1) (apex 1 empty empty))) buffer) (sym (r .three)),
   )

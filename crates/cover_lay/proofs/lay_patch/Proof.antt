@@ -4,17 +4,15 @@ use Rattle.cover_lay.proofs.Laws.Patches.{list-room, lays-some, lays-no
 use Rattle.cover_lay.proofs.lay_patch.Statement.{statement}
 use Rattle.cover_lay.proofs.lay_patch.Tie as tie
 
-abbrev to-start : tie.After-least-weight → tie.Start
-to-start p = search
+-- where the least weight was found, where it is known to be one, and where its patch is listed
+abbrev entry : tie.After-least-weight → tie.Start
+entry w = search
 
-abbrev to-after-least-weight : tie.After-list → tie.After-least-weight
-to-after-least-weight p = search
+abbrev found : tie.After-list → tie.After-least-weight
+found l = search
 
-abbrev to-start-2 : tie.After-list → tie.Start
-to-start-2 p = to-start (to-after-least-weight p)
-
-abbrev to-after-enum-told : tie.After-list → tie.After-enum-told
-to-after-enum-told p = search
+abbrev told : tie.After-list → tie.After-enum-told
+told l = search
 
 pub lay-patch-spec : {M : Type 1} → statement M
 lay-patch-spec =
@@ -30,9 +28,6 @@ lay-patch-spec =
     (λ c. search needs)
     (λ c. search needs)
     (λ c. search needs)
-    (λ c.
-    let after-list : tie.After-list = search in
-    lays-some _ _ _ _ _ _ (to-start-2 after-list .pre) _ _ (to-after-least-weight after-list .least-weight .ensures) _
-    (to-after-enum-told after-list .enum-told .given .1) _ _ (after-list .list .ensures))
+    (λ c. let l : tie.After-list = search in let w = found l in lays-some (entry w .pre) _ (w .least-weight .ensures) (told l .enum-told .given .1) (l .list .ensures))
     (λ c. search needs)
     (λ c. search lays-none))

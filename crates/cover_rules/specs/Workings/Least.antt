@@ -1,4 +1,4 @@
--- The least weight that the covers of a stretch have. It serves the engines that keep weights only: no promise needs it.
+-- The least weight that the covers of a stretch have, for engines that keep weights alone.
 use Prim.Native.Nat.{ℕ, _<_}
 use mathlib.Core.Path.{_≡_}
 use mathlib.Core.Bool.{Bool}

@@ -1,4 +1,4 @@
--- Predicates that serve the code which reads a cover out of a patch set: no promise needs them.
+-- Predicates for reading a cover out of a patch set.
 use Prim.Native.Nat.{ℕ, suc, _<_}
 use mathlib.Core.Path.{_≡_}
 use mathlib.Core.Logic.{_⊎_}

@@ -40,57 +40,59 @@ module _ (grid : List ℤ) (ring : List ℕ) where
   unfolding pointOf
   along-z j v e = ap (λ (x : ℕ). getD grid (x + 2) (pos 0)) e
 
-  pub record Gathering (px₀ py₀ pz₀ : List Float) (i : ℕ) (px py pz : List Float) : Type 0 where
-    pub points : Points (along grid ring) i px py pz
-    pub most : i ≤ length ring
-    pub px-kept : length px ≡ length px₀
-    pub py-kept : length py ≡ length py₀
-    pub pz-kept : length pz ≡ length pz₀
+-- the points of the positions below i are read
+pub record Gathering (grid : List ℤ) (ring : List ℕ) (px₀ py₀ pz₀ : List Float) (i : ℕ) (px py pz : List Float) : Type 0 where
+  pub points : Points (along grid ring) i px py pz
+  pub most : i ≤ length ring
+  pub px-kept : length px ≡ length px₀
+  pub py-kept : length py ≡ length py₀
+  pub pz-kept : length pz ≡ length pz₀
 
-  module _ (px₀ py₀ pz₀ : List Float) (r : GatherRoom grid ring px₀ py₀ pz₀) where
-    pub gathering-begins : Gathering px₀ py₀ pz₀ 0 px₀ py₀ pz₀
-    gathering-begins = record {
+module _ {grid : List ℤ} {ring : List ℕ} {px₀ py₀ pz₀ : List Float} (r : GatherRoom grid ring px₀ py₀ pz₀) where
+  pub gathering-begins : Gathering grid ring px₀ py₀ pz₀ 0 px₀ py₀ pz₀
+  gathering-begins = record {
+    points = record {
+      x = λ j h. absurd (omega arith);
+      y = λ j h. absurd (omega arith);
+      z = λ j h. absurd (omega arith);
+      px-long = r .px-long;
+      py-long = r .py-long;
+      pz-long = r .pz-long;
+    };
+    most = omega arith;
+    px-kept = refl;
+    py-kept = refl;
+    pz-kept = refl;
+  }
+
+  module _ {j : ℕ} {px py pz : List Float} (g : Gathering grid ring px₀ py₀ pz₀ j px py pz) (h : j < length ring) where
+    pub in-grid : 3 * getD ring j 0 + 2 < length grid
+    in-grid = omega (arith, r .on .named j h)
+
+    pub in-column : (j < length px) × (j < length py) × (j < length pz)
+    in-column =
+        let a : length ring ≤ longest = r .on .few in
+        let b : length px ≡ longest = g .points .px-long in
+        let c : length py ≡ longest = g .points .py-long in
+        let d : length pz ≡ longest = g .points .pz-long in
+        (omega arith, omega arith, omega arith)
+
+    pub gathering-more : {v : ℕ} → v ≡ 3 * getD ring j 0 → Gathering grid ring px₀ py₀ pz₀ (j + 1)
+        (set px j (gridFloat grid v)) (set py j (gridFloat grid (v + 1))) (set pz j (gridFloat grid (v + 2)))
+    gathering-more {v} e = record {
       points = record {
-        x = λ j h. absurd (omega arith);
-        y = λ j h. absurd (omega arith);
-        z = λ j h. absurd (omega arith);
-        px-long = r .px-long;
-        py-long = r .py-long;
-        pz-long = r .pz-long;
+        x = cells-more (λ i f. Whole f (along grid ring i .x)) px j _ (in-column .0) (g .points .x) (subst (Whole _) (along-x grid ring j v e) (whole-coordinate grid (r .on .coordinates) v));
+        y = cells-more (λ i f. Whole f (along grid ring i .y)) py j _ (in-column .1) (g .points .y) (subst (Whole _) (along-y grid ring j v e) (whole-coordinate grid (r .on .coordinates) (v + 1)));
+        z = cells-more (λ i f. Whole f (along grid ring i .z)) pz j _ (in-column .2) (g .points .z) (subst (Whole _) (along-z grid ring j v e) (whole-coordinate grid (r .on .coordinates) (v + 2)));
+        px-long = length-set px j _ ∙ g .points .px-long;
+        py-long = length-set py j _ ∙ g .points .py-long;
+        pz-long = length-set pz j _ ∙ g .points .pz-long;
       };
       most = omega arith;
-      px-kept = refl;
-      py-kept = refl;
-      pz-kept = refl;
+      px-kept = length-set px j _ ∙ g .px-kept;
+      py-kept = length-set py j _ ∙ g .py-kept;
+      pz-kept = length-set pz j _ ∙ g .pz-kept;
     }
 
-    module _ (j : ℕ) (px py pz : List Float) (h : j < length ring) (g : Gathering px₀ py₀ pz₀ j px py pz) where
-      pub in-grid : (v : ℕ) → v ≡ 3 * getD ring j 0 → v + 2 < length grid
-      in-grid v e = let a : 3 * getD ring j 0 + 3 ≤ length grid = r .on .named j h in omega arith
-
-      pub in-column : (j < length px) × (j < length py) × (j < length pz)
-      in-column =
-          let a : length ring ≤ longest = r .on .few in
-          let b : length px ≡ longest = g .points .px-long in
-          let c : length py ≡ longest = g .points .py-long in
-          let d : length pz ≡ longest = g .points .pz-long in
-          (omega arith, omega arith, omega arith)
-
-      pub gathering-more : (v : ℕ) → v ≡ 3 * getD ring j 0 → Gathering px₀ py₀ pz₀ (j + 1) (set px j (gridFloat grid v)) (set py j (gridFloat grid (v + 1))) (set pz j (gridFloat grid (v + 2)))
-      gathering-more v e = record {
-        points = record {
-          x = cells-more (λ i f. Whole f (along grid ring i .x)) px j _ (in-column .0) (g .points .x) (subst (Whole _) (along-x j v e) (whole-coordinate grid (r .on .coordinates) v));
-          y = cells-more (λ i f. Whole f (along grid ring i .y)) py j _ (in-column .1) (g .points .y) (subst (Whole _) (along-y j v e) (whole-coordinate grid (r .on .coordinates) (v + 1)));
-          z = cells-more (λ i f. Whole f (along grid ring i .z)) pz j _ (in-column .2) (g .points .z) (subst (Whole _) (along-z j v e) (whole-coordinate grid (r .on .coordinates) (v + 2)));
-          px-long = length-set px j _ ∙ g .points .px-long;
-          py-long = length-set py j _ ∙ g .points .py-long;
-          pz-long = length-set pz j _ ∙ g .points .pz-long;
-        };
-        most = omega arith;
-        px-kept = length-set px j _ ∙ g .px-kept;
-        py-kept = length-set py j _ ∙ g .py-kept;
-        pz-kept = length-set pz j _ ∙ g .pz-kept;
-      }
-
-    pub gathered : (j : ℕ) (px py pz : List Float) → length ring ≤ j → Gathering px₀ py₀ pz₀ j px py pz → Points (along grid ring) (length ring) px py pz
-    gathered j px py pz h g = let m : j ≤ length ring = g .most in subst (λ (n : ℕ). Points (along grid ring) n px py pz) (omega arith) (g .points)
+  pub gathered : {j : ℕ} {px py pz : List Float} → Gathering grid ring px₀ py₀ pz₀ j px py pz → length ring ≤ j → Points (along grid ring) (length ring) px py pz
+  gathered {j} {px} {py} {pz} g h = let m : j ≤ length ring = g .most in subst (λ (n : ℕ). Points (along grid ring) n px py pz) (omega arith) (g .points)

@@ -15,7 +15,7 @@ use Rattle.cover_bits.specs.Workings.Masks.{bit}
 use Rattle.cover_column.specs.Workings.Columns.{cell, farFloat, Long, Table, row, pairs, RelaxRoom, Relaxed}
 use Rattle.cover_column.proofs.Laws.Rows.{row-inside}
 use Rattle.cover_table.specs.Workings.Told.{far}
-use Rattle.cover_table.specs.Workings.Table.{settledOf, Tells, Sweeping, Sweepable, Filled}
+use Rattle.cover_table.specs.Workings.Table.{settledOf, Strips, strips, Sweeping, Sweepable, Offered, Swept}
 use Rattle.cover_table.proofs.Laws.Sweeps.{far-natural, settled, relax-room, offered-skips, offered-relaxes}
 use Rattle.cover_table.proofs.Laws.Fills.{sweeping-ends}
 
@@ -27,22 +27,20 @@ pub settled-free : (b : Bool) (v : Float) → b ≡ false → v ≡ settledOf b 
 unfolding settledOf
 settled-free b v e = ap (λ (x : Bool). cond x farFloat v) (sym e)
 
-module _ (k m : ℕ) (bars : List ℕ) (xs ys zs column table : List Float) where
-  -- what the code asks of the places
-  pub record OfferRoom : Type 0 where
-    pub here : k < longest
-    pub below : m < k
-    pub bars-long : length bars ≡ longest
-    pub column-long : Long column
-    pub table-long : Table table
-    pub inside : row k + k ≤ pairs
+-- what the code asks of the places
+pub record OfferRoom (k m : ℕ) (bars : List ℕ) (column table : List Float) : Type 0 where
+  pub here : k < longest
+  pub below : m < k
+  pub bars-long : length bars ≡ longest
+  pub column-long : Long column
+  pub table-long : Table table
+  pub inside : row k + k ≤ pairs
 
-  pub offer-room : Sweepable k (suc m) bars xs ys zs column table → OfferRoom
+module _ {k m : ℕ} {bars : List ℕ} {xs ys zs column table : List Float} where
+  pub offer-room : Sweepable k (suc m) bars (strips xs ys zs column) table → OfferRoom k m bars column table
   offer-room r =
       let s = r .sweeping in
-      let a : k < r .n = s .here in
-      let b : r .n ≤ longest = s .loop .few in
-      let h : k < longest = omega arith in
+      let h : k < longest = omega (arith, s .here, s .loop .few) in
       record {
         here = h;
         below = s .reach;
@@ -52,69 +50,63 @@ module _ (k m : ℕ) (bars : List ℕ) (xs ys zs column table : List Float) wher
         inside = row-inside k h;
       }
 
-  module _ (v : Float) (a : ℕ) (e : v ≡ settledOf (bit (getD bars m 0) k) (cell column m)) (f : a ≡ row k) where
-    module _ (at : ℕ → Point) (barred : ℕ → ℕ → Bool) (n : ℕ) (s : Sweeping at barred n k (suc m) bars xs ys zs column table) where
-      tells : Tells at barred m k v
-      tells = settled at barred n k m bars xs ys zs column table (s .reach) s _ v refl e
+  module _ {v : Float} {a : ℕ} (e : v ≡ settledOf (bit (getD bars m 0) k) (cell column m)) (f : a ≡ row k) where
+    pub offer-relaxes : {b : ℕ} → b ≡ row m → {column′ : List Float} → length column′ ≡ length column
+        → Relaxed (set table (3 * pairs + a + m) v) b m v xs ys zs column column′
+        → Offered k m bars (strips xs ys zs column) table (strips xs ys zs column′) (set table (3 * pairs + a + m) v)
+    offer-relaxes g {column′} l r at barred n s =
+        subst (λ (x : ℕ). Sweeping at barred n k m bars (strips xs ys zs column′) (set table (3 * pairs + x + m) v)) (sym f)
+        (offered-relaxes s (settled s e) (l ∙ s .column-long)
+        (subst (λ (x : ℕ). Relaxed (set table (3 * pairs + x + m) v) (row m) m v xs ys zs column column′) f
+        (subst (λ (x : ℕ). Relaxed (set table (3 * pairs + a + m) v) x m v xs ys zs column column′) g r)))
 
-      pub offer-relaxes : (b : ℕ) → b ≡ row m → (column′ : List Float) → length column′ ≡ length column
-          → Relaxed (set table (3 * pairs + a + m) v) b m v xs ys zs column column′
-          → Sweeping at barred n k m bars xs ys zs column′ (set table (3 * pairs + a + m) v)
-      offer-relaxes b g column′ l r =
-          subst (λ (x : ℕ). Sweeping at barred n k m bars xs ys zs column′ (set table (3 * pairs + x + m) v)) (sym f)
-          (offered-relaxes at barred n k m bars xs ys zs column table (s .reach) s v tells column′ (l ∙ s .column-long)
-          (subst (λ (x : ℕ). Relaxed (set table (3 * pairs + x + m) v) (row m) m v xs ys zs column column′) f
-          (subst (λ (x : ℕ). Relaxed (set table (3 * pairs + a + m) v) x m v xs ys zs column column′) g r)))
+    pub offer-skips : lt v farFloat ≡ false → Offered k m bars (strips xs ys zs column) table (strips xs ys zs column) (set table (3 * pairs + a + m) v)
+    offer-skips q at barred n s =
+        let t = settled s e in
+        subst (λ (x : ℕ). Sweeping at barred n k m bars (strips xs ys zs column) (set table (3 * pairs + x + m) v)) (sym f)
+        (offered-skips s t (ltb-false (t .weighs) far (sym (natural-less v farFloat (t .weighs) far (t .held) far-natural) ∙ q)))
 
-      pub offer-skips : lt v farFloat ≡ false → Sweeping at barred n k m bars xs ys zs column (set table (3 * pairs + a + m) v)
-      offer-skips q =
-          subst (λ (x : ℕ). Sweeping at barred n k m bars xs ys zs column (set table (3 * pairs + x + m) v)) (sym f)
-          (offered-skips at barred n k m bars xs ys zs column table (s .reach) s v tells
-          (ltb-false (tells .weighs) far (sym (natural-less v farFloat (tells .weighs) far (tells .held) far-natural) ∙ q)))
-
-    pub offer-relax-room : (b : ℕ) → b ≡ row m → Sweepable k (suc m) bars xs ys zs column table
+    pub offer-relax-room : {b : ℕ} → b ≡ row m → Sweepable k (suc m) bars (strips xs ys zs column) table
         → RelaxRoom (set table (3 * pairs + a + m) v) b m xs ys zs column
-    offer-relax-room b g r =
+    offer-relax-room {b} g r =
         subst (λ (x : ℕ). RelaxRoom (set table (3 * pairs + x + m) v) b m xs ys zs column) (sym f)
-        (subst (λ (x : ℕ). RelaxRoom (set table (3 * pairs + row k + m) v) x m xs ys zs column) (sym g)
-        (relax-room (r .at) (r .barred) (r .n) k m bars xs ys zs column table (r .sweeping .reach) (r .sweeping) v (tells (r .at) (r .barred) (r .n) (r .sweeping))))
+        (subst (λ (x : ℕ). RelaxRoom (set table (3 * pairs + row k + m) v) x m xs ys zs column) (sym g) (relax-room (r .sweeping) (settled (r .sweeping) e)))
 
 -- ---- a whole column
 
 -- whatever loop's column was to be swept is swept as far as m
-pub record Going (k : ℕ) (bars : List ℕ) (xs ys zs column₀ table₀ : List Float) (m : ℕ) (column table : List Float) : Type 0 where
+pub record Going (k : ℕ) (bars : List ℕ) (s₀ : Strips) (table₀ : List Float) (m : ℕ) (column table : List Float) : Type 0 where
   pub reach : m ≤ k
-  pub column-kept : length column ≡ length column₀
+  pub column-kept : length column ≡ length (s₀ .column)
   pub table-kept : length table ≡ length table₀
-  pub sweeps : (at : ℕ → Point) (barred : ℕ → ℕ → Bool) (n : ℕ) → Sweeping at barred n k k bars xs ys zs column₀ table₀
-      → Sweeping at barred n k m bars xs ys zs column table
+  pub sweeps : (at : ℕ → Point) (barred : ℕ → ℕ → Bool) (n : ℕ) → Sweeping at barred n k k bars s₀ table₀
+      → Sweeping at barred n k m bars (strips (s₀ .xs) (s₀ .ys) (s₀ .zs) column) table
 
-module _ (k : ℕ) (bars : List ℕ) (xs ys zs column₀ table₀ : List Float) where
-  pub going-begins : Going k bars xs ys zs column₀ table₀ k column₀ table₀
+module _ {k : ℕ} {bars : List ℕ} {xs ys zs column₀ table₀ : List Float} where
+  pub going-begins : Going k bars (strips xs ys zs column₀) table₀ k column₀ table₀
   going-begins = record { reach = le-refl k; column-kept = refl; table-kept = refl; sweeps = λ at barred n s. s }
 
-  module _ (m : ℕ) (column table : List Float) (h : 0 < m) (g : Going k bars xs ys zs column₀ table₀ m column table) where
-    one-less : m ≡ suc (m - 1)
-    one-less = omega arith
+  module _ {m : ℕ} {column table : List Float} (g : Going k bars (strips xs ys zs column₀) table₀ m column table) where
+    module _ (h : 0 < m) where
+      -- the next position down
+      down : (at : ℕ → Point) (barred : ℕ → ℕ → Bool) (n : ℕ) → Sweeping at barred n k k bars (strips xs ys zs column₀) table₀
+          → Sweeping at barred n k (suc (m - 1)) bars (strips xs ys zs column) table
+      down at barred n s =
+          let e : m ≡ suc (m - 1) = omega arith in
+          subst (λ (x : ℕ). Sweeping at barred n k x bars (strips xs ys zs column) table) e (g .sweeps at barred n s)
 
-    pub going-room : Sweepable k k bars xs ys zs column₀ table₀ → Sweepable k (suc (m - 1)) bars xs ys zs column table
-    going-room r = record {
-      at = r .at;
-      barred = r .barred;
-      n = r .n;
-      sweeping = subst (λ (x : ℕ). Sweeping (r .at) (r .barred) (r .n) k x bars xs ys zs column table) one-less (g .sweeps (r .at) (r .barred) (r .n) (r .sweeping));
-    }
+      pub going-room : Sweepable k k bars (strips xs ys zs column₀) table₀ → Sweepable k (suc (m - 1)) bars (strips xs ys zs column) table
+      going-room r = record { at = r .at; barred = r .barred; n = r .n; sweeping = down (r .at) (r .barred) (r .n) (r .sweeping) }
 
-    pub going-on : (column′ table′ : List Float) → length column′ ≡ length column → length table′ ≡ length table
-        → ((at : ℕ → Point) (barred : ℕ → ℕ → Bool) (n : ℕ) → Sweeping at barred n k (suc (m - 1)) bars xs ys zs column table → Sweeping at barred n k (m - 1) bars xs ys zs column′ table′)
-        → Going k bars xs ys zs column₀ table₀ (m - 1) column′ table′
-    going-on column′ table′ lc lt f = let l : m ≤ k = g .reach in record {
-      reach = omega arith;
-      column-kept = lc ∙ g .column-kept;
-      table-kept = lt ∙ g .table-kept;
-      sweeps = λ at barred n s. f at barred n (subst (λ (x : ℕ). Sweeping at barred n k x bars xs ys zs column table) one-less (g .sweeps at barred n s));
-    }
+      pub going-on : {column′ table′ : List Float} → length column′ ≡ length column → length table′ ≡ length table
+          → Offered k (m - 1) bars (strips xs ys zs column) table (strips xs ys zs column′) table′
+          → Going k bars (strips xs ys zs column₀) table₀ (m - 1) column′ table′
+      going-on lc lt f = record {
+        reach = omega (arith, g .reach);
+        column-kept = lc ∙ g .column-kept;
+        table-kept = lt ∙ g .table-kept;
+        sweeps = λ at barred n s. f at barred n (down at barred n s);
+      }
 
-  pub going-ends : (m : ℕ) (column table : List Float) → m ≤ 0 → Going k bars xs ys zs column₀ table₀ m column table
-      → (at : ℕ → Point) (barred : ℕ → ℕ → Bool) (n : ℕ) → Sweeping at barred n k k bars xs ys zs column₀ table₀ → Filled at barred (suc k) table
-  going-ends m column table h g at barred n s = sweeping-ends at barred n k m bars xs ys zs column table (omega arith) (g .sweeps at barred n s)
+    pub going-ends : m ≤ 0 → Swept k bars (strips xs ys zs column₀) table₀ table
+    going-ends h at barred n s = sweeping-ends (omega arith) (g .sweeps at barred n s)

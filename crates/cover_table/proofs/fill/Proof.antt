@@ -1,6 +1,7 @@
 -- `fill` makes the table column by column.
 use Rattle.cover_table.proofs.Laws.Filling.{Filling, filling-begins, products-room, copy-room, sweep-room, filling-on, filling-ends}
-use mathlib.Core.Path.{refl, sym}
+use Rattle.cover_table.specs.Workings.Table.{strips}
+use mathlib.Core.Path.{sym}
 use Prim.Native.Nat.{_-_}
 use borrow.Author.Needs.{needs}
 use native.Mathlib.Omega.{arith}
@@ -8,56 +9,39 @@ use Rattle.cover_table.proofs.fill.Statement.{statement}
 use Rattle.cover_table.proofs.fill.Tie as tie
 
 abbrev Inv-loop : tie.InvT-loop
-Inv-loop px py pz n bars table₀ xs₀ ys₀ zs₀ column₀ k₀ table xs ys zs column k = Filling n px py pz bars table₀ k xs ys zs column table
+Inv-loop px py pz n bars table₀ xs₀ ys₀ zs₀ column₀ k₀ table xs ys zs column k = Filling n px py pz bars table₀ k (strips xs ys zs column) table
 
 abbrev μ-loop : tie.MeasureT-loop
 μ-loop px py pz n bars table₀ xs₀ ys₀ zs₀ column₀ k₀ table xs ys zs column k = n - k
 
-abbrev to-start : tie.After-multiply Inv-loop μ-loop → tie.Start Inv-loop μ-loop
-to-start p = search
+-- where a turn begins, where its products are made, where they are copied and where its column is swept
+abbrev Turn : Type 0
+Turn = tie.In-loop Inv-loop μ-loop
 
-abbrev to-after-multiply : tie.After-copy Inv-loop μ-loop → tie.After-multiply Inv-loop μ-loop
-to-after-multiply p = search
+abbrev Swept : Type 0
+Swept = tie.After-sweep Inv-loop μ-loop
 
-abbrev to-start-2 : tie.After-copy Inv-loop μ-loop → tie.Start Inv-loop μ-loop
-to-start-2 p = to-start (to-after-multiply p)
+abbrev entry : Turn → tie.Start Inv-loop μ-loop
+entry t = search
 
-abbrev to-after-copy : tie.After-sweep Inv-loop μ-loop → tie.After-copy Inv-loop μ-loop
-to-after-copy p = search
+abbrev turn : tie.After-multiply Inv-loop μ-loop → Turn
+turn m = search
 
-abbrev to-start-3 : tie.After-sweep Inv-loop μ-loop → tie.Start Inv-loop μ-loop
-to-start-3 p = to-start-2 (to-after-copy p)
+abbrev multiplied : tie.After-copy Inv-loop μ-loop → tie.After-multiply Inv-loop μ-loop
+multiplied c = search
 
-abbrev to-turn : tie.After-multiply Inv-loop μ-loop → tie.In-loop Inv-loop μ-loop
-to-turn p = search
-
-abbrev to-turn-2 : tie.After-copy Inv-loop μ-loop → tie.In-loop Inv-loop μ-loop
-to-turn-2 p = to-turn (to-after-multiply p)
-
-abbrev to-turn-3 : tie.After-sweep Inv-loop μ-loop → tie.In-loop Inv-loop μ-loop
-to-turn-3 p = to-turn-2 (to-after-copy p)
-
-abbrev to-at-loop : tie.After-multiply Inv-loop μ-loop → tie.At-loop Inv-loop μ-loop
-to-at-loop p = search
-
-abbrev to-at-loop-2 : tie.After-copy Inv-loop μ-loop → tie.At-loop Inv-loop μ-loop
-to-at-loop-2 p = to-at-loop (to-after-multiply p)
-
-abbrev to-at-loop-3 : tie.After-sweep Inv-loop μ-loop → tie.At-loop Inv-loop μ-loop
-to-at-loop-3 p = to-at-loop-2 (to-after-copy p)
-
-abbrev to-after-multiply-2 : tie.After-sweep Inv-loop μ-loop → tie.After-multiply Inv-loop μ-loop
-to-after-multiply-2 p = to-after-multiply (to-after-copy p)
+abbrev copied : Swept → tie.After-copy Inv-loop μ-loop
+copied s = search
 
 pub fill-spec : {M : Type 1} → statement M
 fill-spec =
     tie.close
     (tie.spec Inv-loop μ-loop
     (λ c. search filling-begins)
-    (λ c. let at-loop : tie.At-loop Inv-loop μ-loop = search in sym (at-loop .loop .inv .xs-long))
-    (λ c. let at-loop : tie.At-loop Inv-loop μ-loop = search in sym (at-loop .loop .inv .ys-long))
-    (λ c. let at-loop : tie.At-loop Inv-loop μ-loop = search in sym (at-loop .loop .inv .zs-long))
-    (λ c. let at-loop : tie.At-loop Inv-loop μ-loop = search in sym (at-loop .loop .inv .column-long))
+    (λ c. let t : Turn = search in sym (t .before .loop .inv .xs-long))
+    (λ c. let t : Turn = search in sym (t .before .loop .inv .ys-long))
+    (λ c. let t : Turn = search in sym (t .before .loop .inv .zs-long))
+    (λ c. let t : Turn = search in sym (t .before .loop .inv .column-long))
     (λ c κs. search products-room)
     (λ c. search needs)
     (λ c. search needs)
@@ -68,21 +52,14 @@ fill-spec =
     (λ c. search needs)
     (λ c. search needs)
     (λ c κs. search sweep-room)
+    (λ c. let t = turn (multiplied (copied (search))) in omega (arith, products-room (entry t .pre) (t .before .loop .inv) (t .loop-test .taken) .short))
+    (λ c. let t = turn (multiplied (copied (search))) in omega (arith, t .loop-test .taken))
     (λ c.
-    let after-sweep : tie.After-sweep Inv-loop μ-loop = search in
-    omega (
-      arith,
-      products-room _ _ _ _ _ _ (to-start-3 after-sweep .pre) _ _ _ _ _ _ (to-turn-3 after-sweep .loop-test .taken)
-          (to-at-loop-3 after-sweep .loop .inv) .short,
-    ))
-    (λ c. let after-sweep : tie.After-sweep Inv-loop μ-loop = search in omega (arith, (to-turn-3 after-sweep) .loop-test .taken))
-    (λ c.
-    let after-sweep : tie.After-sweep Inv-loop μ-loop = search in
-    let after-multiply = to-after-multiply-2 after-sweep in
-    let after-copy = to-after-copy after-sweep in
-    filling-on _ _ _ _ _ _ (to-start-3 after-sweep .pre) _ _ _ _ _ _ (to-turn-3 after-sweep .loop-test .taken) (to-at-loop-3 after-sweep .loop .inv) _ _ _ _
-    (after-multiply .multiply .kept .1 .1 .1 .1 .0) (after-multiply .multiply .kept .1 .1 .1 .1 .1 .0) (after-multiply .multiply .kept .1 .1 .1 .1 .1 .1 .0)
-    (after-multiply .multiply .kept .1 .1 .1 .1 .1 .1 .1 .0) (after-multiply .multiply .ensures) _ (after-copy .copy .kept .1 .1 .1 .1 .0)
-    (after-copy .copy .ensures) _ _ (after-sweep .sweep .kept .1 .1 .1 .1 .1 .1 .0) (after-sweep .sweep .kept .0) (after-sweep .sweep .ensures))
+    let s : Swept = search in
+    let k = copied s in
+    let m = multiplied k in
+    let t = turn m in
+    filling-on (entry t .pre) (t .before .loop .inv) (t .loop-test .taken) (search (m .multiply .kept)) (search (m .multiply .kept)) (search (m .multiply .kept))
+    (m .multiply .kept .1 .1 .1 .1 .1 .1 .1 .0) (m .multiply .ensures) (search (k .copy .kept)) (k .copy .ensures) (search (s .sweep .kept)) (search (s .sweep .kept)) (s .sweep .ensures))
     (λ c. c .before .loop .inv .kept)
     (λ c. search filling-ends))

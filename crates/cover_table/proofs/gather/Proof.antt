@@ -1,8 +1,7 @@
 -- `gather` reads the points of a ring one by one.
 use Rattle.cover_table.proofs.Laws.Gathers.{Gathering, gathering-begins, in-grid, in-column, gathering-more, gathered}
-use mathlib.Core.Path.{refl}
-use lib.ListN.{length}
-use Prim.Native.Nat.{_-_}
+use lib.ListN.{length, getD}
+use Prim.Native.Nat.{_+_, _-_, _*_, _<_}
 use borrow.Author.Needs.{needs}
 use native.Mathlib.Omega.{arith}
 use Rattle.cover_table.proofs.gather.Statement.{statement}
@@ -14,6 +13,17 @@ Inv-loop grid ring px₀ py₀ pz₀ n j₀ px py pz j = Gathering grid ring px�
 abbrev μ-loop : tie.MeasureT-loop
 μ-loop grid ring px₀ py₀ pz₀ n j₀ px py pz j = length ring - j
 
+-- where a turn begins, and the function's entry behind it
+abbrev Turn : Type 0
+Turn = tie.In-loop Inv-loop μ-loop
+
+abbrev entry : Turn → tie.Start Inv-loop μ-loop
+entry t = search
+
+-- the position's vertex names a point
+named : (t : Turn) → 3 * getD (entry t .args .ring .now) (t .before .loop .j) 0 + 2 < length (entry t .args .grid .now)
+named t = in-grid (entry t .pre) (t .before .loop .inv) (t .loop-test .taken)
+
 pub gather-spec : {M : Type 1} → statement M
 gather-spec =
     tie.close
@@ -21,67 +31,25 @@ gather-spec =
     (λ c. search gathering-begins)
     (λ c. search needs)
     (λ c. search needs)
-    (λ c. let at-loop : tie.At-loop Inv-loop μ-loop = search in omega (arith, c .shared-slice-known .given (at-loop .loop .j)))
-    (λ c. let at-loop : tie.At-loop Inv-loop μ-loop = search in omega (arith, c .shared-slice-known .given (at-loop .loop .j)))
-    (λ c.
-    let start : tie.Start Inv-loop μ-loop = search in
-    let at-loop : tie.At-loop Inv-loop μ-loop = search in
-    let h = in-grid _ _ _ _ _ (start .pre) _ _ _ _ (c .before .loop-test .taken) (at-loop .loop .inv) _ refl in search (needs, h))
-    (λ c.
-    let start : tie.Start Inv-loop μ-loop = search in
-    let at-loop : tie.At-loop Inv-loop μ-loop = search in
-    let h = in-grid _ _ _ _ _ (start .pre) _ _ _ _ (c .before .loop-test .taken) (at-loop .loop .inv) _ refl in search (needs, h))
+    (λ c. let t : Turn = search in omega (arith, named t, entry t .good))
+    (λ c. let t : Turn = search in omega (arith, named t, entry t .good))
+    (λ c. search (needs, named (search)))
+    (λ c. search (needs, named (search)))
     (λ c. search needs)
     (λ c. search needs)
-    (λ c.
-    let start : tie.Start Inv-loop μ-loop = search in
-    let turn : tie.In-loop Inv-loop μ-loop = search in
-    let at-loop : tie.At-loop Inv-loop μ-loop = search in
-    in-column _ _ _ _ _ (start .pre) _ _ _ _ (turn .loop-test .taken) (at-loop .loop .inv) .0)
-    (λ c.
-    let start : tie.Start Inv-loop μ-loop = search in
-    let turn : tie.In-loop Inv-loop μ-loop = search in
-    let at-loop : tie.At-loop Inv-loop μ-loop = search in
-    let h = in-grid _ _ _ _ _ (start .pre) _ _ _ _ (turn .loop-test .taken) (at-loop .loop .inv) _ refl in search (needs, h))
-    (λ c.
-    let start : tie.Start Inv-loop μ-loop = search in
-    let turn : tie.In-loop Inv-loop μ-loop = search in
-    let at-loop : tie.At-loop Inv-loop μ-loop = search in
-    let h = in-grid _ _ _ _ _ (start .pre) _ _ _ _ (turn .loop-test .taken) (at-loop .loop .inv) _ refl in search (needs, h))
-    (λ c.
-    let start : tie.Start Inv-loop μ-loop = search in
-    let turn : tie.In-loop Inv-loop μ-loop = search in
-    let at-loop : tie.At-loop Inv-loop μ-loop = search in
-    let h = in-grid _ _ _ _ _ (start .pre) _ _ _ _ (turn .loop-test .taken) (at-loop .loop .inv) _ refl in search (needs, h))
+    (λ c. let t : Turn = search in in-column (entry t .pre) (t .before .loop .inv) (t .loop-test .taken) .0)
+    (λ c. search (needs, named (search)))
+    (λ c. search (needs, named (search)))
+    (λ c. search (needs, named (search)))
     (λ c. search needs)
     (λ c. search needs)
-    (λ c.
-    let start : tie.Start Inv-loop μ-loop = search in
-    let turn : tie.In-loop Inv-loop μ-loop = search in
-    let at-loop : tie.At-loop Inv-loop μ-loop = search in
-    in-column _ _ _ _ _ (start .pre) _ _ _ _ (turn .loop-test .taken) (at-loop .loop .inv) .1)
-    (λ c.
-    let start : tie.Start Inv-loop μ-loop = search in
-    let turn : tie.In-loop Inv-loop μ-loop = search in
-    let at-loop : tie.At-loop Inv-loop μ-loop = search in
-    let h = in-grid _ _ _ _ _ (start .pre) _ _ _ _ (turn .loop-test .taken) (at-loop .loop .inv) _ refl in search (needs, h))
-    (λ c.
-    let start : tie.Start Inv-loop μ-loop = search in
-    let turn : tie.In-loop Inv-loop μ-loop = search in
-    let at-loop : tie.At-loop Inv-loop μ-loop = search in
-    let h = in-grid _ _ _ _ _ (start .pre) _ _ _ _ (turn .loop-test .taken) (at-loop .loop .inv) _ refl in search (needs, h))
-    (λ c.
-    let start : tie.Start Inv-loop μ-loop = search in
-    let turn : tie.In-loop Inv-loop μ-loop = search in
-    let at-loop : tie.At-loop Inv-loop μ-loop = search in
-    let h = in-grid _ _ _ _ _ (start .pre) _ _ _ _ (turn .loop-test .taken) (at-loop .loop .inv) _ refl in search (needs, h))
+    (λ c. let t : Turn = search in in-column (entry t .pre) (t .before .loop .inv) (t .loop-test .taken) .1)
+    (λ c. search (needs, named (search)))
+    (λ c. search (needs, named (search)))
+    (λ c. search (needs, named (search)))
     (λ c. search needs)
     (λ c. search needs)
-    (λ c.
-    let start : tie.Start Inv-loop μ-loop = search in
-    let turn : tie.In-loop Inv-loop μ-loop = search in
-    let at-loop : tie.At-loop Inv-loop μ-loop = search in
-    in-column _ _ _ _ _ (start .pre) _ _ _ _ (turn .loop-test .taken) (at-loop .loop .inv) .2)
+    (λ c. let t : Turn = search in in-column (entry t .pre) (t .before .loop .inv) (t .loop-test .taken) .2)
     (λ c. search needs)
     (λ c. search needs)
     (λ c. search gathering-more)

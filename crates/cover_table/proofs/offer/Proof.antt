@@ -1,23 +1,25 @@
 -- `offer` settles m..k and lets the stretches before it take the way by m.
-use Rattle.cover_table.proofs.Laws.Offers.{offer-room, offer-relaxes, offer-skips, offer-relax-room}
+use Rattle.cover_table.proofs.Laws.Offers.{OfferRoom, offer-room, offer-relaxes, offer-skips, offer-relax-room}
 use borrow.Author.Needs.{needs}
 use Rattle.cover_table.proofs.offer.Statement.{statement}
 use Rattle.cover_table.proofs.offer.Tie as tie
 
-returns : tie.Need-returns
-returns c at barred n s = offer-relaxes _ _ _ _ _ _ _ _ _ _ (c .before .before .before .before .before .before .before .before .settled .ensures) (c .before .before .before .before .before .before .before .row-of .ensures) at barred n s _ (c .before .before .before .before .row-of2 .ensures) _ (c .before .before .relax .kept .1 .1 .1 .1 .1 .1 .1 .0) (c .before .before .relax .ensures)
+-- where m..k is settled, where its row begins, and the function's entry behind both
+abbrev entry : tie.After-settled → tie.Start
+entry s = search
 
-returns-2 : tie.Need-returns-2
-returns-2 c at barred n s = offer-skips _ _ _ _ _ _ _ _ _ _ (c .before .before .settled .ensures) (c .before .row-of .ensures) at barred n s (c .if1 .left)
+abbrev settled : tie.After-row-of → tie.After-settled
+settled r = search
 
-abbrev to-start : tie.After-settled → tie.Start
-to-start p = search
+abbrev placed : tie.After-relax → tie.After-row-of
+placed r = search
 
-abbrev to-after-settled : tie.After-row-of → tie.After-settled
-to-after-settled p = search
+abbrev before : tie.After-relax → tie.After-row-of2
+before r = search
 
-abbrev to-start-2 : tie.After-row-of → tie.Start
-to-start-2 p = to-start (to-after-settled p)
+-- the places that are asked for
+room : (r : tie.After-row-of) → OfferRoom (entry (settled r) .args .k) (entry (settled r) .args .m) (entry (settled r) .args .bars .now) (entry (settled r) .args .column .now) (entry (settled r) .args .table .now)
+room r = offer-room (entry (settled r) .pre)
 
 pub offer-spec : {M : Type 1} → statement M
 offer-spec =
@@ -29,14 +31,17 @@ offer-spec =
     (λ c. search needs)
     (λ c κs. search needs)
     (λ c κs. search needs)
-    (λ c. let r = offer-room _ _ _ _ _ _ _ _ (to-start-2 c .pre) in search (needs, r, c .row-of .ensures))
-    (λ c. let r = offer-room _ _ _ _ _ _ _ _ (to-start-2 c .pre) in search (needs, r, c .row-of .ensures))
-    (λ c. let r = offer-room _ _ _ _ _ _ _ _ (to-start-2 c .pre) in search (needs, r, c .row-of .ensures))
-    (λ c. let r = offer-room _ _ _ _ _ _ _ _ (to-start-2 c .pre) in search (needs, r, c .row-of .ensures))
+    (λ c. search (needs, room c, c .row-of .ensures))
+    (λ c. search (needs, room c, c .row-of .ensures))
+    (λ c. search (needs, room c, c .row-of .ensures))
+    (λ c. search (needs, room c, c .row-of .ensures))
     (λ c κs. search needs)
     (λ c κs. search offer-relax-room)
     (λ c. search needs)
     (λ c. search needs)
-    returns
+    (λ c.
+    let r : tie.After-relax = search in
+    let p = placed r in
+    offer-relaxes (settled p .settled .ensures) (p .row-of .ensures) (before r .row-of2 .ensures) (search (r .relax .kept)) (r .relax .ensures))
     (λ c. search needs)
-    returns-2)
+    (λ c. let p : tie.After-row-of = search in offer-skips (settled p .settled .ensures) (p .row-of .ensures) (c .if1 .left)))

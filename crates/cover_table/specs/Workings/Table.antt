@@ -28,6 +28,16 @@ pub record Points (at : ℕ → Point) (n : ℕ) (px py pz : List Float) : Type 
   pub py-long : Long py
   pub pz-long : Long pz
 
+-- the four strips on which a column is swept: its products on the three planes, and its weights
+pub record Strips : Type 0 where
+  pub xs : List Float
+  pub ys : List Float
+  pub zs : List Float
+  pub column : List Float
+
+abbrev pub strips : List Float → List Float → List Float → List Float → Strips
+strips xs ys zs column = record { xs = xs; ys = ys; zs = zs; column = column }
+
 -- The loop's position j lies at the point `at j`.
 module _ (at : ℕ → Point) (barred : ℕ → ℕ → Bool) where
   -- the table has the products of the points at i and k
@@ -61,44 +71,41 @@ module _ (at : ℕ → Point) (barred : ℕ → ℕ → Bool) where
     pub sides : (j : ℕ) → barred j (suc j) ≡ false
 
   -- column k, of which the stretches from m on are weighed
-  pub record Sweeping (n k m : ℕ) (bars : List ℕ) (xs ys zs column table : List Float) : Type 0 where
+  pub record Sweeping (n k m : ℕ) (bars : List ℕ) (s : Strips) (table : List Float) : Type 0 where
     pub loop : OnLoop n
     pub here : k < n
     pub reach : m ≤ k
     pub rows : Rows n barred bars
-    pub xs-long : Long xs
-    pub ys-long : Long ys
-    pub zs-long : Long zs
-    pub column-long : Long column
+    pub xs-long : Long (s .xs)
+    pub ys-long : Long (s .ys)
+    pub zs-long : Long (s .zs)
+    pub column-long : Long (s .column)
     pub table-long : Table table
-    pub x : (i : ℕ) → i < k → Whole (cell xs i) (pairX (at i) (at k))
-    pub y : (i : ℕ) → i < k → Whole (cell ys i) (pairY (at i) (at k))
-    pub z : (i : ℕ) → i < k → Whole (cell zs i) (pairZ (at i) (at k))
+    pub x : (i : ℕ) → i < k → Whole (cell (s .xs) i) (pairX (at i) (at k))
+    pub y : (i : ℕ) → i < k → Whole (cell (s .ys) i) (pairY (at i) (at k))
+    pub z : (i : ℕ) → i < k → Whole (cell (s .zs) i) (pairZ (at i) (at k))
     pub products : (i j : ℕ) → i < j → j ≤ k → Multiples table i j
     pub weights : (i j : ℕ) → i < j → j < k → Tells i j (cell table (3 * pairs + row j + i))
     pub done : (i : ℕ) → m ≤ i → i < k → Tells i k (cell table (3 * pairs + row k + i))
-    pub due : (i : ℕ) → i < m → Due i k m (cell column i)
+    pub due : (i : ℕ) → i < m → Due i k m (cell (s .column) i)
 
 -- ---- what the code's functions ask and give
 
 -- some loop's column is swept as far as m
-pub record Sweepable (k m : ℕ) (bars : List ℕ) (xs ys zs column table : List Float) : Type 0 where
+pub record Sweepable (k m : ℕ) (bars : List ℕ) (s : Strips) (table : List Float) : Type 0 where
   pub at : ℕ → Point
   pub barred : ℕ → ℕ → Bool
   pub n : ℕ
-  pub sweeping : Sweeping at barred n k m bars xs ys zs column table
+  pub sweeping : Sweeping at barred n k m bars s table
 
 -- whatever loop's column was swept as far as m + 1 is now swept as far as m
-abbrev pub Offered : ℕ → ℕ → List ℕ → List Float → List Float → List Float → List Float → List Float → List Float → List Float → Type 0
-Offered k m bars xs ys zs column table column′ table′ =
-    (at : ℕ → Point) (barred : ℕ → ℕ → Bool) (n : ℕ) → Sweeping at barred n k (suc m) bars xs ys zs column table
-    → Sweeping at barred n k m bars xs ys zs column′ table′
+abbrev pub Offered : ℕ → ℕ → List ℕ → Strips → List Float → Strips → List Float → Type 0
+Offered k m bars s table s′ table′ =
+    (at : ℕ → Point) (barred : ℕ → ℕ → Bool) (n : ℕ) → Sweeping at barred n k (suc m) bars s table → Sweeping at barred n k m bars s′ table′
 
 -- whatever loop's column was to be swept, the table has its row too
-abbrev pub Swept : ℕ → List ℕ → List Float → List Float → List Float → List Float → List Float → List Float → Type 0
-Swept k bars xs ys zs column table table′ =
-    (at : ℕ → Point) (barred : ℕ → ℕ → Bool) (n : ℕ) → Sweeping at barred n k k bars xs ys zs column table
-    → Filled at barred (suc k) table′
+abbrev pub Swept : ℕ → List ℕ → Strips → List Float → List Float → Type 0
+Swept k bars s table table′ = (at : ℕ → Point) (barred : ℕ → ℕ → Bool) (n : ℕ) → Sweeping at barred n k k bars s table → Filled at barred (suc k) table′
 
 -- the points and bars of a loop
 pub record Loop (at : ℕ → Point) (barred : ℕ → ℕ → Bool) (n : ℕ) (px py pz : List Float) (bars : List ℕ) : Type 0 where

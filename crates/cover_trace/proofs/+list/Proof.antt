@@ -1,9 +1,10 @@
 -- `list` lays the triangle of the first apex, then lists the two parts, each shorter than the whole.
 use Prim.Native.Nat.{ℕ, _<_, _-_}
+use native.Mathlib.Omega.{arith}
 use borrow.Author.Needs.{needs}
 use borrow.Fn.Kinds.{In}
 use borrow.Fn.PlainCycle.{Measures, is, falls, and}
-use Rattle.cover_trace.proofs.Laws.Lists.{first-shorter, second-shorter, lists-side, room-before, room-after, lists-all}
+use Rattle.cover_trace.proofs.Laws.Lists.{lists-side, room-before, room-after, lists-all}
 use Rattle.cover_trace.proofs.list.Reads as list
 use Rattle.cover_trace.proofs.list.Kinds as list-kinds
 use Rattle.cover_trace.proofs.+list.Lts-list as list-lts
@@ -21,113 +22,53 @@ list-at t = and 3 list-kinds.ps (is 3 list-kinds.ps μ-list t) list.Pre
 abbrev list-below : ℕ → In 3 list-kinds.ps
 list-below t = and 3 list-kinds.ps (falls 3 list-kinds.ps _<_ μ-list t) list.Pre
 
-list-add-if1 : (t : ℕ) → list-lts.Need-add-if1 (
-  middle-reads.Asked,
-  middle-reads.Learnt,
-  lay-reads.Asked,
-  lay-reads.Learnt,
-  list-below t,
-  list.Post,
-) (list-at t) list.Post
-list-add-if1 t c = search needs
+-- the entry at the measure t, where the apex is found, where its triangle is laid, and where the first part is listed
+abbrev Start : ℕ → Type 0
+Start t = list-lts.Start (middle-reads.Asked, middle-reads.Learnt, lay-reads.Asked, lay-reads.Learnt, list-below t, list.Post) (list-at t) list.Post
 
-list-returns : (t : ℕ) → list-lts.Need-returns (
-  middle-reads.Asked,
-  middle-reads.Learnt,
-  lay-reads.Asked,
-  lay-reads.Learnt,
-  list-below t,
-  list.Post,
-) (list-at t) list.Post
-list-returns t c = let c₀ = c .before .before .before .before in lists-side _ (c₀ .args .ring .now) _ _ _ _ (c .if1 .taken)
+abbrev Found : ℕ → Type 0
+Found t = list-lts.After-middle (middle-reads.Asked, middle-reads.Learnt, lay-reads.Asked, lay-reads.Learnt, list-below t, list.Post) (list-at t) list.Post
 
-list-middle-requires : (t : ℕ) → list-lts.Need-middle-requires (
-  middle-reads.Asked,
-  middle-reads.Learnt,
-  lay-reads.Asked,
-  lay-reads.Learnt,
-  list-below t,
-  list.Post,
-) (list-at t) list.Post
-list-middle-requires t c κs = search needs
+abbrev Laid : ℕ → Type 0
+Laid t = list-lts.After-lay (middle-reads.Asked, middle-reads.Learnt, lay-reads.Asked, lay-reads.Learnt, list-below t, list.Post) (list-at t) list.Post
 
-list-lay-requires : (t : ℕ) → list-lts.Need-lay-requires (
-  middle-reads.Asked,
-  middle-reads.Learnt,
-  lay-reads.Asked,
-  lay-reads.Learnt,
-  list-below t,
-  list.Post,
-) (list-at t) list.Post
-list-lay-requires t c κs = search needs
+abbrev Listed : ℕ → Type 0
+Listed t = list-lts.After-list (middle-reads.Asked, middle-reads.Learnt, lay-reads.Asked, lay-reads.Learnt, list-below t, list.Post) (list-at t) list.Post
 
-list-add-list : (t : ℕ) → list-lts.Need-add-list (
-  middle-reads.Asked,
-  middle-reads.Learnt,
-  lay-reads.Asked,
-  lay-reads.Learnt,
-  list-below t,
-  list.Post,
-) (list-at t) list.Post
-list-add-list t c = search needs
+abbrev entry : (t : ℕ) → Found t → Start t
+entry t f = search
 
-list-list-requires : (t : ℕ) → list-lts.Need-list-requires (
-  middle-reads.Asked,
-  middle-reads.Learnt,
-  lay-reads.Asked,
-  lay-reads.Learnt,
-  list-below t,
-  list.Post,
-) (list-at t) list.Post
-list-list-requires t c κs = let m = c .before .before .before .before .before .middle .ensures in (first-shorter _ _ _ _ (c .before .before .before .before .before .before .before .before .before .before .pre .0) (m .0) (m .1), room-before _ _ _ _ _ _ (m .0) (m .1) (m .2) _ (c .before .before .before .before .before .before .before .before .before .before .pre .1) _ (c .before .before .before .lay .ensures))
+abbrev found : (t : ℕ) → Laid t → Found t
+found t l = search
 
-list-list-requires-2 : (t : ℕ) → list-lts.Need-list-requires-2 (
-  middle-reads.Asked,
-  middle-reads.Learnt,
-  lay-reads.Asked,
-  lay-reads.Learnt,
-  list-below t,
-  list.Post,
-) (list-at t) list.Post
-list-list-requires-2 t c κs = let m = c .before .before .before .before .before .before .before .before .before .middle .ensures in (second-shorter _ _ _ _ (c .before .before .before .before .before .before .before .before .before .before .before .before .before .before .pre .0) (m .0) (m .1), room-after _ _ _ _ _ _ (m .0) (m .1) (m .2) _ (c .before .before .before .before .before .before .before .before .before .before .before .before .before .before .pre .1) _ (c .before .before .before .before .before .before .before .lay .ensures) _ _ (c .before .before .before .list .kept .1 .1 .0) (c .before .before .before .list .ensures))
-
-list-same-length : (t : ℕ) → list-lts.Need-same-length (
-  middle-reads.Asked,
-  middle-reads.Learnt,
-  lay-reads.Asked,
-  lay-reads.Learnt,
-  list-below t,
-  list.Post,
-) (list-at t) list.Post
-list-same-length t c = search needs
-
-list-returns-2 : (t : ℕ) → list-lts.Need-returns-2 (
-  middle-reads.Asked,
-  middle-reads.Learnt,
-  lay-reads.Asked,
-  lay-reads.Learnt,
-  list-below t,
-  list.Post,
-) (list-at t) list.Post
-list-returns-2 t c = let m = c .before .before .before .before .before .before .before .before .before .before .before .before .middle .ensures in lists-all _ _ _ _ _ _ (m .0) (m .1) (m .2) _ (c .before .before .before .before .before .before .before .before .before .before .before .before .before .before .before .before .before .pre .1) _ (c .before .before .before .before .before .before .before .before .before .before .lay .ensures) _ _ (c .before .before .before .before .before .before .list .kept .1 .1 .0) (c .before .before .before .before .before .before .list .ensures) _ _ (c .before .before .list2 .ensures)
+abbrev laid : (t : ℕ) → Listed t → Laid t
+laid t l = search
 
 pub +list-spec : {M : Type 1} → statement M
-+list-spec = close μ-list λ t. list-lts.spec (
-  middle-reads.Asked,
-  middle-reads.Learnt,
-  lay-reads.Asked,
-  lay-reads.Learnt,
-  list-below t,
-  list.Post,
-)
-    (list-at t)
-    list.Post
-    (list-add-if1 t)
-    (list-returns t)
-    (list-middle-requires t)
-    (list-lay-requires t)
-    (list-add-list t)
-    (list-list-requires t)
-    (list-list-requires-2 t)
-    (list-same-length t)
-    (list-returns-2 t)
++list-spec =
+    close μ-list
+    (λ t.
+    list-lts.spec (middle-reads.Asked, middle-reads.Learnt, lay-reads.Asked, lay-reads.Learnt, list-below t, list.Post) (list-at t) list.Post
+    (λ c. search needs)
+    (λ c. let s : Start t = search in lists-side (s .args .ring .now) (c .if1 .taken))
+    (λ c κs. search needs)
+    (λ c κs. search needs)
+    (λ c. search needs)
+    (λ c κs.
+    let l : Laid t = search in
+    let f = found t l in
+    let p = entry t f .pre in
+    (omega (arith, p .0, f .middle .ensures .0, f .middle .ensures .1), room-before (p .1) (f .middle .ensures) (l .lay .ensures)))
+    (λ c κs.
+    let q : Listed t = search in
+    let l = laid t q in
+    let f = found t l in
+    let p = entry t f .pre in
+    (omega (arith, p .0, f .middle .ensures .0, f .middle .ensures .1), room-after (p .1) (f .middle .ensures) (l .lay .ensures) (search (q .list .kept)) (q .list .ensures)))
+    (λ c. search needs)
+    (λ c.
+    let o : list-lts.After-list2 (middle-reads.Asked, middle-reads.Learnt, lay-reads.Asked, lay-reads.Learnt, list-below t, list.Post) (list-at t) list.Post = search in
+    let q : Listed t = search in
+    let l = laid t q in
+    let f = found t l in
+    lists-all (entry t f .pre .1) (f .middle .ensures) (l .lay .ensures) (search (q .list .kept)) (q .list .ensures) (o .list2 .ensures)))

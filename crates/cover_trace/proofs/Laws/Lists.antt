@@ -23,7 +23,8 @@ use Rattle.cover_trace.specs.Workings.Lists.{ListRoom, ListsPatch}
 
 -- ---- the patch has the first apex
 
-module _ (tri : ℕ → ℕ → ℕ → ℕ) (barred : ℕ → ℕ → Bool) (i k w m : ℕ) (l : Least naturals tri barred i k w) (a : MadeAt naturals tri barred i k w m) (first : (j : ℕ) → j < m → MadeAt naturals tri barred i k w j → ⊥) where
+module _ {tri : ℕ → ℕ → ℕ → ℕ} {barred : ℕ → ℕ → Bool} {i k w m : ℕ} (l : Least naturals tri barred i k w) (a : MadeAt naturals tri barred i k w m)
+    (first : (j : ℕ) → j < m → MadeAt naturals tri barred i k w j → ⊥) where
   -- the patch's apex is no later than m, since a cover with the apex m is as light
   no-later : (j : ℕ) (y z : Cover) → Patch naturals tri barred i k (apex j y z) → m < j → ⊥
   no-later j y z p h = go (p .soonest other allowed as-light)
@@ -45,14 +46,17 @@ module _ (tri : ℕ → ℕ → ℕ → ℕ) (barred : ℕ → ℕ → Bool) (i 
       go (inl g) = omega arith
       go (inr g) = let e : j ≡ m = g .0 in omega arith
 
-  pub patch-splits : (c : Cover) → suc i < k → Patch naturals tri barred i k c
+  patch-splits : (c : Cover) → suc i < k → Patch naturals tri barred i k c
       → (y z : Cover) × (c ≡ apex m y z) × Patch naturals tri barred i m y × Patch naturals tri barred m k z
   patch-splits empty h p = let e : k ≡ suc i = p .among .covers in absurd (omega arith)
-  patch-splits (apex j y z) h p = (y, z, ap (λ (x : ℕ). apex x y z) same, subst (λ (x : ℕ). Patch naturals tri barred i x y) same (patch-before naturals naturals-lawful tri barred i k j y z p), subst (λ (x : ℕ). Patch naturals tri barred x k z) same (patch-after naturals naturals-lawful tri barred i k j y z p))
+  patch-splits (apex j y z) h p = (
+    y,
+    z,
+    ap (λ (x : ℕ). apex x y z) same,
+    subst (λ (x : ℕ). Patch naturals tri barred i x y) same (patch-before naturals naturals-lawful tri barred i k j y z p),
+    subst (λ (x : ℕ). Patch naturals tri barred x k z) same (patch-after naturals naturals-lawful tri barred i k j y z p),
+  )
     where
-      not-later : m < j → ⊥
-      not-later = no-later j y z p
-
       not-sooner : j < m → ⊥
       not-sooner g = first j g (made-at naturals naturals-lawful tri barred i k w l j y z (p .among) (patch-weighs naturals naturals-lawful tri barred i k w (apex j y z) l p))
 
@@ -61,111 +65,79 @@ module _ (tri : ℕ → ℕ → ℕ → ℕ) (barred : ℕ → ℕ → Bool) (i 
         where
           go : Dec (j < m) → Dec (m < j) → j ≡ m
           go (yes g) q = absurd (not-sooner g)
-          go (no g) (yes q) = absurd (not-later q)
+          go (no g) (yes q) = absurd (no-later j y z p q)
           go (no g) (no q) = omega arith
 
 -- ---- the listing
 
--- both parts are shorter
-module _ (t i k m : ℕ) (e : k - i ≡ t) (lo : i < m) (hi : m < k) where
-  pub first-shorter : m - i < t
-  first-shorter = omega arith
+-- a side has no triangle
+pub lists-side : {table : List Float} (ring : List ℕ) {buffer : List ℕ} {p i k : ℕ} → i + 1 ≡ k → ListsPatch table ring buffer p i k p buffer
+lists-side ring {buffer} {p} {i} {k} e = (omega arith, λ at barred n w q c h. go c (h .among .covers))
+  where
+    go : (c : Cover) → Covers i k c → buffer ≡ laid p (cornersOf (vertexOf ring) (triangles i k c)) buffer
+    go empty v = sym (laid-none p buffer)
+    go (apex m y z) v = let lo : i < m = v .0 in let hi : m < k = v .1 in absurd (omega arith)
 
-  pub second-shorter : k - m < t
-  second-shorter = omega arith
+-- both parts of a stretch of the loop are such
+module _ {at : ℕ → Point} {barred : ℕ → ℕ → Bool} {n : ℕ} {table : List Float} {i k w m : ℕ} (q : Weighed at barred n table i k w) (a : MadeAt naturals (triOf at) barred i k w m) where
+  weighed-before : Weighed at barred n table i m (a .left)
+  weighed-before = record { loop = q .loop; filled = q .filled; low = a .low; high = omega (arith, a .high, q .high); least = a .left-least }
 
-module _ (table : List Float) (ring : List ℕ) (p i k : ℕ) where
-  -- a side has no triangle
-  pub lists-side : (buffer : List ℕ) → i + 1 ≡ k → ListsPatch table ring buffer p i k p buffer
-  lists-side buffer e = (omega arith, λ at barred n w q c h. go c (h .among .covers))
-    where
-      go : (c : Cover) → Covers i k c → buffer ≡ laid p (cornersOf (vertexOf ring) (triangles i k c)) buffer
-      go empty v = sym (laid-none p buffer)
-      go (apex m y z) v = let lo : i < m = v .0 in let hi : m < k = v .1 in absurd (omega arith)
+  weighed-after : Weighed at barred n table m k (a .right)
+  weighed-after = record { loop = q .loop; filled = q .filled; low = a .high; high = q .high; least = a .right-least }
 
-  module _ (m : ℕ) (lo : i < m) (hi : m < k) (f : Middle table i k m) (buffer : List ℕ) (r : ListRoom table ring buffer p i k) where
-    q : Weighed (r .weighable .at) (r .weighable .barred) (r .weighable .n) table i k (r .weighable .w)
-    q = r .weighable .weighed
+module _ {table : List Float} {ring buffer : List ℕ} {p i k m : ℕ} (r : ListRoom table ring buffer p i k) (mid : (i < m) × (m < k) × Middle table i k m) where
+  a : MadeAt naturals (triOf (r .weighable .at)) (r .weighable .barred) i k (r .weighable .w) m
+  a = let q = r .weighable in mid .2 (q .at) (q .barred) (q .n) (q .w) (q .weighed) .made
 
-    a : MadeAt naturals (triOf (r .weighable .at)) (r .weighable .barred) i k (r .weighable .w) m
-    a = f (r .weighable .at) (r .weighable .barred) (r .weighable .n) (r .weighable .w) q .made
+  inside : (i < m) × (m < k) × (k < length ring) × (p + 3 * (k - i - 1) ≤ length buffer)
+  inside = (mid .0, mid .1, r .in-ring, r .room)
 
-    fits : p + 3 * (k - i - 1) ≤ length buffer
-    fits = r .room
+  -- the triangle that is laid first
+  abbrev one : List ℕ
+  one = vertexOf ring i ∷ vertexOf ring k ∷ vertexOf ring m ∷ []
 
-    pub lay-room : p + 3 ≤ length buffer
-    lay-room = omega (arith, fits)
+  module _ {buffer₁ : List ℕ} (e₁ : buffer₁ ≡ laid p one buffer) where
+    same₁ : length buffer₁ ≡ length buffer
+    same₁ = ap length e₁ ∙ laid-length p buffer one (omega (arith, inside))
 
-    abbrev one : List ℕ
-    one = vertexOf ring i ∷ vertexOf ring k ∷ vertexOf ring m ∷ []
-
-    in-m : m < r .weighable .n
-    in-m = let g : k < r .weighable .n = q .high in omega arith
-
-    pub room-before : (buffer₁ : List ℕ) → buffer₁ ≡ laid p one buffer → ListRoom table ring buffer₁ (p + 3) i m
-    room-before buffer₁ e = record {
-      weighable = record {
-        at = r .weighable .at;
-        barred = r .weighable .barred;
-        n = r .weighable .n;
-        w = a .left;
-        weighed = record { loop = q .loop; filled = q .filled; low = lo; high = in-m; least = a .left-least };
-      };
-      in-ring = let g : k < length ring = r .in-ring in omega arith;
-      room = subst (λ (x : ℕ). p + 3 + 3 * (m - i - 1) ≤ x) (sym (ap length e ∙ laid-length p buffer one lay-room)) (omega (arith, fits));
+    pub room-before : ListRoom table ring buffer₁ (p + 3) i m
+    room-before = record {
+      weighable = record { at = r .weighable .at; barred = r .weighable .barred; n = r .weighable .n; w = a .left; weighed = weighed-before (r .weighable .weighed) a };
+      in-ring = omega (arith, inside);
+      room = omega (arith, inside, same₁);
     }
 
-    module _ (buffer₁ : List ℕ) (e₁ : buffer₁ ≡ laid p one buffer) (o : ℕ) (buffer₂ : List ℕ) (same : length buffer₂ ≡ length buffer₁) (b : ListsPatch table ring buffer₁ (p + 3) i m o buffer₂) where
+    module _ {o : ℕ} {buffer₂ : List ℕ} (same : length buffer₂ ≡ length buffer₁) (b : ListsPatch table ring buffer₁ (p + 3) i m o buffer₂) where
       pub room-after : ListRoom table ring buffer₂ o m k
-      room-after =
-          let g : o ≡ p + 3 + 3 * (m - i - 1) = b .0 in
-          record {
-            weighable = record {
-              at = r .weighable .at;
-              barred = r .weighable .barred;
-              n = r .weighable .n;
-              w = a .right;
-              weighed = record { loop = q .loop; filled = q .filled; low = hi; high = q .high; least = a .right-least };
-            };
-            in-ring = r .in-ring;
-            room = subst (λ (x : ℕ). o + 3 * (k - m - 1) ≤ x) (sym (same ∙ ap length e₁ ∙ laid-length p buffer one lay-room)) (omega (arith, fits));
-          }
+      room-after = record {
+        weighable = record { at = r .weighable .at; barred = r .weighable .barred; n = r .weighable .n; w = a .right; weighed = weighed-after (r .weighable .weighed) a };
+        in-ring = r .in-ring;
+        room = omega (arith, inside, same₁, same, b .0);
+      }
 
-      module _ (o′ : ℕ) (buffer₃ : List ℕ) (d : ListsPatch table ring buffer₂ o m k o′ buffer₃) where
-        pub lists-all : ListsPatch table ring buffer p i k o′ buffer₃
-        lists-all = (ends, all)
-          where
-            ends : o′ ≡ p + 3 * (k - i - 1)
-            ends =
-                let g : o ≡ p + 3 + 3 * (m - i - 1) = b .0 in
-                let h : o′ ≡ o + 3 * (k - m - 1) = d .0 in
-                omega arith
+      pub lists-all : {o′ : ℕ} {buffer₃ : List ℕ} → ListsPatch table ring buffer₂ o m k o′ buffer₃ → ListsPatch table ring buffer p i k o′ buffer₃
+      lists-all {o′} {buffer₃} d = (omega (arith, inside, b .0, d .0), all)
+        where
+          all : (at : ℕ → Point) (barred : ℕ → ℕ → Bool) (n w : ℕ) → Weighed at barred n table i k w → (c : Cover) → Patch naturals (triOf at) barred i k c
+              → buffer₃ ≡ laid p (cornersOf (vertexOf ring) (triangles i k c)) buffer
+          all at barred n w x c h = go (patch-splits (x .least) (first .made) (first .none-before) c (omega (arith, inside)) h)
+            where
+              first : First at barred i k w m
+              first = mid .2 at barred n w x
 
-            all : (at : ℕ → Point) (barred : ℕ → ℕ → Bool) (n w : ℕ) → Weighed at barred n table i k w → (c : Cover) → Patch naturals (triOf at) barred i k c
-                → buffer₃ ≡ laid p (cornersOf (vertexOf ring) (triangles i k c)) buffer
-            all at barred n w x c h = go (patch-splits (triOf at) barred i k w m (x .least) (first .made) (first .none-before) c (omega arith) h)
-              where
-                first : First at barred i k w m
-                first = f at barred n w x
-
-                go : (y z : Cover) × (c ≡ apex m y z) × Patch naturals (triOf at) barred i m y × Patch naturals (triOf at) barred m k z
-                    → buffer₃ ≡ laid p (cornersOf (vertexOf ring) (triangles i k c)) buffer
-                go s =
-                    let before : List ℕ = cornersOf (vertexOf ring) (triangles i m (s .0)) in
-                    let after : List ℕ = cornersOf (vertexOf ring) (triangles m k (s .1)) in
-                    let in-m′ : m < n = lt-m in
-                    let e₂ : buffer₂ ≡ laid (p + 3) before buffer₁ =
-                    b .1 at barred n (first .made .left) (record { loop = x .loop; filled = x .filled; low = lo; high = lt-m; least = first .made .left-least }) (s .0) (s .3) in
-                    let e₃ : buffer₃ ≡ laid o after buffer₂ =
-                    d .1 at barred n (first .made .right) (record { loop = x .loop; filled = x .filled; low = hi; high = x .high; least = first .made .right-least }) (s .1) (s .4) in
-                    let n₂ : length before ≡ 3 * (m - i - 1) = cover-corners (vertexOf ring) i m (s .0) (s .3 .among .covers) in
-                    let g : o ≡ p + 3 + 3 * (m - i - 1) = b .0 in
-                    let f₂ : buffer₂ ≡ laid p (one ++ before) buffer = e₂ ∙ ap (laid (p + 3) before) e₁ ∙ laid-then p (p + 3) one before buffer refl lay-room in
-                    let f₃ : buffer₃ ≡ laid p ((one ++ before) ++ after) buffer =
-                    e₃ ∙ ap (laid o after) f₂ ∙ laid-then p o (one ++ before) after buffer (omega arith) (omega (arith, fits)) in
-                    f₃
-                    ∙ ap (λ (u : List ℕ). laid p (one ++ u) buffer) (sym (corners-append (vertexOf ring) (triangles i m (s .0)) (triangles m k (s .1))))
-                    ∙ ap (λ (u : Cover). laid p (cornersOf (vertexOf ring) (triangles i k u)) buffer) (sym (s .2))
-                  where
-                    lt-m : m < n
-                    lt-m = let u : k < n = x .high in omega arith
+              go : (y z : Cover) × (c ≡ apex m y z) × Patch naturals (triOf at) barred i m y × Patch naturals (triOf at) barred m k z
+                  → buffer₃ ≡ laid p (cornersOf (vertexOf ring) (triangles i k c)) buffer
+              go s =
+                  let before : List ℕ = cornersOf (vertexOf ring) (triangles i m (s .0)) in
+                  let after : List ℕ = cornersOf (vertexOf ring) (triangles m k (s .1)) in
+                  let e₂ : buffer₂ ≡ laid (p + 3) before buffer₁ = b .1 at barred n (first .made .left) (weighed-before x (first .made)) (s .0) (s .3) in
+                  let e₃ : buffer₃ ≡ laid o after buffer₂ = d .1 at barred n (first .made .right) (weighed-after x (first .made)) (s .1) (s .4) in
+                  let n₂ : length before ≡ 3 * (m - i - 1) = cover-corners (vertexOf ring) i m (s .0) (s .3 .among .covers) in
+                  let g : o ≡ p + 3 + 3 * (m - i - 1) = b .0 in
+                  let w = inside in
+                  e₃
+                  ∙ ap (laid o after) (e₂ ∙ ap (laid (p + 3) before) e₁ ∙ laid-then p (p + 3) one before buffer refl (omega arith))
+                  ∙ laid-then p o (one ++ before) after buffer (omega arith) (omega arith)
+                  ∙ ap (λ (u : List ℕ). laid p (one ++ u) buffer) (sym (corners-append (vertexOf ring) (triangles i m (s .0)) (triangles m k (s .1))))
+                  ∙ ap (λ (u : Cover). laid p (cornersOf (vertexOf ring) (triangles i k u)) buffer) (sym (s .2))

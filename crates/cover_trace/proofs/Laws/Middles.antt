@@ -19,7 +19,7 @@ pub record Seeking (table : List Float) (i k m : ℕ) : Type 0 where
   pub high : m ≤ k
   pub none : (at : ℕ → Point) (barred : ℕ → ℕ → Bool) (n w : ℕ) → Weighed at barred n table i k w → (j : ℕ) → j < m → MadeAt naturals (triOf at) barred i k w j → ⊥
 
-module _ (table : List Float) (i k : ℕ) where
+module _ {table : List Float} {i k : ℕ} where
   pub seeking-begins : suc i < k → Seeking table i k (i + 1)
   seeking-begins h = record {
     low = omega arith;
@@ -27,8 +27,8 @@ module _ (table : List Float) (i k : ℕ) where
     none = λ at barred n w p j g a. let l : i < j = a .low in omega arith;
   }
 
-  pub seeking-more : (m : ℕ) (r : Bool) → m < k → Seeking table i k m → IsWay table i k m r → r ≡ false → Seeking table i k (m + 1)
-  seeking-more m r h s f e =
+  pub seeking-more : {m : ℕ} {r : Bool} → m < k → Seeking table i k m → IsWay table i k m r → r ≡ false → Seeking table i k (m + 1)
+  seeking-more {m} h s f e =
       let l : i < m = s .low in
       record {
         low = omega arith;
@@ -36,12 +36,12 @@ module _ (table : List Float) (i k : ℕ) where
         none = λ at barred n w p. below-more (λ j. MadeAt naturals (triOf at) barred i k w j → ⊥) m (s .none at barred n w p) (f at barred n w p .1 e);
       }
 
-  pub sought : (m : ℕ) (r : Bool) → Seeking table i k m → IsWay table i k m r → r ≡ true → Middle table i k m
-  sought m r s f e at barred n w p = record { made = f at barred n w p .0 e; none-before = s .none at barred n w p }
+  pub sought : {m : ℕ} {r : Bool} → Seeking table i k m → IsWay table i k m r → r ≡ true → Middle table i k m
+  sought s f e at barred n w p = record { made = f at barred n w p .0 e; none-before = s .none at barred n w p }
 
   -- the search never ends without one
-  pub always-found : (m : ℕ) → suc i < k → Weighable table i k → k ≤ m → Seeking table i k m → ⊥
-  always-found m h q g s =
+  pub always-found : {m : ℕ} → suc i < k → Weighable table i k → k ≤ m → Seeking table i k m → ⊥
+  always-found h q g s =
       let p = q .weighed in
       let a = some-apex naturals naturals-lawful (triOf (q .at)) (q .barred) i k (q .w) h (p .least) in
       let b : a .0 < k = a .1 .high in

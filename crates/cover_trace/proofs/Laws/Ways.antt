@@ -6,7 +6,7 @@ use Prim.Native.Nat.{ℕ, _+_, _*_, _^_, _≤_, _<_}
 use native.Mathlib.Nat.{le-of-lt, lt-of-lt-of-le}
 use native.Mathlib.Omega.{arith}
 use lib.Dec.{leb, lit<}
-use lib.IntN.{ℤ, natAbs, _+ℤ_, _-ℤ_}
+use lib.IntN.{ℤ, _+ℤ_, _-ℤ_}
 use lib.Ieee.{Float, binary64, add, lt, le}
 use borrow.Author.Tests.{ltb-true, leb-true, leb-false}
 use Rattle.base_limits.specs.Limits.{longest}
@@ -26,26 +26,26 @@ use Rattle.cover_table.specs.Workings.Told.{far, some, Way}
 use Rattle.cover_table.specs.Workings.Table.{Multiples, Tells}
 use Rattle.cover_table.proofs.Laws.Told.{told-unique, told-most, made-by, not-made-by}
 use Rattle.cover_table.proofs.Laws.Products.{weight-by-products}
-use Rattle.cover_table.proofs.Laws.Sweeps.{far-is, light, gap, product-most}
+use Rattle.cover_table.proofs.Laws.Sweeps.{far-is, Gap, gap, Most, light, product-most}
 use Rattle.cover_trace.specs.Workings.Ways.{gapX, gapY, gapZ, triangleOf, TriangleRoom, Weighed}
 
 -- the stretches' places within a part
 pub place-in : (i k : ℕ) → i < k → k < longest → row k + i < pairs
 place-in i k h l = let a : row k + k ≤ pairs = row-inside k l in omega arith
 
-module _ (at : ℕ → Point) (barred : ℕ → ℕ → Bool) (n : ℕ) (table : List Float) (i k w : ℕ) (p : Weighed at barred n table i k w) where
+module _ {at : ℕ → Point} {barred : ℕ → ℕ → Bool} {n : ℕ} {table : List Float} {i k w : ℕ} (p : Weighed at barred n table i k w) where
   pub short : k < longest
   short = lt-of-lt-of-le (p .high) (p .loop .few)
 
-  module _ (m : ℕ) (lo : i < m) (hi : m < k) where
+  module _ {m : ℕ} (lo : i < m) (hi : m < k) where
     in-k : k < n
     in-k = p .high
 
     in-m : m < n
-    in-m = omega arith
+    in-m = omega (arith, in-k)
 
     in-i : i < n
-    in-i = omega arith
+    in-i = omega (arith, in-m)
 
     im : Multiples at barred table i m
     im = p .filled .products i m lo in-m
@@ -56,51 +56,46 @@ module _ (at : ℕ → Point) (barred : ℕ → ℕ → Bool) (n : ℕ) (table :
     mk : Multiples at barred table m k
     mk = p .filled .products m k hi in-k
 
-    abbrev Most : ℕ → ℕ → Type 0
-    Most a b = (natAbs (pairX (at a) (at b)) ≤ most) × (natAbs (pairY (at a) (at b)) ≤ most) × (natAbs (pairZ (at a) (at b)) ≤ most)
+    most-im : Most (at i) (at m)
+    most-im = product-most (p .loop) i m in-i in-m
 
-    most-im : Most i m
-    most-im = product-most at barred n (p .loop) i m in-i in-m
+    most-ik : Most (at i) (at k)
+    most-ik = product-most (p .loop) i k in-i in-k
 
-    most-ik : Most i k
-    most-ik = product-most at barred n (p .loop) i k in-i in-k
-
-    most-mk : Most m k
-    most-mk = product-most at barred n (p .loop) m k in-m in-k
+    most-mk : Most (at m) (at k)
+    most-mk = product-most (p .loop) m k in-m in-k
 
     -- the table's places, added in another order
-    at-place : (part r j : ℕ) (z : ℤ) → Whole (cell table (part + r + j)) z → Whole (cell table (part + (r + j))) z
-    at-place part r j z h = subst (λ (q : ℕ). Whole (cell table q) z) (omega arith) h
+    at-place : (part r j : ℕ) {z : ℤ} → Whole (cell table (part + r + j)) z → Whole (cell table (part + (r + j))) z
+    at-place part r j {z} h = subst (λ (q : ℕ). Whole (cell table q) z) (omega arith) h
 
-    x-gap : Whole (gapX table (row m + i) (row k + i) (row k + m)) (pairX (at i) (at m) -ℤ pairX (at i) (at k) +ℤ pairX (at m) (at k)) × (natAbs (pairX (at i) (at m) -ℤ pairX (at i) (at k) +ℤ pairX (at m) (at k)) ≤ 3 * most)
-    x-gap = gap at barred _ _ _ _ _ _ (im .x) (ik .x) (mk .x) (most-im .0) (most-ik .0) (most-mk .0)
+    x-gap : Gap (gapX table (row m + i) (row k + i) (row k + m)) (pairX (at i) (at m) -ℤ pairX (at i) (at k) +ℤ pairX (at m) (at k))
+    x-gap = gap (im .x) (ik .x) (mk .x) (most-im .0) (most-ik .0) (most-mk .0)
 
-    y-gap : Whole (gapY table (row m + i) (row k + i) (row k + m)) (pairY (at i) (at m) -ℤ pairY (at i) (at k) +ℤ pairY (at m) (at k)) × (natAbs (pairY (at i) (at m) -ℤ pairY (at i) (at k) +ℤ pairY (at m) (at k)) ≤ 3 * most)
-    y-gap = gap at barred _ _ _ _ _ _ (at-place pairs (row m) i _ (im .y)) (at-place pairs (row k) i _ (ik .y)) (at-place pairs (row k) m _ (mk .y)) (most-im .1) (most-ik .1) (most-mk .1)
+    y-gap : Gap (gapY table (row m + i) (row k + i) (row k + m)) (pairY (at i) (at m) -ℤ pairY (at i) (at k) +ℤ pairY (at m) (at k))
+    y-gap = gap (at-place pairs (row m) i (im .y)) (at-place pairs (row k) i (ik .y)) (at-place pairs (row k) m (mk .y)) (most-im .1) (most-ik .1) (most-mk .1)
 
-    z-gap : Whole (gapZ table (row m + i) (row k + i) (row k + m)) (pairZ (at i) (at m) -ℤ pairZ (at i) (at k) +ℤ pairZ (at m) (at k)) × (natAbs (pairZ (at i) (at m) -ℤ pairZ (at i) (at k) +ℤ pairZ (at m) (at k)) ≤ 3 * most)
-    z-gap = gap at barred _ _ _ _ _ _ (at-place (2 * pairs) (row m) i _ (im .z)) (at-place (2 * pairs) (row k) i _ (ik .z)) (at-place (2 * pairs) (row k) m _ (mk .z)) (most-im .2) (most-ik .2) (most-mk .2)
+    z-gap : Gap (gapZ table (row m + i) (row k + i) (row k + m)) (pairZ (at i) (at m) -ℤ pairZ (at i) (at k) +ℤ pairZ (at m) (at k))
+    z-gap = gap (at-place (2 * pairs) (row m) i (im .z)) (at-place (2 * pairs) (row k) i (ik .z)) (at-place (2 * pairs) (row k) m (mk .z)) (most-im .2) (most-ik .2) (most-mk .2)
 
     pub triangle-room : TriangleRoom table (row m + i) (row k + i) (row k + m)
-    triangle-room =
-        let s : k < longest = short in
-        record {
-          long = p .filled .long;
-          im-in = place-in i m lo (omega arith);
-          ik-in = place-in i k (p .low) short;
-          mk-in = place-in m k hi short;
-          x = _;
-          y = _;
-          z = _;
-          x-whole = x-gap .0;
-          y-whole = y-gap .0;
-          z-whole = z-gap .0;
-        }
+    triangle-room = record {
+      long = p .filled .long;
+      im-in = place-in i m lo (omega (arith, short));
+      ik-in = place-in i k (p .low) short;
+      mk-in = place-in m k hi short;
+      x = _;
+      y = _;
+      z = _;
+      x-whole = x-gap .0;
+      y-whole = y-gap .0;
+      z-whole = z-gap .0;
+    }
 
     small : 3 * most ≤ 2 ^ 40
     small = le-of-lt (lit< tt)
 
-    pub triangle-held : Natural (triangleOf table (row m + i) (row k + i) (row k + m)) (weightOf (at i) (at k) (at m))
+    triangle-held : Natural (triangleOf table (row m + i) (row k + i) (row k + m)) (weightOf (at i) (at k) (at m))
     unfolding triangleOf
     triangle-held =
         subst (Natural _) (regrouped _ _ _ ∙ sym (weight-by-products (at i) (at k) (at m)))
@@ -128,7 +123,7 @@ module _ (at : ℕ → Point) (barred : ℕ → ℕ → Bool) (n : ℕ) (table :
     whole = told-at i k (p .filled .weights i k (p .low) in-k)
 
     whole-is : whole .weighs ≡ w
-    whole-is = told-unique (triOf at) barred i k (whole .weighs) w (whole .told) (some (p .least))
+    whole-is = told-unique (whole .told) (some (p .least))
 
     whole-held : Natural (cell table (3 * pairs + (row k + i))) w
     whole-held = subst (Natural _) whole-is (whole .held)
@@ -137,10 +132,10 @@ module _ (at : ℕ → Point) (barred : ℕ → ℕ → Bool) (n : ℕ) (table :
     way = record { low = lo; high = hi; left = before .weighs; right = after .weighs; left-told = before .told; right-told = after .told; makes = refl }
 
     before-most : before .weighs ≤ far
-    before-most = told-most (triOf at) barred n (light at barred n (p .loop)) i m (before .weighs) in-m (before .told)
+    before-most = told-most (light (p .loop)) in-m (before .told)
 
     after-most : after .weighs ≤ far
-    after-most = told-most (triOf at) barred n (light at barred n (p .loop)) m k (after .weighs) in-k (after .told)
+    after-most = told-most (light (p .loop)) in-k (after .told)
 
     parts-held : Natural (add binary64 (cell table (3 * pairs + (row m + i))) (cell table (3 * pairs + (row k + m)))) (before .weighs + after .weighs)
     parts-held = let f : far ≡ 2 ^ 50 = far-is in natural-add _ _ _ _ (before .held) (after .held) (omega (arith, before-most, after-most))
@@ -150,9 +145,9 @@ module _ (at : ℕ → Point) (barred : ℕ → ℕ → Bool) (n : ℕ) (table :
         → MadeAt naturals (triOf at) barred i k w m → ⊥
     parts-heavy e =
         let l : w < before .weighs + after .weighs = ltb-true w (before .weighs + after .weighs) (sym (natural-less _ _ _ _ whole-held parts-held) ∙ e) in
-        not-made-by (triOf at) barred n (light at barred n (p .loop)) i k m w _ way (omega arith)
+        not-made-by way (omega arith)
 
-    module _ (r : Bool) (x : Float) (f : x ≡ triangleOf table (row m + i) (row k + i) (row k + m))
+    module _ {r : Bool} {x : Float} (f : x ≡ triangleOf table (row m + i) (row k + i) (row k + m))
         (e : r ≡ le (add binary64 (add binary64 (cell table (3 * pairs + (row m + i))) (cell table (3 * pairs + (row k + m)))) x) (cell table (3 * pairs + (row k + i)))) where
       all-held : Natural (add binary64 (add binary64 (cell table (3 * pairs + (row m + i))) (cell table (3 * pairs + (row k + m)))) x) (before .weighs + after .weighs + weightOf (at i) (at k) (at m))
       all-held =
@@ -166,9 +161,9 @@ module _ (at : ℕ → Point) (barred : ℕ → ℕ → Bool) (n : ℕ) (table :
       pub way-is : r ≡ true → MadeAt naturals (triOf at) barred i k w m
       way-is t =
           let l : before .weighs + after .weighs + weightOf (at i) (at k) (at m) ≤ w = leb-true _ _ (sym compared ∙ t) in
-          made-by (triOf at) barred n (light at barred n (p .loop)) i k m w _ (p .high) (p .least) way (omega arith)
+          made-by (light (p .loop)) (p .high) (p .least) way (omega arith)
 
       pub way-is-not : r ≡ false → MadeAt naturals (triOf at) barred i k w m → ⊥
       way-is-not t =
           let l : w < before .weighs + after .weighs + weightOf (at i) (at k) (at m) = leb-false _ _ (sym compared ∙ t) in
-          not-made-by (triOf at) barred n (light at barred n (p .loop)) i k m w _ way (omega arith)
+          not-made-by way (omega arith)

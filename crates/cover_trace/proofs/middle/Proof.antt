@@ -11,11 +11,8 @@ Inv-loop table i k m₀ m = Seeking table i k m
 abbrev μ-loop : tie.MeasureT-loop
 μ-loop table i k m₀ m = k - m
 
-abbrev to-at-loop : tie.After-is-way Inv-loop μ-loop → tie.At-loop Inv-loop μ-loop
-to-at-loop p = search
-
-abbrev to-turn : tie.After-is-way Inv-loop μ-loop → tie.In-loop Inv-loop μ-loop
-to-turn p = search
+abbrev turn : tie.After-is-way Inv-loop μ-loop → tie.In-loop Inv-loop μ-loop
+turn w = search
 
 pub middle-spec : {M : Type 1} → statement M
 middle-spec =
@@ -23,14 +20,14 @@ middle-spec =
     (tie.spec Inv-loop μ-loop
     (λ c. search needs)
     (λ c. search seeking-begins)
-    (λ c κs. let start : tie.Start Inv-loop μ-loop = search in (start .pre .0, c .before .loop .inv .low, c .loop-test .taken))
+    (λ c κs. let s : tie.Start Inv-loop μ-loop = search in (s .pre .0, c .before .loop .inv .low, c .loop-test .taken))
     (λ c.
-    let after-is-way : tie.After-is-way Inv-loop μ-loop = search in
-    let at-loop = to-at-loop after-is-way in
-    (at-loop .loop .inv .low, (to-turn after-is-way) .loop-test .taken, sought _ _ _ _ _ (at-loop .loop .inv) (c .before .is-way .ensures) (c .if1 .taken)))
+    let w : tie.After-is-way Inv-loop μ-loop = search in
+    let g = turn w .before .loop .inv in
+    (g .low, turn w .loop-test .taken, sought g (w .is-way .ensures) (c .if1 .taken)))
     (λ c. search needs)
     (λ c. search needs)
     (λ c. search seeking-more)
     (λ c.
-    let start : tie.Start Inv-loop μ-loop = search in
-    absurd (always-found _ _ _ _ (start .pre .1) (start .pre .0) (c .loop-test .left) (c .before .loop .inv))))
+    let s : tie.Start Inv-loop μ-loop = search in
+    absurd (always-found (s .pre .1) (s .pre .0) (c .loop-test .left) (c .before .loop .inv))))

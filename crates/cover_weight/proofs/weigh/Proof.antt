@@ -4,14 +4,8 @@ use Rattle.cover_weight.proofs.Laws.Weighed.{both-short, weight-is}
 use Rattle.cover_weight.proofs.weigh.Statement.{statement}
 use Rattle.cover_weight.proofs.weigh.Tie as tie
 
-abbrev to-start : tie.After-minus → tie.Start
-to-start p = search
-
-abbrev to-after-minus : tie.After-minus2 → tie.After-minus
-to-after-minus p = search
-
-abbrev to-start-2 : tie.After-minus2 → tie.Start
-to-start-2 p = to-start (to-after-minus p)
+abbrev entry : tie.After-minus → tie.Start
+entry m = search
 
 pub weigh-spec : {M : Type 1} → statement M
 weigh-spec =
@@ -19,5 +13,5 @@ weigh-spec =
     (tie.spec
     (λ c κs. search needs)
     (λ c κs. search needs)
-    (λ c κs. both-short _ _ _ (c .before .minus .ensures) (c .minus2 .ensures) (to-start-2 c .pre))
+    (λ c κs. let m : tie.After-minus = search in both-short _ _ _ (m .minus .ensures) (c .minus2 .ensures) (entry m .pre))
     (λ c. search weight-is))

@@ -36,7 +36,10 @@ absorbed true l q f = refl
 absorbed false true q f = refl
 absorbed false false q f = sym (not-so q (λ e. true≢false (sym (f e))))
 
-pub three-tells : (input laid ring : List ℕ) (e : ℕ) (heads links ends : List ℕ) → length ring ≡ 3 → length laid % 3 ≡ 0 → ((j : ℕ) → j + 1 < length ring → between input (getD ring j 0) (getD ring (j + 1) 0) ≡ true) → between input (getD ring 2 0) (getD ring 0 0) ≡ true → Tells input laid e heads links ends → Tells input (laid ++ patchOf ring (apex 1 empty empty)) e heads links ends
+pub three-tells : (input laid ring : List ℕ) (e : ℕ) (heads links ends : List ℕ) → length ring ≡ 3
+    → length laid % 3 ≡ 0 → ((j : ℕ) → j + 1 < length ring → between input (getD ring j 0) (getD ring (j + 1) 0) ≡ true)
+    → between input (getD ring 2 0) (getD ring 0 0) ≡ true → Tells input laid e heads links ends
+    → Tells input (laid ++ patchOf ring (apex 1 empty empty)) e heads links ends
 three-tells input laid ring e heads links ends n w sides last t =
     record {
       edges = t .edges;

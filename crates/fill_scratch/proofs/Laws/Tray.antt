@@ -9,7 +9,7 @@ use Rattle.base_limits.specs.Limits as limits
 use Rattle.cover_bars.specs.Workings.Chains.{Tells, InputRoom}
 use Rattle.cover_column.specs.Workings.Columns.{Table}
 use Rattle.fill_scratch.specs.Workings.Rings.{Input}
-use Rattle.fill_scratch.specs.Workings.Tray.{Tray, TrayRoom}
+use Rattle.fill_scratch.specs.Workings.Tray.{Tray, tray, TrayReady, TrayRoom}
 
 -- an array of zeros
 abbrev pub noughts : ℕ → List ℕ
@@ -39,7 +39,7 @@ input-room input i =
     }
 
 tray-begins : (input heads links ends : List ℕ) (table : List Float) → Table table → Tells input [] (length input) heads links ends
-    → Tray input [] (length input) heads links ends (noughts limits.points) 1 (noughts limits.longest) table
+    → TrayReady input [] (length input) 1 (tray heads links ends (noughts limits.points) (noughts limits.longest) table)
 tray-begins input heads links ends table long t = record {
   tells = t;
   whole = refl;
@@ -49,55 +49,52 @@ tray-begins input heads links ends table long t = record {
   table-long = long;
 }
 
--- behind the diagonals of r ring vertices, which are no more than these
-ring-room : (input ring links ends : List ℕ) (r e : ℕ) → Input input → 3 ≤ length ring → r + length ring ≤ limits.corners → e ≤ length input + r
-    → length links ≡ edgesMost → length ends ≡ edgesMost → TrayRoom ring links ends (r + 1) e
-ring-room input ring links ends r e i three few edges ll le =
-    let a : length input ≤ limits.corners = i .few in
-    record { links-room = omega arith; ends-room = omega arith; few-edges = omega arith; few-stamps = omega arith }
-
 -- the tray stands ready behind r ring vertices: the chains are as long as they were, and hold no more diagonals than vertices were read
-pub record Standing (input laid : List ℕ) (r e : ℕ) (heads links ends stamps rows : List ℕ) (table : List Float) : Type 0 where
-  pub links-long : length links ≡ edgesMost
-  pub ends-long : length ends ≡ edgesMost
-  pub tray : Tray input laid e heads links ends stamps (r + 1) rows table
+pub record Standing (input laid : List ℕ) (r e : ℕ) (t : Tray) : Type 0 where
+  pub links-long : length (t .links) ≡ edgesMost
+  pub ends-long : length (t .ends) ≡ edgesMost
+  pub ready : TrayReady input laid e (r + 1) t
   pub edges-few : e ≤ length input + r
 
-pub standing-begins : (input heads links ends : List ℕ) (table : List Float) → length links ≡ edgesMost → length ends ≡ edgesMost → Table table
-    → Tells input [] (length input) heads links ends → Standing input [] 0 (length input) heads links ends (noughts limits.points) (noughts limits.longest) table
-standing-begins input heads links ends table ll le lt t = record {
+pub standing-begins : {input heads links ends : List ℕ} {table : List Float} → length links ≡ edgesMost → length ends ≡ edgesMost → Table table
+    → Tells input [] (length input) heads links ends → Standing input [] 0 (length input) (tray heads links ends (noughts limits.points) (noughts limits.longest) table)
+standing-begins {input} {heads} {links} {ends} {table} ll le lt t = record {
   links-long = ll;
   ends-long = le;
-  tray = tray-begins input heads links ends table lt t;
+  ready = tray-begins input heads links ends table lt t;
   edges-few = omega arith;
 }
 
-module _ (input laid : List ℕ) (r e : ℕ) (heads links ends stamps rows : List ℕ) (table : List Float) (s : Standing input laid r e heads links ends stamps rows table) (ring : List ℕ) where
-  -- it has room for the next ring,
-  pub standing-room : Input input → 3 ≤ length ring → r + length ring ≤ limits.corners → TrayRoom ring links ends (r + 1) e
-  standing-room i three few = ring-room input ring links ends r e i three few (s .edges-few) (s .links-long) (s .ends-long)
+module _ {input laid : List ℕ} {r e : ℕ} {t : Tray} (s : Standing input laid r e t) (ring : List ℕ) where
+  -- it has room for the next ring, behind the diagonals of r ring vertices, which are no more than these;
+  pub standing-room : Input input → 3 ≤ length ring → r + length ring ≤ limits.corners → TrayRoom ring e (r + 1) t
+  standing-room i three few =
+      let a : length input ≤ limits.corners = i .few in
+      let b : e ≤ length input + r = s .edges-few in
+      let c : length (t .links) ≡ edgesMost = s .links-long in
+      let d : length (t .ends) ≡ edgesMost = s .ends-long in
+      record { links-room = omega arith; ends-room = omega arith; few-edges = omega arith; few-stamps = omega arith }
 
-  -- and behind that ring it stands as that ring's turn left it
-  pub standing-next : (laid′ : List ℕ) (r′ f : ℕ) (heads′ links′ ends′ stamps′ rows′ : List ℕ) (table′ : List Float) → r′ ≡ r + length ring → length links′ ≡ length links → length ends′ ≡ length ends
-      → f ≤ e + (length ring - 2) → Tray input laid′ f heads′ links′ ends′ stamps′ (r + 1 + length ring) rows′ table′ → Standing input laid′ r′ f heads′ links′ ends′ stamps′ rows′ table′
-  standing-next laid′ r′ f heads′ links′ ends′ stamps′ rows′ table′ q kl ke few b =
+  -- and behind that ring it stands as the ring left it
+  pub standing-next : {laid′ : List ℕ} {r′ f : ℕ} {t′ : Tray} → r′ ≡ r + length ring → length (t′ .links) ≡ length (t .links) → length (t′ .ends) ≡ length (t .ends)
+      → f ≤ e + (length ring - 2) → TrayReady input laid′ f (r + 1 + length ring) t′ → Standing input laid′ r′ f t′
+  standing-next {laid′} {r′} {f} {t′} q kl ke few b =
       let x : e ≤ length input + r = s .edges-few in
       record {
         links-long = kl ∙ s .links-long;
         ends-long = ke ∙ s .ends-long;
-        tray = subst (λ (i : ℕ). Tray input laid′ f heads′ links′ ends′ stamps′ i rows′ table′) (omega arith) b;
+        ready = subst (λ (i : ℕ). TrayReady input laid′ f i t′) (omega arith) b;
         edges-few = omega arith;
       }
 
 -- a ring that is passed over leaves it standing
-pub standing-passed : (input laid laid′ : List ℕ) (r r′ e : ℕ) (heads links ends stamps rows : List ℕ) (table : List Float) → laid ≡ laid′ → r ≤ r′
-    → Standing input laid r e heads links ends stamps rows table → Standing input laid′ r′ e heads links ends stamps rows table
-standing-passed input laid laid′ r r′ e heads links ends stamps rows table q h s =
-    let b : Tray input laid′ e heads links ends stamps (r + 1) rows table = subst (λ (x : List ℕ). Tray input x e heads links ends stamps (r + 1) rows table) q (s .tray) in
+pub standing-passed : {input laid laid′ : List ℕ} {r r′ e : ℕ} {t : Tray} → laid ≡ laid′ → r ≤ r′ → Standing input laid r e t → Standing input laid′ r′ e t
+standing-passed {input} {laid} {laid′} {r} {r′} {e} {t} q h s =
+    let b : TrayReady input laid′ e (r + 1) t = subst (λ (x : List ℕ). TrayReady input x e (r + 1) t) q (s .ready) in
     record {
       links-long = s .links-long;
       ends-long = s .ends-long;
-      tray = record {
+      ready = record {
         tells = b .tells;
         whole = b .whole;
         stamps-long = b .stamps-long;
@@ -108,16 +105,17 @@ standing-passed input laid laid′ r r′ e heads links ends stamps rows table q
       edges-few = let x = s .edges-few in omega arith;
     }
 
--- a loop that lays nothing leaves the tray as it was
-pub tray-kept : (input before : List ℕ) (e f : ℕ) (heads links ends stamps stamps′ : List ℕ) (base base′ : ℕ) (rows rows′ : List ℕ) (table table′ : List Float)
-    → Tray input before e heads links ends stamps base rows table → f ≡ e → length stamps′ ≡ limits.points → ((v : ℕ) → getD stamps′ v 0 < base′)
-    → length rows′ ≡ limits.longest → length table′ ≡ length table → Tray input (before ++ []) f heads links ends stamps′ base′ rows′ table′
-tray-kept input before e f heads links ends stamps stamps′ base base′ rows rows′ table table′ b x y z u t =
+-- a loop that lays nothing leaves the chains as they were
+pub tray-kept : {input before : List ℕ} {e f base base′ : ℕ} {t : Tray} {stamps rows : List ℕ} {table : List Float} → TrayReady input before e base t → f ≡ e → length stamps ≡ limits.points
+    → ((v : ℕ) → getD stamps v 0 < base′) → length rows ≡ limits.longest → length table ≡ length (t .table)
+    → TrayReady input (before ++ []) f base′ (tray (t .heads) (t .links) (t .ends) stamps rows table)
+tray-kept {input} {before} {e} {f} {t = t} b x y z u v =
     record {
-      tells = subst (λ (n : ℕ). Tells input (before ++ []) n heads links ends) (sym x) (subst (λ (l : List ℕ). Tells input l e heads links ends) (sym (append-nil before)) (b .tells));
+      tells = subst (λ (n : ℕ). Tells input (before ++ []) n (t .heads) (t .links) (t .ends)) (sym x)
+          (subst (λ (l : List ℕ). Tells input l e (t .heads) (t .links) (t .ends)) (sym (append-nil before)) (b .tells));
       whole = ap (λ (l : List ℕ). length l % 3) (append-nil before) ∙ b .whole;
       stamps-long = y;
       below = z;
       rows-long = u;
-      table-long = t ∙ b .table-long;
+      table-long = v ∙ b .table-long;
     }

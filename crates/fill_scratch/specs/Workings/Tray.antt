@@ -1,4 +1,4 @@
--- What lies on the tray between two loops.
+-- The tray: what lies ready between two loops.
 use mathlib.Core.Path.{_≡_}
 use mathlib.Core.List.{List}
 use Prim.Native.Nat.{ℕ, _+_, _-_, _%_, _^_, _<_, _≤_}
@@ -8,18 +8,30 @@ use Rattle.base_limits.specs.Limits as limits
 use Rattle.cover_bars.specs.Workings.Chains.{Tells}
 use Rattle.cover_column.specs.Workings.Columns.{Table}
 
--- chains that tell of the input and of the patches so far, stamps below the base, and room for rows of bars and for the table
-pub record Tray (input laid : List ℕ) (e : ℕ) (heads links ends stamps : List ℕ) (base : ℕ) (rows : List ℕ) (table : List Float) : Type 0 where
-  pub tells : Tells input laid e heads links ends
+-- chains of edges, the ring's stamps, rows of bars and the table
+pub record Tray : Type 0 where
+  pub heads : List ℕ
+  pub links : List ℕ
+  pub ends : List ℕ
+  pub stamps : List ℕ
+  pub rows : List ℕ
+  pub table : List Float
+
+abbrev pub tray : List ℕ → List ℕ → List ℕ → List ℕ → List ℕ → List Float → Tray
+tray heads links ends stamps rows table = record { heads = heads; links = links; ends = ends; stamps = stamps; rows = rows; table = table }
+
+-- it is ready: e edges tell of the input and of the patches so far, the stamps lie below the base, and rows and table have room
+pub record TrayReady (input laid : List ℕ) (e base : ℕ) (t : Tray) : Type 0 where
+  pub tells : Tells input laid e (t .heads) (t .links) (t .ends)
   pub whole : length laid % 3 ≡ 0
-  pub stamps-long : length stamps ≡ limits.points
-  pub below : (v : ℕ) → getD stamps v 0 < base
-  pub rows-long : length rows ≡ limits.longest
-  pub table-long : Table table
+  pub stamps-long : length (t .stamps) ≡ limits.points
+  pub below : (v : ℕ) → getD (t .stamps) v 0 < base
+  pub rows-long : length (t .rows) ≡ limits.longest
+  pub table-long : Table (t .table)
 
 -- room on it for one ring more: for its diagonals behind e edges, and for its stamps from the base on
-pub record TrayRoom (ring links ends : List ℕ) (base e : ℕ) : Type 0 where
-  pub links-room : e + (length ring - 2) ≤ length links
-  pub ends-room : e + (length ring - 2) ≤ length ends
+pub record TrayRoom (ring : List ℕ) (e base : ℕ) (t : Tray) : Type 0 where
+  pub links-room : e + (length ring - 2) ≤ length (t .links)
+  pub ends-room : e + (length ring - 2) ≤ length (t .ends)
   pub few-edges : e + (length ring - 2) < 2 ^ 16
   pub few-stamps : base + length ring < 2 ^ 16

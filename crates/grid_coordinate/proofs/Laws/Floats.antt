@@ -2,7 +2,8 @@
 -- values alone, where a difference is exact, where a sum rounds to a whole number, and when two floats are equal.
 use mathlib.Core.Path.{_≡_, refl, sym, ap, _∙_, subst}
 use Prim.Native.Nat.{ℕ, zero, suc, _+_, _-_, _*_, _/_, _%_, _^_, _≤_, _<_, compare}
-use native.Mathlib.Nat.{le-trans, le-of-eq, le-of-lt, lt-of-lt-of-le, lt-of-le-of-lt, zero-mul, mul-one, mul-comm, mul-assoc, mul-right-comm, mul-pos, add-mul, mul-div-cancel, mul-lt-mul-of-pos-right, lt-of-mul-lt-mul-right, lt-of-not-le, not-le-of-lt, div-lt-iff-lt-mul, mul-le-mul-right, eq-of-mul-eq-mul-right, mod-lt, add-comm, le-add-right}
+use native.Mathlib.Nat.{le-trans, le-of-eq, le-of-lt, lt-of-lt-of-le, lt-of-le-of-lt, lt-of-not-le, not-le-of-lt, mod-lt, add-comm, le-add-right}
+use native.Mathlib.Nat.{zero-mul, mul-one, mul-comm, mul-assoc, mul-right-comm, mul-pos, add-mul, mul-div-cancel, mul-lt-mul-of-pos-right, lt-of-mul-lt-mul-right, div-lt-iff-lt-mul, mul-le-mul-right, eq-of-mul-eq-mul-right}
 use native.Mathlib.Omega.{arith}
 use mathlib.Core.Bool.{Bool, true, false, not, _&&_, _||_, cond, Bool·beq}
 use lib.Arith.{lt-of-le-ne}

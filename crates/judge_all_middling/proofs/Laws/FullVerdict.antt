@@ -1,7 +1,7 @@
 -- The verdict over all loops, with the tray from one loop to the next.
-use mathlib.Core.Path.{_≡_, refl, sym, subst}
+use mathlib.Core.Path.{_≡_, refl}
 use mathlib.Core.Bool.{Bool}
-use mathlib.Core.List.{List, [], _++_}
+use mathlib.Core.List.{List, []}
 use Prim.Native.Nat.{ℕ, _+_, _-_, _≤_, _<_}
 use native.Mathlib.Omega.{arith}
 use lib.IntN.{ℤ}
@@ -15,28 +15,27 @@ use Rattle.cover_bars.specs.Workings.Chains.{Tells}
 use Rattle.cover_column.specs.Workings.Columns.{Table}
 use Rattle.judge_rules.specs.Verdicts.{taken, leftOver}
 use Rattle.fill_scratch.specs.Workings.Rings.{RingOf, Loops, RingPlace, rimMark}
-use Rattle.fill_scratch.specs.Workings.Tray.{Tray}
+use Rattle.fill_scratch.specs.Workings.Tray.{Tray, tray}
 use Rattle.fill_scratch.proofs.Laws.Reading.{as-many, places-of}
 use Rattle.fill_scratch.proofs.Laws.Tray.{noughts, edgesMost, Standing, standing-begins, standing-room, standing-next, standing-passed}
+use Rattle.judge_loop.specs.declared.InHand.{InHand}
+use Rattle.judge_loop.specs.declared.LoopJudged.{LoopJudged}
 use Rattle.judge_loop.specs.Workings.Judging.{JudgeRoom, Judging, FindsLoop}
 use Rattle.judge_all_sight.specs.Workings.Gives.{Declared, VerdictRoom, Gives}
 use Rattle.judge_all_sight.proofs.Laws.Verdicts.{Gone, gone-begins, gone-ends, ring-here, turn-decides, turn-goes}
 use Rattle.judge_all_sight.proofs.Laws.Verdicts as verdicts
 
 -- the first l loops are right, whatever loops they are, and the tray is ready
-pub record Going (grid : List ℤ) (input rings lengths rimmed states set : List ℕ) (l r at e : ℕ) (heads links ends stamps rows : List ℕ) (table : List Float) : Type 0 where
-  pub standing : Standing input (take at set) r e heads links ends stamps rows table
+pub record Going (grid : List ℤ) (input rings lengths rimmed states set : List ℕ) (l r at e : ℕ) (t : Tray) : Type 0 where
+  pub standing : Standing input (take at set) r e t
   pub gone : (rims : List Bool) (rs : List (List ℕ)) → Loops grid input rs rings lengths → Declared rims rs rimmed states → Gone grid input rims rs states set l r at
 
 module _ {grid : List ℤ} {input rings lengths rimmed states set : List ℕ} (room : VerdictRoom grid input rings lengths rimmed states) where
   pub going-begins : {heads links ends : List ℕ} {table : List Float} → length links ≡ edgesMost → length ends ≡ edgesMost → Table table → Tells input [] (length input) heads links ends
-      → Going grid input rings lengths rimmed states set 0 0 0 (length input) heads links ends (noughts limits.points) (noughts limits.longest) table
-  going-begins {heads} {links} {ends} {table} ll le lt t = record {
-    standing = standing-begins input heads links ends table ll le lt t;
-    gone = λ rims rs s d. gone-begins;
-  }
+      → Going grid input rings lengths rimmed states set 0 0 0 (length input) (tray heads links ends (noughts limits.points) (noughts limits.longest) table)
+  going-begins ll le lt t = record { standing = standing-begins ll le lt t; gone = λ rims rs s d. gone-begins }
 
-  module _ {l r at e : ℕ} {heads links ends stamps rows : List ℕ} {table : List Float} (g : Going grid input rings lengths rimmed states set l r at e heads links ends stamps rows table) where
+  module _ {l r at e : ℕ} {t : Tray} (g : Going grid input rings lengths rimmed states set l r at e t) where
     here : Gone grid input (room .rims) (room .rs) states set l r at
     here = g .gone (room .rims) (room .rs) (room .loops) (room .declared)
 
@@ -52,74 +51,60 @@ module _ {grid : List ℤ} {input rings lengths rimmed states set : List ℕ} (r
       abbrev part : List ℕ
       part = take (r + getD lengths l 0 - r) (drop r rings)
 
+      abbrev hand : InHand
+      hand = record { l = l; state = getD states l 0; at = at; edges = e; base = r + 1 }
+
       pub places : RingPlace rings lengths l r
       places = places-of grid input (room .rs) rings lengths (room .loops) l r h (here .read)
-
-      pub state-in : l < length states
-      state-in =
-          let a : length lengths ≡ length (room .rs) = as-many grid input (room .rs) rings lengths (room .loops) in
-          let d : length states ≡ length (room .rs) = room .declared .states-many in
-          omega arith
-
-      pub mark-in : l < length rimmed
-      mark-in =
-          let a : length lengths ≡ length (room .rs) = as-many grid input (room .rs) rings lengths (room .loops) in
-          let d : length (room .rims) ≡ length (room .rs) = room .declared .rims-many in
-          let m : length (room .rims) ≤ length rimmed = room .declared .marked .long in
-          omega arith
 
       -- a rim is judged at sight, and passed over
       pub rim-decides : getD rimmed l 0 ≡ rimMark → (getD states l 0 ≡ rimMark → ⊥) → Gives grid input rings lengths rimmed states set (Misdeclared l)
       rim-decides m n rims rs s d = verdicts.rim-decides s d h (g .gone rims rs s d) m n
 
-      pub rim-goes : getD rimmed l 0 ≡ rimMark → getD states l 0 ≡ rimMark → Going grid input rings lengths rimmed states set (l + 1) (r + getD lengths l 0) at e heads links ends stamps rows table
-      rim-goes m q = record {
-        standing = standing-passed input (take at set) (take at set) r (r + getD lengths l 0) e heads links ends stamps rows table refl (omega arith) (g .standing);
-        gone = λ rims rs s d. verdicts.rim-goes s d h (g .gone rims rs s d) m q;
-      }
+      pub rim-goes : getD rimmed l 0 ≡ rimMark → getD states l 0 ≡ rimMark → Going grid input rings lengths rimmed states set (l + 1) (r + getD lengths l 0) at e t
+      rim-goes m q = record { standing = standing-passed refl (omega arith) (g .standing); gone = λ rims rs s d. verdicts.rim-goes s d h (g .gone rims rs s d) m q }
 
       ring-of : RingOf grid input part
       ring-of = ring-here (room .loops) (room .declared) h here
 
-      pub judge-room : JudgeRoom grid part heads links ends stamps (r + 1) rows table e
+      pub judge-room : JudgeRoom grid part hand t × (at ≤ length set)
       judge-room =
           let n : length part ≡ getD lengths l 0 = places .part-long in
-          let t : 3 ≤ getD lengths l 0 = places .three in
-          let u : r + getD lengths l 0 ≤ length rings = places .ring-in in
-          let v : length rings ≤ limits.corners = places .rings-few in
-          record {
-            input = input;
-            before = take at set;
-            ring-of = ring-of;
-            tray = g .standing .tray;
-            room = standing-room input (take at set) r e heads links ends stamps rows table (g .standing) part (room .corners) (omega arith) (omega arith);
-          }
+          let x : 3 ≤ getD lengths l 0 = places .three in
+          let y : r + getD lengths l 0 ≤ length rings = places .ring-in in
+          let z : length rings ≤ limits.corners = places .rings-few in (
+            record {
+              input = input;
+              before = take at set;
+              ring-of = ring-of;
+              ready = g .standing .ready;
+              room = standing-room (g .standing) part (room .corners) (omega arith) (omega arith);
+            },
+            set-in,
+          )
 
-      module _ (no′ : getD rimmed l 0 ≡ rimMark → ⊥) {a : Answer} {f : ℕ} {heads′ links′ ends′ stamps′ rows′ : List ℕ} {table′ : List Float}
-          (found : FindsLoop grid part (getD states l 0) (drop at set) l heads links ends stamps (r + 1) rows table e a f heads′ links′ ends′ stamps′ rows′ table′) where
-        turned : Judging grid input (take at set) part (getD states l 0) (drop at set) l (r + 1) e a f heads′ links′ ends′ stamps′ rows′ table′
-        turned = found input (take at set) ring-of (g .standing .tray)
+      module _ (no′ : getD rimmed l 0 ≡ rimMark → ⊥) {f : LoopJudged} {t′ : Tray} (found : FindsLoop grid part set hand t f t′) where
+        judged : Judging grid input (take at set) part set hand f t′
+        judged = found input (take at set) ring-of (g .standing .ready)
 
-        pub decides : (a ≡ Done → ⊥) → Gives grid input rings lengths rimmed states set a
-        decides n rims rs s d = turn-decides s d h (g .gone rims rs s d) no′ (turned .finds) n
+        pub decides : (f .answer ≡ Done → ⊥) → Gives grid input rings lengths rimmed states set (f .answer)
+        decides n rims rs s d = turn-decides s d h (g .gone rims rs s d) no′ (judged .finds) n
 
-        module _ {k : ℕ} (done : a ≡ Done) (t : (ring : List ℕ) → length ring ≡ r + getD lengths l 0 - r → k ≡ taken ring (getD states l 0)) where
-          on : (rims : List Bool) (rs : List (List ℕ)) → Loops grid input rs rings lengths → Declared rims rs rimmed states → Gone grid input rims rs states set (l + 1) (r + getD lengths l 0) (at + k)
-          on rims rs s d = turn-goes s d h (g .gone rims rs s d) no′ (turned .finds) done t
+        module _ {k : ℕ} (done : f .answer ≡ Done) (takes : (ring : List ℕ) → length ring ≡ r + getD lengths l 0 - r → k ≡ taken ring (getD states l 0)) where
+          on : (rims : List Bool) (rs : List (List ℕ)) → Loops grid input rs rings lengths → Declared rims rs rimmed states
+              → Gone grid input rims rs states set (l + 1) (r + getD lengths l 0) (at + k)
+          on rims rs s d = turn-goes s d h (g .gone rims rs s d) no′ (judged .finds) done takes
 
           -- what the loop takes is there
           pub takes-in : at + k ≤ length set
           takes-in = on (room .rims) (room .rs) (room .loops) (room .declared) .within
 
-          pub going-on : length links′ ≡ length links → length ends′ ≡ length ends
-              → Going grid input rings lengths rimmed states set (l + 1) (r + getD lengths l 0) (at + k) f heads′ links′ ends′ stamps′ rows′ table′
+          pub going-on : length (t′ .links) ≡ length (t .links) → length (t′ .ends) ≡ length (t .ends)
+              → Going grid input rings lengths rimmed states set (l + 1) (r + getD lengths l 0) (at + k) (f .edges) t′
           going-on kl ke =
               let n : length part ≡ getD lengths l 0 = places .part-long in
-              let q : k ≡ taken part (getD states l 0) = t part (omega arith) in
+              let q : k ≡ taken part (getD states l 0) = takes part (omega arith) in
               record {
-                standing =
-                    standing-next input (take at set) r e heads links ends stamps rows table (g .standing) part (take (at + k) set) (r + getD lengths l 0) f heads′ links′ ends′ stamps′ rows′ table′ (omega arith) kl ke (turned .few)
-                    (subst (λ (i : List ℕ). Tray input i f heads′ links′ ends′ stamps′ (r + 1 + length part) rows′ table′) (sym (take-add at k set))
-                    (subst (λ (i : ℕ). Tray input (take at set ++ take i (drop at set)) f heads′ links′ ends′ stamps′ (r + 1 + length part) rows′ table′) (sym q) (turned .tray done)));
+                standing = standing-next (g .standing) part (omega arith) kl ke (judged .few) (rw (take-add at k set, q) (judged .ready done));
                 gone = on;
               }

@@ -39,21 +39,6 @@ module _ {rings lengths marks states set : List ℕ} (room : SightVerdictRoom ri
     pub places : RingPlace rings lengths l r
     places = let q = room .room in places-of (room .grid) (room .input) (q .rs) rings lengths (q .loops) l r h (here g .read)
 
-    pub state-in : l < length states
-    state-in =
-        let q = room .room in
-        let a : length lengths ≡ length (q .rs) = as-many (room .grid) (room .input) (q .rs) rings lengths (q .loops) in
-        let d : length states ≡ length (q .rs) = q .declared .states-many in
-        omega arith
-
-    pub mark-in : l < length marks
-    mark-in =
-        let q = room .room in
-        let a : length lengths ≡ length (q .rs) = as-many (room .grid) (room .input) (q .rs) rings lengths (q .loops) in
-        let d : length (q .rims) ≡ length (q .rs) = q .declared .rims-many in
-        let m : length (q .rims) ≤ length marks = q .declared .marked .long in
-        omega arith
-
     -- a rim
     pub rim-decides : getD marks l 0 ≡ rimMark → (getD states l 0 ≡ rimMark → ⊥) → GivesAtSight rings lengths marks states set (Misdeclared l)
     rim-decides m n grid input rims rs s d = verdicts.rim-decides s d h (g .gone grid input rims rs s d) m n

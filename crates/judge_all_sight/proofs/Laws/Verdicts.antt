@@ -21,7 +21,19 @@ use Rattle.fill_scratch.specs.Workings.Rings.{RingOf, Loops, rimMark}
 use Rattle.fill_scratch.proofs.Laws.Reading.{as-many, length-at, ring-at, ring-next}
 use Rattle.judge_sight.specs.Workings.Findings.{Finds, right, fault}
 use Rattle.judge_sight.proofs.Laws.Findings.{done-right}
-use Rattle.judge_all_sight.specs.Workings.Gives.{Declared}
+use Rattle.judge_all_sight.specs.Workings.Gives.{Declared, VerdictRoom}
+
+-- there are a state and a mark for each loop
+module _ {grid : List ℤ} {input rings lengths marks states : List ℕ} (room : VerdictRoom grid input rings lengths marks states) where
+  pub states-many : length states ≡ length lengths
+  states-many = room .declared .states-many ∙ sym (as-many grid input (room .rs) rings lengths (room .loops))
+
+  pub marks-long : length lengths ≤ length marks
+  marks-long =
+      let a : length lengths ≡ length (room .rs) = as-many grid input (room .rs) rings lengths (room .loops) in
+      let d : length (room .rims) ≡ length (room .rs) = room .declared .rims-many in
+      let m : length (room .rims) ≤ length marks = room .declared .marked .long in
+      omega arith
 
 -- the first l loops are right: they have r ring vertices and take the set up to `at`
 pub record Gone (grid : List ℤ) (input : List ℕ) (rims : List Bool) (rs : List (List ℕ)) (states set : List ℕ) (l r at : ℕ) : Type 0 where
@@ -154,6 +166,6 @@ module _ {grid : List ℤ} {input : List ℕ} {rims : List Bool} {rs : List (Lis
         let n : getD lengths l 0 ≡ length (getD rs l []) = length-here in
         right-goes below (d .rims-many) (d .states-many) g k (getD lengths l 0)
         (subst (λ (k : Bool). RightIf grid input (take at set) k (getD rs l []) (getD states l 0) (drop at set)) is-other
-        (done-right grid input (take at set) (getD rs l []) (getD states l 0) (drop at set) l a
+        (done-right
         (subst (λ (x : List ℕ). Finds grid input (take at set) l x (getD states l 0) (drop at set) a) part-is f) e))
         (t (getD rs l []) (omega arith)) n

@@ -1,9 +1,10 @@
 -- `verdict_at_sight` judges rims, loops of three and long ones, one by one.
 use Rattle.fill_scratch.specs.Workings.Rings.{RingPlace}
 use Rattle.judge_sight.proofs.Laws.Findings.{not-done}
-use Rattle.judge_all_sight.proofs.Laws.SightVerdict.{Going, going-begins, set-in, places, state-in, mark-in, rim-decides, rim-goes, sight-room, decides, going-on, takes-in, going-ends}
+use Rattle.judge_all_sight.proofs.Laws.Verdicts.{states-many, marks-long}
+use Rattle.judge_all_sight.proofs.Laws.SightVerdict.{Going, going-begins, set-in, places, rim-decides, rim-goes, sight-room, decides, going-on, takes-in, going-ends}
 use lib.ListN.{length}
-use Prim.Native.Nat.{_-_}
+use Prim.Native.Nat.{_-_, _<_}
 use borrow.Author.Needs.{needs}
 use native.Mathlib.Omega.{arith}
 use Rattle.judge_all_sight.proofs.verdict_at_sight.Statement.{statement}
@@ -25,6 +26,9 @@ entry t = search
 here : (t : Turn) → RingPlace (entry t .args .rings .now) (entry t .args .lengths .now) (t .before .loop .l) (t .before .loop .r)
 here t = search (places, t .before .loop .inv, entry t .pre, t .loop-test)
 
+state-here : (t : Turn) → t .before .loop .l < length (entry t .args .states .now)
+state-here t = omega (arith, states-many (entry t .pre .room), t .loop-test)
+
 pub verdict-at-sight-spec : {M : Type 1} → statement M
 verdict-at-sight-spec =
     tie.close
@@ -35,9 +39,9 @@ verdict-at-sight-spec =
     (λ c. omega (arith, here (search)))
     (λ c. omega (arith, here (search)))
     (λ c. search needs)
-    (λ c. let t : Turn = search in search (mark-in, t .before .loop .inv, entry t .pre, t .loop-test))
+    (λ c. let t : Turn = search in omega (arith, marks-long (entry t .pre .room), t .loop-test))
     (λ c. search needs)
-    (λ c. let t : Turn = search in search (state-in, t .before .loop .inv, entry t .pre, t .loop-test))
+    (λ c. state-here (search))
     (λ c. let t : Turn = search in search (rim-decides, t .before .loop .inv, entry t .pre, t .loop-test))
     (λ c. search needs)
     (λ c. search needs)
@@ -47,13 +51,13 @@ verdict-at-sight-spec =
     (λ c. search needs)
     (λ c. here (search) .ring-in)
     (λ c. search needs)
-    (λ c. let t : Turn = search in search (state-in, t .before .loop .inv, entry t .pre, t .loop-test))
+    (λ c. state-here (search))
     (λ c κs. let t : Turn = search in search (sight-room, t .before .loop .inv, entry t .pre, t .loop-test))
     (λ c. search needs)
     (λ c. let t : Turn = search in search (decides, not-done, t .before .loop .inv, entry t .pre, t .loop-test))
     (λ c. search needs)
     (λ c. search needs)
-    (λ c. let t : Turn = search in search (state-in, t .before .loop .inv, entry t .pre, t .loop-test))
+    (λ c. state-here (search))
     (λ c κs. let h = here (search) in (omega (arith, h), omega (arith, h)))
     (λ c. let t : Turn = search in
     let o : tie.Else1 Inv-loop μ-loop = search in

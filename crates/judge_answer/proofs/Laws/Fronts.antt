@@ -15,12 +15,12 @@ pub record Laying (from : List ℕ) (n : ℕ) (before : List ℕ) (i : ℕ) (now
   pub kept : length now ≡ length before
   pub laid : now ≡ over (take i from) before
 
-module _ (from : List ℕ) (n : ℕ) (before : List ℕ) where
+module _ {from : List ℕ} {n : ℕ} {before : List ℕ} where
   pub laying-begins : Laying from n before 0 before
   laying-begins = record { most = omega arith; kept = λ t. length before; laid = sym (over-none before) }
 
-  pub laying-more : (i : ℕ) (now : List ℕ) → n ≤ length from → n ≤ length before → i < n → Laying from n before i now → Laying from n before (i + 1) (set now i (getD from i 0))
-  laying-more i now f b h g =
+  pub laying-more : {i : ℕ} {now : List ℕ} → n ≤ length from → n ≤ length before → i < n → Laying from n before i now → Laying from n before (i + 1) (set now i (getD from i 0))
+  laying-more {i} {now} f b h g =
       let m : i ≡ length (take i from) = sym (length-take-le i from (omega arith)) in
       record {
         most = omega arith;
@@ -31,5 +31,5 @@ module _ (from : List ℕ) (n : ℕ) (before : List ℕ) where
             ∙ ap (λ (x : List ℕ). over x before) (sym (take-suc from i 0 (omega arith)) ∙ ap (λ (k : ℕ). take k from) (sym (add-one i)));
       }
 
-  pub laying-ends : (i : ℕ) (now : List ℕ) → n ≤ i → Laying from n before i now → now ≡ over (take n from) before
-  laying-ends i now h g = let q : i ≤ n = g .most in let e : i ≡ n = omega arith in g .laid ∙ ap (λ (k : ℕ). over (take k from) before) e
+  pub laying-ends : {i : ℕ} {now : List ℕ} → n ≤ i → Laying from n before i now → now ≡ over (take n from) before
+  laying-ends {i} h g = let q : i ≤ n = g .most in let e : i ≡ n = omega arith in g .laid ∙ ap (λ (k : ℕ). over (take k from) before) e

@@ -1,22 +1,21 @@
 -- The stretches of a set's seats are chained one after the other.
 use Prim.Native.Nat.{ℕ, _+_, _*_, _/_, _^_, _<_, _≤_}
 use mathlib.Core.Path.{_≡_, refl, sym, ap, _∙_, subst}
-use mathlib.Core.Bool.{Bool, _||_}
 use mathlib.Core.Logic.{inl, ⊎-elim}
-use mathlib.Core.List.{List, [], _∷_, _++_, append-nil, append-assoc}
+use mathlib.Core.List.{List, [], _∷_, _++_}
 use native.Mathlib.Omega.{arith}
 use lib.ListN.{length, getD, length-append}
-use Rattle.base_limits.specs.Limits as limits
 use Rattle.cover_rules.specs.Covers.{Triangle, on, cornersOf, vertexOf}
 use Rattle.cover_rules.specs.Sets.{Alike, named}
 use Rattle.cover_rules.specs.Workings.Matching.{Seated}
 use Rattle.cover_rules.proofs.Laws.Corners.{corners-append, corners-length, corners-whole}
 use Rattle.cover_rules.proofs.Laws.Listed.{in-left, in-right, in-cases}
-use Rattle.cover_bars.specs.Workings.Chains.{Edge, edgeOf, joins, firsts, Chained, ChainRoom, ChainDone}
-use Rattle.cover_bars.proofs.Laws.Joins.{joins-append}
+use Rattle.cover_bars.specs.Workings.Chains.{Edge, edgeOf, firsts, ChainRoom, ChainDone}
+use Rattle.cover_bars.proofs.Laws.Chaining.{Behind, behind-none, behind-room, behind-more, behind-tells}
 use Rattle.cover_bars.proofs.Laws.Triples.{firsts-append, firsts-length}
+use Rattle.judge_seat.specs.declared.Seat.{Seat}
 use Rattle.judge_seat.specs.declared.Seat.the-variants.{Of, Not}
-use Rattle.judge_seat.specs.Workings.Seats.{SeatFound, tripleAt}
+use Rattle.judge_seat.specs.Workings.Seats.{SeatOf, SeatFound, tripleAt}
 use Rattle.judge_seat.proofs.Laws.Places.{different}
 use Rattle.judge_seat.proofs.Laws.Passed.{Passed, passed-none, passed-room, passed-all, passed-more}
 use Rattle.judge_seat.proofs.Laws.Seated.{seatless}
@@ -80,135 +79,79 @@ pub record Linking (ring stamps : List ℕ) (base : ℕ) (corners heads₀ links
   pub seats : List Triangle
   pub many : e + length seats ≡ f
   pub found : Seats (length ring) (vertexOf ring) front seats
-  pub heads-long : length heads ≡ limits.points
-  pub links-kept : length links ≡ length links₀
-  pub ends-kept : length ends ≡ length ends₀
-  pub chained : (es : List Edge) → length es ≡ e → Chained es heads₀ links₀ ends₀ → Chained (es ++ stretches (vertexOf ring) seats) heads links ends
+  pub behind : Behind e heads₀ links₀ ends₀ (stretches (vertexOf ring) seats) heads links ends
 
-module _ (ring stamps : List ℕ) (base : ℕ) (corners heads₀ links₀ ends₀ : List ℕ) (e : ℕ) where
-  pub chaining-begins : CoverRoom ring stamps base corners heads₀ links₀ ends₀ e
-      → Linking ring stamps base corners heads₀ links₀ ends₀ e 0 e heads₀ links₀ ends₀
-  chaining-begins room = record {
-    room = room;
-    front = [];
-    passed = passed-none corners (room .threes);
-    even = omega arith;
-    seats = [];
-    many = omega arith;
-    found = seats-none (length ring) (vertexOf ring);
-    heads-long = room .heads-long;
-    links-kept = refl;
-    ends-kept = refl;
-    chained = λ es n c.
-        subst (λ (z : List Edge). Chained z heads₀ links₀ ends₀)
-        (sym (ap (λ (l : List Edge). es ++ l) (stretches-none (vertexOf ring)) ∙ append-nil es)) c;
+pub chaining-begins : {ring stamps : List ℕ} {base : ℕ} {corners heads links ends : List ℕ} {e : ℕ} → CoverRoom ring stamps base corners heads links ends e
+    → Linking ring stamps base corners heads links ends e 0 e heads links ends
+chaining-begins {ring} room = record {
+  room = room;
+  front = [];
+  passed = passed-none (room .threes);
+  even = omega arith;
+  seats = [];
+  many = omega arith;
+  found = seats-none (length ring) (vertexOf ring);
+  behind = behind-none (room .heads-long) (stretches-none (vertexOf ring));
+}
+
+module _ {ring stamps : List ℕ} {base : ℕ} {corners heads₀ links₀ ends₀ : List ℕ} {e q f : ℕ} {heads links ends : List ℕ}
+    (going : Linking ring stamps base corners heads₀ links₀ ends₀ e q f heads links ends) where
+  -- no more edges were chained than there are triangles
+  few-so-far : f ≤ e + length corners / 3
+  few-so-far = omega (arith, going .passed .rest, going .even)
+
+  -- an edge a seat
+  stretched : e + length (stretches (vertexOf ring) (going .seats)) ≡ f
+  stretched = omega (arith, stretches-length (vertexOf ring) (going .seats), going .many)
+
+  pub chaining-ends : length corners ≤ q → CoverChained ring corners heads₀ links₀ ends₀ e f heads links ends
+  chaining-ends l = record {
+    few = few-so-far;
+    heads-long = going .behind .heads-long;
+    tells = λ input laid c whole long covering sides.
+        behind-tells (going .behind) stretched
+        (λ u v.
+        seats-same ring corners (different (going .room .ringed)) c covering u v input laid whole sides (going .room .threes) (going .seats)
+        (subst (λ (s : List Triangle). Seats (length ring) (vertexOf ring) s (going .seats)) (sym (passed-all (going .passed) l)) (going .found)));
   }
 
-  module _ (q f : ℕ) (heads links ends : List ℕ) (going : Linking ring stamps base corners heads₀ links₀ ends₀ e q f heads links ends) where
-    -- no more edges were chained than there are triangles
-    few-so-far : f ≤ e + length corners / 3
-    few-so-far =
-        let r = going .passed .rest in
-        let v = going .even in
-        omega arith
+  module _ (more : q < length corners) where
+    pub chaining-room : (q + 3 ≤ length corners) × (f + 1 < 2 ^ 16)
+    chaining-room = let r = passed-room (going .passed) more in (r, omega (arith, going .even, going .room .few))
 
-    pub chaining-ends : length corners ≤ q → CoverChained ring corners heads₀ links₀ ends₀ e f heads links ends
-    chaining-ends l = record {
-      few = few-so-far;
-      heads-long = going .heads-long;
-      tells = λ input laid c whole long covering sides told. record {
-        edges = told .edges ++ stretches (vertexOf ring) (going .seats);
-        many =
-            omega (
-              arith,
-              length-append (told .edges) (stretches (vertexOf ring) (going .seats)),
-              told .many,
-              stretches-length (vertexOf ring) (going .seats),
-              going .many,
-            );
-        chained = going .chained (told .edges) (told .many) (told .chained);
-        same = λ u v.
-            joins-append (told .edges) (stretches (vertexOf ring) (going .seats)) u v
-            ∙ ap (λ (b : Bool). b || joins (stretches (vertexOf ring) (going .seats)) u v) (told .same u v)
-            ∙ seats-same ring corners (different ring base stamps (going .room .ringed)) c covering u v input laid whole sides (going .room .threes)
-            (going .seats)
-            (subst (λ (s : List Triangle). Seats (length ring) (vertexOf ring) s (going .seats))
-            (sym (passed-all corners q (going .front) (going .passed) l)) (going .found));
-      };
-    }
-
-    module _ (more : q < length corners) where
-      pub chaining-room : q + 3 ≤ length corners
-      chaining-room = passed-room corners q (going .front) (going .passed) more
-
+    module _ {s : Seat} (at : SeatFound corners q stamps base s) where
       -- a set with a triangle that has no seat is no cover
-      pub chaining-stops : SeatFound corners q stamps base Not → CoverChained ring corners heads₀ links₀ ends₀ e f heads links ends
-      chaining-stops found = record {
+      pub chaining-stops : s ≡ Not → CoverChained ring corners heads₀ links₀ ends₀ e f heads links ends
+      chaining-stops n = record {
         few = few-so-far;
-        heads-long = going .heads-long;
-        tells = λ input laid c whole long covering sides told.
-            absurd (seatless corners stamps base q (going .front) (going .passed) more found ring (going .room .ringed) c covering);
+        heads-long = going .behind .heads-long;
+        tells = λ input laid c whole long covering sides told. absurd (seatless (going .passed) more at n ring (going .room .ringed) c covering);
       }
 
-      pub chaining-few : f + 1 < 2 ^ 16
-      chaining-few =
-          let r = chaining-room in
-          let v = going .even in
-          let w = going .room .few in
-          omega arith
+      module _ {i k m : ℕ} (is : s ≡ Of i k m) where
+        seat : SeatOf (length ring) (vertexOf ring) (tripleAt corners q) (Of i k m)
+        seat = subst (SeatOf (length ring) (vertexOf ring) (tripleAt corners q)) is (at .seat ring (going .room .ringed))
 
-      -- an edge between any two vertices of the ring has room
-      pub chaining-chain : (a b : ℕ) → a < length ring → b < length ring → ChainRoom f (getD ring a 0) (getD ring b 0) heads links ends
-      chaining-chain a b la lb =
-          let r = chaining-room in
-          let v = going .even in
-          let s = going .room .links-room in
-          let t = going .room .ends-room in
-          let c = going .links-kept in
-          let d = going .ends-kept in
-          record {
-            heads-long = going .heads-long;
-            links-room = omega arith;
-            ends-room = omega arith;
-            leaves-inside = going .room .ringed .inside a la;
-            ends-inside = going .room .ringed .inside b lb;
-            few = chaining-few;
-          }
-
-      module _ (i k m : ℕ) (found : SeatFound corners q stamps base (Of i k m)) where
         -- the seat's positions are the ring's
         pub chaining-inside : (i < m) × (m < k) × (k < length ring)
-        chaining-inside = let y = found .seat ring (going .room .ringed) .0 in (y .low, y .high, y .to)
+        chaining-inside = (seat .0 .low, seat .0 .high, seat .0 .to)
 
-        module _ (heads′ links′ ends′ : List ℕ) (done : ChainDone f (getD ring i 0) (getD ring k 0) heads links ends heads′ links′ ends′) where
-          many-more : (es : List Edge) → length es ≡ e → length (es ++ stretches (vertexOf ring) (going .seats)) ≡ f
-          many-more es n =
-              omega (
-                arith,
-                n,
-                length-append es (stretches (vertexOf ring) (going .seats)),
-                stretches-length (vertexOf ring) (going .seats),
-                going .many,
-              )
+        pub chaining-chain : ChainRoom f (getD ring i 0) (getD ring k 0) heads links ends
+        chaining-chain =
+            let r = chaining-room in
+            let o = going .room in
+            let w = chaining-inside in
+            behind-room (going .behind) (omega (arith, o .links-room, going .even)) (omega (arith, o .ends-room, going .even)) (o .ringed .inside i (omega arith)) (o .ringed .inside k (w .2)) (r .1)
 
-          pub chaining-more : Linking ring stamps base corners heads₀ links₀ ends₀ e (q + 3) (f + 1) heads′ links′ ends′
-          chaining-more =
-              let y = found .seat ring (going .room .ringed) in
-              record {
-                room = going .room;
-                front = going .front ++ (tripleAt corners q ∷ []);
-                passed = passed-more corners q (going .front) (going .passed) more;
-                even = let v = going .even in omega arith;
-                seats = going .seats ++ (on i k m ∷ []);
-                many = omega (arith, length-append (going .seats) (on i k m ∷ []), going .many);
-                found =
-                    seats-more (length ring) (vertexOf ring) (going .front) (going .seats) (going .found) (tripleAt corners q) (on i k m) (y .0) (y .1);
-                heads-long = done .heads-long;
-                links-kept = done .links-kept ∙ going .links-kept;
-                ends-kept = done .ends-kept ∙ going .ends-kept;
-                chained = λ es n c.
-                    subst (λ (z : List Edge). Chained z heads′ links′ ends′)
-                    (append-assoc es (stretches (vertexOf ring) (going .seats)) (edgeOf (getD ring i 0) (getD ring k 0) ∷ [])
-                    ∙ ap (λ (l : List Edge). es ++ l) (sym (stretches-more (vertexOf ring) (going .seats) (on i k m))))
-                    (done .more (es ++ stretches (vertexOf ring) (going .seats)) (many-more es n) (going .chained es n c));
-              }
+        pub chaining-more : {heads′ links′ ends′ : List ℕ} → ChainDone f (getD ring i 0) (getD ring k 0) heads links ends heads′ links′ ends′
+            → Linking ring stamps base corners heads₀ links₀ ends₀ e (q + 3) (f + 1) heads′ links′ ends′
+        chaining-more done = record {
+          room = going .room;
+          front = going .front ++ (tripleAt corners q ∷ []);
+          passed = passed-more (going .passed) more;
+          even = omega (arith, going .even);
+          seats = going .seats ++ (on i k m ∷ []);
+          many = omega (arith, length-append (going .seats) (on i k m ∷ []), going .many);
+          found = seats-more (length ring) (vertexOf ring) (going .front) (going .seats) (going .found) (tripleAt corners q) (on i k m) (seat .0) (seat .1);
+          behind = behind-more (going .behind) stretched (stretches-more (vertexOf ring) (going .seats) (on i k m)) done;
+        }

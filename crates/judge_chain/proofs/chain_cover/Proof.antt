@@ -1,10 +1,7 @@
 -- The stretch of each triangle's seat is chained.
 use Prim.Native.Nat.{_-_, _<_}
-use mathlib.Core.Path.{subst}
 use lib.ListN.{length}
-use Rattle.judge_seat.specs.declared.Seat.the-variants.{Of}
-use Rattle.judge_seat.specs.Workings.Seats.{SeatFound}
-use Rattle.judge_chain.proofs.Laws.Chained.{Linking, chaining-begins, chaining-room, chaining-stops, chaining-few, chaining-inside, chaining-chain, chaining-more, chaining-ends}
+use Rattle.judge_chain.proofs.Laws.Chained.{Linking, chaining-begins, chaining-room, chaining-stops, chaining-inside, chaining-chain, chaining-more, chaining-ends}
 use borrow.Author.Needs.{needs}
 use native.Mathlib.Omega.{arith}
 use Rattle.judge_chain.proofs.chain_cover.Statement.{statement}
@@ -16,72 +13,67 @@ Inv-loop ring stamps base set heads₀ links₀ ends₀ e q₀ f₀ heads links 
 abbrev μ-loop : tie.MeasureT-loop
 μ-loop ring stamps base set heads₀ links₀ ends₀ e q₀ f₀ heads links ends q f = length set - q
 
--- the seat that was found
-seat-found : (c : tie.After-known-told Inv-loop μ-loop)
-    → SeatFound (c .before .before .before .before .before .before .before .before .before .before .args .set .now) (c .before .before .before .before .before .loop .q) (c .before .before .before .before .before .before .before .before .before .before .args .stamps .now) (c .before .before .before .before .before .before .before .before .before .before .args .base) (Of (c .before .seat .given .0 .0) (c .before .seat .given .0 .1 .0) (c .before .seat .given .0 .1 .1 .0))
-seat-found c = subst (SeatFound _ _ _ _) (c .before .seat .given .1) (c .before .before .before .seat-at .ensures)
+-- where a turn begins, where its seat was found, where its positions are known, and where its stretch is chained
+abbrev Turn : Type 0
+Turn = tie.In-loop Inv-loop μ-loop
 
--- its positions are the ring's
-found-inside : (c : tie.After-known-told Inv-loop μ-loop)
-    → (c .before .seat .given .0 .0 < c .before .seat .given .0 .1 .1 .0) × (c .before .seat .given .0 .1 .1 .0 < c .before .seat .given .0 .1 .0) × (c .before .seat .given .0 .1 .0 < length (c .before .before .before .before .before .before .before .before .before .before .args .ring .now))
-found-inside c = chaining-inside _ _ _ _ _ _ _ _ _ _ _ _ _ (c .before .before .before .before .before .loop .inv) (c .before .before .before .before .loop-test .taken) _ _ _ (seat-found c)
+abbrev Seated : Type 0
+Seated = tie.After-seat-at Inv-loop μ-loop
 
-abbrev to-at-loop : tie.After-seat-at Inv-loop μ-loop → tie.At-loop Inv-loop μ-loop
-to-at-loop p = search
+abbrev Known : Type 0
+Known = tie.After-known-told Inv-loop μ-loop
 
-abbrev to-turn : tie.After-seat-at Inv-loop μ-loop → tie.In-loop Inv-loop μ-loop
-to-turn p = search
+abbrev Linked : Type 0
+Linked = tie.After-chain Inv-loop μ-loop
 
-abbrev to-after-seat-at : tie.After-chain Inv-loop μ-loop → tie.After-seat-at Inv-loop μ-loop
-to-after-seat-at p = search
+abbrev entry : Turn → tie.Start Inv-loop μ-loop
+entry t = search
 
-abbrev to-at-loop-2 : tie.After-chain Inv-loop μ-loop → tie.At-loop Inv-loop μ-loop
-to-at-loop-2 p = to-at-loop (to-after-seat-at p)
+abbrev turn : Seated → Turn
+turn s = search
 
-abbrev to-turn-2 : tie.After-chain Inv-loop μ-loop → tie.In-loop Inv-loop μ-loop
-to-turn-2 p = to-turn (to-after-seat-at p)
+abbrev seated : Known → Seated
+seated k = search
 
-abbrev to-after-chain-arg : tie.After-chain Inv-loop μ-loop → tie.After-chain-arg Inv-loop μ-loop
-to-after-chain-arg p = search
+abbrev known : Linked → Known
+known l = search
+
+-- the positions are the ring's
+inside : (k : Known)
+    → (k .before .seat .given .0 .0 < k .before .seat .given .0 .1 .1 .0)
+    × (k .before .seat .given .0 .1 .1 .0 < k .before .seat .given .0 .1 .0)
+    × (k .before .seat .given .0 .1 .0 < length (entry (turn (seated k)) .args .ring .now))
+inside k = let s = seated k in let t = turn s in chaining-inside (t .before .loop .inv) (t .loop-test .taken) (s .seat-at .ensures) (k .before .seat .given .1)
 
 pub chain-cover-spec : {M : Type 1} → statement M
 chain-cover-spec =
     tie.close
     (tie.spec Inv-loop μ-loop
     (λ c. search chaining-begins)
-    (λ c κs.
-    let start : tie.Start Inv-loop μ-loop = search in
-    (chaining-room _ _ _ _ _ _ _ _ _ _ _ _ _ (c .before .loop .inv) (c .loop-test .taken), start .pre .ringed .stamped .long))
+    (λ c κs. let s : tie.Start Inv-loop μ-loop = search in (chaining-room (c .before .loop .inv) (c .loop-test .taken) .0, s .pre .ringed .stamped .long))
     (λ c. search needs)
     (λ c. search needs)
-    (λ c. let after-seat-at : tie.After-seat-at Inv-loop μ-loop = search in (to-at-loop after-seat-at) .loop .inv .links-kept)
-    (λ c. let after-seat-at : tie.After-seat-at Inv-loop μ-loop = search in (to-at-loop after-seat-at) .loop .inv .ends-kept)
-    (λ c.
-    let after-seat-at : tie.After-seat-at Inv-loop μ-loop = search in
-    chaining-stops _ _ _ _ _ _ _ _ _ _ _ _ _ (to-at-loop after-seat-at .loop .inv) (to-turn after-seat-at .loop-test .taken)
-    (subst (SeatFound _ _ _ _) (c .enum-told .given .1) (after-seat-at .seat-at .ensures)))
-    (λ c. let after-chain-arg : tie.After-chain-arg Inv-loop μ-loop = search in omega (arith, found-inside (after-chain-arg .before)))
-    (λ c. let after-chain-arg : tie.After-chain-arg Inv-loop μ-loop = search in omega (arith, found-inside (after-chain-arg .before)))
-    (λ c. let after-chain-arg : tie.After-chain-arg Inv-loop μ-loop = search in omega (arith, found-inside (after-chain-arg .before)))
-    (λ c. let after-chain-arg : tie.After-chain-arg Inv-loop μ-loop = search in omega (arith, found-inside (after-chain-arg .before)))
+    (λ c. let s : Seated = search in turn s .before .loop .inv .behind .links-kept)
+    (λ c. let s : Seated = search in turn s .before .loop .inv .behind .ends-kept)
+    (λ c. let s : Seated = search in let t = turn s in chaining-stops (t .before .loop .inv) (t .loop-test .taken) (s .seat-at .ensures) (c .enum-told .given .1))
+    (λ c. omega (arith, inside (search)))
+    (λ c. omega (arith, inside (search)))
+    (λ c. omega (arith, inside (search)))
+    (λ c. omega (arith, inside (search)))
     (λ c κs.
-    let after-seat-at : tie.After-seat-at Inv-loop μ-loop = search in
-    let after-chain-arg : tie.After-chain-arg Inv-loop μ-loop = search in
-    chaining-chain _ _ _ _ _ _ _ _ _ _ _ _ _ (to-at-loop after-seat-at .loop .inv) (to-turn after-seat-at .loop-test .taken) _ _
-    (omega (arith, found-inside (after-chain-arg .before))) (omega (arith, found-inside (after-chain-arg .before))))
+    let k : Known = search in
+    let s = seated k in
+    let t = turn s in
+    chaining-chain (t .before .loop .inv) (t .loop-test .taken) (s .seat-at .ensures) (k .before .seat .given .1))
+    (λ c. let t = turn (seated (known (search))) in omega (arith, chaining-room (t .before .loop .inv) (t .loop-test .taken)))
+    (λ c. let t = turn (seated (known (search))) in omega (arith, chaining-room (t .before .loop .inv) (t .loop-test .taken)))
+    (λ c. let t = turn (seated (known (search))) in omega (arith, chaining-room (t .before .loop .inv) (t .loop-test .taken)))
     (λ c.
-    let after-chain : tie.After-chain Inv-loop μ-loop = search in
-    omega (arith, chaining-room _ _ _ _ _ _ _ _ _ _ _ _ _ (to-at-loop-2 after-chain .loop .inv) (to-turn-2 after-chain .loop-test .taken)))
-    (λ c.
-    let after-chain : tie.After-chain Inv-loop μ-loop = search in
-    omega (arith, chaining-few _ _ _ _ _ _ _ _ _ _ _ _ _ (to-at-loop-2 after-chain .loop .inv) (to-turn-2 after-chain .loop-test .taken)))
-    (λ c.
-    let after-chain : tie.After-chain Inv-loop μ-loop = search in
-    omega (arith, chaining-room _ _ _ _ _ _ _ _ _ _ _ _ _ (to-at-loop-2 after-chain .loop .inv) (to-turn-2 after-chain .loop-test .taken)))
-    (λ c.
-    let after-chain : tie.After-chain Inv-loop μ-loop = search in
-    chaining-more _ _ _ _ _ _ _ _ _ _ _ _ _ (to-at-loop-2 after-chain .loop .inv) (to-turn-2 after-chain .loop-test .taken) _ _ _
-    (seat-found (to-after-chain-arg after-chain .before)) _ _ _ (after-chain .chain .ensures))
-    (λ c. c .before .loop .inv .links-kept)
-    (λ c. c .before .loop .inv .ends-kept)
+    let l : Linked = search in
+    let k = known l in
+    let s = seated k in
+    let t = turn s in
+    chaining-more (t .before .loop .inv) (t .loop-test .taken) (s .seat-at .ensures) (k .before .seat .given .1) (l .chain .ensures))
+    (λ c. c .before .loop .inv .behind .links-kept)
+    (λ c. c .before .loop .inv .behind .ends-kept)
     (λ c. search chaining-ends))

@@ -1,9 +1,9 @@
 -- One loop judged: whichever way it goes, the loop is right or has the fault that is told, and after a right one the tray
 -- is left for the next.
-use mathlib.Core.Path.{_≡_, refl, sym, ap, _∙_, subst}
+use mathlib.Core.Path.{_≡_, refl, ap, _∙_, subst}
 use mathlib.Core.Logic.{_⊎_, ⊎-elim}
 use mathlib.Core.List.{List, _++_}
-use Prim.Native.Nat.{ℕ, _+_, _-_, _/_, _%_, _^_, _<_, _≤_}
+use Prim.Native.Nat.{ℕ, _+_, _-_, _/_, _%_, _<_, _≤_}
 use native.Mathlib.Omega.{arith}
 use lib.IntN.{ℤ}
 use lib.Ieee.{Float}
@@ -12,6 +12,7 @@ use lib.Seq.{length-take-le}
 use Rattle.base_answers.specs.declared.Answer.{Answer}
 use Rattle.base_answers.specs.declared.Answer.the-variants.{Done, Misdeclared, Uncovered}
 use Rattle.base_limits.specs.Limits as limits
+use Rattle.base_limits.specs.States as stated
 use Rattle.surface_rules.proofs.Laws.Tests.{eq-or-not}
 use Rattle.cover_bars.specs.Bars.{barred}
 use Rattle.cover_bars.specs.Workings.Chains.{Tells, BarsRoom, BarsDone}
@@ -29,200 +30,175 @@ use Rattle.judge_rules.proofs.Theorems.{fault-said, right-patched}
 use Rattle.judge_rules.proofs.Laws.Filled.{taken-patched, part-none}
 use Rattle.judge_rules.proofs.Laws.Declared.{declared-patched}
 use Rattle.fill_scratch.specs.Workings.Rings.{RingOf}
-use Rattle.fill_scratch.specs.Workings.Tray.{Tray}
+use Rattle.fill_scratch.specs.Workings.Tray.{Tray, tray, TrayReady}
 use Rattle.fill_scratch.proofs.Laws.Tray.{tray-kept}
-use Rattle.judge_sight.specs.Workings.Findings.{right, fault, SightRoom, FindsAtSight}
+use Rattle.judge_sight.specs.Workings.Findings.{Finds, right, fault, FindsAtSight}
 use Rattle.judge_sight.proofs.Laws.Findings.{done-right}
 use Rattle.judge_sight.proofs.Laws.Threes.{three-told}
 use Rattle.judge_part.specs.Workings.Parts.{PartRoom, FindsCover}
 use Rattle.judge_part.proofs.Laws.Weighed.{cover-part}
-use Rattle.judge_loop.specs.Workings.Judging.{JudgeRoom, Judging, FindsLoop, FindsPatched, OpenRoom, FindsOpen}
+use Rattle.judge_loop.specs.declared.InHand.{InHand}
+use Rattle.judge_loop.specs.declared.LoopJudged.{LoopJudged}
+use Rattle.judge_loop.specs.Workings.Judging.{ShortRoom, Judging, unchained, FindsLoop, FindsPatched, FindsOpen}
 
--- ---- after a fault no tray is asked for
-
-module _ (grid : List ℤ) (input laid ring : List ℕ) (state : ℕ) (set : List ℕ) (l : ℕ) (a : Answer) where
-  judging-fault : Fault grid input laid l ring state set a → (base e f : ℕ) → f ≤ e + (length ring - 2)
-      → (heads links ends stamps rows : List ℕ) (table : List Float) → Judging grid input laid ring state set l base e a f heads links ends stamps rows table
-  judging-fault h base e f few heads links ends stamps rows table =
-      record { finds = fault h; few = few; tray = λ d. absurd (fault-said grid input laid l ring state set a h d) }
+-- after a fault no tray is asked for
+judging-fault : {grid : List ℤ} {input before ring set : List ℕ} {h : InHand} {a : Answer} {t : Tray}
+    → Fault grid input before (h .l) ring (h .state) (drop (h .at) set) a → Judging grid input before ring set h (unchained h a) t
+judging-fault f = record { finds = fault f; few = omega arith; ready = λ d. absurd (fault-said f d) }
 
 -- ---- the tray after a loop
 
--- that takes nothing,
-kept : (ring : List ℕ) (state : ℕ) (set input before : List ℕ) (e : ℕ) (heads links ends stamps stamps′ : List ℕ) (base : ℕ) (rows rows′ : List ℕ) (table table′ : List Float)
-    → (state ≡ 1 → ⊥) → Tray input before e heads links ends stamps base rows table → length stamps′ ≡ limits.points
-    → ((v : ℕ) → getD stamps′ v 0 < base + length ring) → length rows′ ≡ limits.longest → length table′ ≡ length table
-    → Tray input (before ++ take (taken ring state) set) e heads links ends stamps′ (base + length ring) rows′ table′
-kept ring state set input before e heads links ends stamps stamps′ base rows rows′ table table′ n b m v r t =
-    subst (λ (p : List ℕ). Tray input (before ++ p) e heads links ends stamps′ (base + length ring) rows′ table′) (sym (part-none ring state set n))
-    (tray-kept input before e e heads links ends stamps stamps′ base (base + length ring) rows rows′ table table′ b refl m v r t)
+module _ (ring set : List ℕ) (h : InHand) {input before : List ℕ} {t : Tray} (b : TrayReady input before (h .edges) (h .base) t) where
+  -- that takes nothing,
+  kept : {stamps rows : List ℕ} {table : List Float} → (h .state ≡ stated.patched → ⊥) → length stamps ≡ limits.points
+      → ((v : ℕ) → getD stamps v 0 < h .base + length ring) → length rows ≡ limits.longest → length table ≡ length (t .table)
+      → TrayReady input (before ++ take (taken ring (h .state)) (drop (h .at) set)) (h .edges) (h .base + length ring) (tray (t .heads) (t .links) (t .ends) stamps rows table)
+  kept n m v r e = rw (part-none ring (h .state) (drop (h .at) set) n) (tray-kept b refl m v r e)
 
--- and that takes its share
-whole-after : (ring before part : List ℕ) → length before % 3 ≡ 0 → length part ≡ share ring → length (before ++ part) % 3 ≡ 0
-whole-after ring before part b e = let l : length (before ++ part) ≡ length before + length part = length-append before part in omega arith
+  -- that takes its share,
+  whole-after : (part : List ℕ) → length part ≡ share ring → length (before ++ part) % 3 ≡ 0
+  whole-after part e = let l : length (before ++ part) ≡ length before + length part = length-append before part in omega (arith, b .whole)
 
--- its share, as the code cuts it out of the set
-module _ (ring set : List ℕ) (at : ℕ) where
-  pub cut-share : take (at + share ring - at) (drop at set) ≡ take (share ring) (drop at set)
-  cut-share = let e : at + share ring - at ≡ share ring = omega arith in ap (λ (k : ℕ). take k (drop at set)) e
+  -- and that is one of three or a long one: nothing is stamped then
+  below : (v : ℕ) → getD (t .stamps) v 0 < h .base + length ring
+  below v = let x : getD (t .stamps) v 0 < h .base = b .below v in omega arith
 
-  pub cut-long : share ring ≤ length set - at → length (take (at + share ring - at) (drop at set)) ≡ share ring
-  cut-long h = ap length cut-share ∙ length-take-le (share ring) (drop at set) (subst (λ (k : ℕ). share ring ≤ k) (sym (length-drop at set)) h)
+  sight-ready : {grid : List ℤ} → (length ring ≡ 3) ⊎ (limits.longest < length ring) → RingOf grid input ring → Right grid input before ring (h .state) (drop (h .at) set)
+      → TrayReady input (before ++ take (taken ring (h .state)) (drop (h .at) set)) (h .edges) (h .base + length ring) t
+  sight-ready sight g (long two n) = kept (λ x. omega arith) (b .stamps-long) below (b .rows-long) refl
+  sight-ready sight g (open-left three short n) = kept (λ x. omega arith) (b .stamps-long) below (b .rows-long) refl
+  sight-ready sight g (patched one short c k a least) =
+      let n : length ring ≡ 3 = ⊎-elim (λ (x : length ring ≡ 3). x) (λ (x : limits.longest < length ring). omega arith) sight in
+      let part : List ℕ = take (share ring) (drop (h .at) set) in
+      let m : length part ≡ share ring = length-take-le (share ring) (drop (h .at) set) (k .there) in
+      rw (taken-patched ring (h .state) one)
+      (record {
+        tells = three-told ring part n (b .whole) (g .sides) (g .closing) (omega arith) c (k .covers) (b .tells);
+        whole = whole-after part m;
+        stamps-long = b .stamps-long;
+        below = below;
+        rows-long = b .rows-long;
+        table-long = b .table-long;
+      })
 
 -- ---- a loop of three or a long one
 
-pub sight-room : (ring set : List ℕ) (at : ℕ) → (length ring ≡ 3) ⊎ (limits.longest < length ring) → at ≤ length set → SightRoom ring set at
-sight-room ring set at sight h = record { sight = sight; within = h }
-
-module _ (grid : List ℤ) (ring : List ℕ) (state : ℕ) (set : List ℕ) (at l : ℕ) (heads links ends stamps : List ℕ) (base : ℕ) (rows : List ℕ) (table : List Float) (e : ℕ) (sight : (length ring ≡ 3) ⊎ (limits.longest < length ring)) where
-  module _ (input before : List ℕ) (g : RingOf grid input ring) (b : Tray input before e heads links ends stamps base rows table) where
-    stamps-below : (v : ℕ) → getD stamps v 0 < base + length ring
-    stamps-below v = let h : getD stamps v 0 < base = b .below v in omega arith
-
-    unused : (state ≡ 1 → ⊥) → Tray input (before ++ take (taken ring state) (drop at set)) e heads links ends stamps (base + length ring) rows table
-    unused n = kept ring state (drop at set) input before e heads links ends stamps stamps base rows rows table table n b (b .stamps-long) stamps-below (b .rows-long) refl
-
-    sight-tray : Right grid input before ring state (drop at set)
-        → Tray input (before ++ take (taken ring state) (drop at set)) e heads links ends stamps (base + length ring) rows table
-    sight-tray (long two n) = unused (λ x. omega arith)
-    sight-tray (open-left three short n) = unused (λ x. omega arith)
-    sight-tray (patched one short c h a least) =
-        let n : length ring ≡ 3 = ⊎-elim (λ (x : length ring ≡ 3). x) (λ (x : limits.longest < length ring). omega arith) sight in
-        let part : List ℕ = take (share ring) (drop at set) in
-        let m : length part ≡ share ring = length-take-le (share ring) (drop at set) (h .there) in
-        subst (λ (k : ℕ). Tray input (before ++ take k (drop at set)) e heads links ends stamps (base + length ring) rows table) (sym (taken-patched ring state one))
-        (record {
-          tells = three-told input before ring e heads links ends part n (b .whole) (g .sides) (g .closing) (omega arith) c (h .covers) (b .tells);
-          whole = whole-after ring before part (b .whole) m;
-          stamps-long = b .stamps-long;
-          below = stamps-below;
-          rows-long = b .rows-long;
-          table-long = b .table-long;
-        })
-
-  pub sight-loop : (a : Answer) → FindsAtSight ring state set at l a
-      → FindsLoop grid ring state (drop at set) l heads links ends stamps base rows table e a e heads links ends stamps rows table
-  sight-loop a f input before g b =
-      record {
-        finds = f grid input before;
-        few = omega arith;
-        tray = λ d. sight-tray input before g b (done-right grid input before ring state (drop at set) l a (f grid input before) d);
-      }
+pub sight-loop : {grid : List ℤ} {ring set : List ℕ} {h : InHand} {t : Tray} {a : Answer} → (length ring ≡ 3) ⊎ (limits.longest < length ring)
+    → FindsAtSight ring (h .state) set (h .at) (h .l) a → FindsLoop grid ring set h t (unchained h a) t
+sight-loop {grid} {ring} {set} {h} sight f input before g b =
+    let x = f grid input before in
+    record { finds = x; few = omega arith; ready = λ d. sight-ready ring set h b sight g (done-right x d) }
 
 -- ---- a loop of four or more that is not long
 
-module _ (grid : List ℤ) (ring heads links ends stamps : List ℕ) (base : ℕ) (rows : List ℕ) (table : List Float) (e : ℕ) (turn : JudgeRoom grid ring heads links ends stamps base rows table e) (short : length ring ≤ limits.longest) where
-  pub bars-room : BarsRoom ring heads links ends stamps base rows
+module _ {grid : List ℤ} {ring : List ℕ} {h : InHand} {t : Tray} (room : ShortRoom grid ring h t) where
+  pub bars-room : BarsRoom ring (t .heads) (t .links) (t .ends) (t .stamps) (h .base) (t .rows)
   bars-room =
+      let j = room .judge in
       record {
-        walkable = tells-walkable (turn .input) (turn .before) e heads links ends (turn .tray .tells);
-        long = turn .ring-of .three;
+        walkable = tells-walkable (j .input) (j .before) (h .edges) (t .heads) (t .links) (t .ends) (j .ready .tells);
+        long = j .ring-of .three;
         room = record {
-          short = short;
-          few = turn .room .few-stamps;
-          inside = turn .ring-of .inside;
-          apart = turn .ring-of .apart;
-          stamps-long = turn .tray .stamps-long;
-          rows-long = turn .tray .rows-long;
-          below = turn .tray .below;
+          short = room .short;
+          few = j .room .few-stamps;
+          inside = j .ring-of .inside;
+          apart = j .ring-of .apart;
+          stamps-long = j .ready .stamps-long;
+          rows-long = j .ready .rows-long;
+          below = j .ready .below;
         };
       }
 
   on-grid : OnGrid grid ring
-  on-grid = record { coordinates = turn .ring-of .coordinates; named = turn .ring-of .named; few = short }
+  on-grid = record { coordinates = room .judge .ring-of .coordinates; named = room .judge .ring-of .named; few = room .short }
 
-  module _ (stamps′ rows′ : List ℕ) (bars : BarsDone ring heads links ends base stamps′ rows′) where
-    barring : (input before : List ℕ) (f : ℕ) → Tells input before f heads links ends → Barring (barred input before ring) ring rows′
-    barring input before f t = record { rows = bars .bars input before f t; sides = sides-free input before ring }
+  module _ {stamps rows : List ℕ} (bars : BarsDone ring (t .heads) (t .links) (t .ends) (h .base) stamps rows) where
+    barring : {input before : List ℕ} {e : ℕ} → Tells input before e (t .heads) (t .links) (t .ends) → Barring (barred input before ring) ring rows
+    barring {input} {before} {e} x = record { rows = bars .bars input before e x; sides = sides-free input before ring }
 
-    ringed : Ringed ring base stamps′
-    ringed = record { stamped = bars .stamped; inside = turn .ring-of .inside; few = short }
+    ringed : Ringed ring (h .base) stamps
+    ringed = record { stamped = bars .stamped; inside = room .judge .ring-of .inside; few = room .short }
 
     -- declared open: it is right exactly if there is no least weight
 
-    pub open-room : LoopRoom grid ring rows′ table
+    pub open-room : LoopRoom grid ring rows (t .table)
     open-room =
+        let j = room .judge in
         record {
           on = on-grid;
-          some = let h : 3 ≤ length ring = turn .ring-of .three in omega arith;
-          barred = barred (turn .input) (turn .before) ring;
-          barring = barring (turn .input) (turn .before) e (turn .tray .tells);
-          table-long = turn .tray .table-long;
+          some = let x : 3 ≤ length ring = j .ring-of .three in omega arith;
+          barred = barred (j .input) (j .before) ring;
+          barring = barring (j .ready .tells);
+          table-long = j .ready .table-long;
         }
 
-    module _ (l : ℕ) (least : Least) (table′ : List Float) (found : FindsLeast grid ring rows′ least) where
-      least-is : (r : Least) → least ≡ r → (input before : List ℕ) (f : ℕ) → Tells input before f heads links ends → LeastIs grid ring (barred input before ring) r
-      least-is r is input before f t = subst (LeastIs grid ring (barred input before ring)) is (found (barred input before ring) (barring input before f t))
+    module _ (least : Least) (found : FindsLeast grid ring rows least) where
+      least-is : {r : Least} → least ≡ r → {input before : List ℕ} {e : ℕ} → Tells input before e (t .heads) (t .links) (t .ends) → LeastIs grid ring (barred input before ring) r
+      least-is is {input} {before} x = subst (LeastIs grid ring (barred input before ring)) is (found (barred input before ring) (barring x))
 
-      pub open-right : least ≡ Nothing → length table′ ≡ length table → FindsOpen grid ring l heads links ends stamps base rows table Done stamps′ rows′ table′
-      open-right is same set f input before g b =
+      pub open-right : {table : List Float} → least ≡ Nothing → length table ≡ length (t .table) → FindsOpen grid ring h t Done (tray (t .heads) (t .links) (t .ends) stamps rows table)
+      open-right is same three set input before g b =
           record {
-            finds = right refl (open-left refl short (least-is Nothing is input before f (b .tells)));
+            finds = right refl (open-left three (room .short) (least-is is (b .tells)));
             few = omega arith;
-            tray =
-                λ d.
-                kept ring 3 set input before f heads links ends stamps stamps′ base rows rows′ table table′ (λ x. omega arith) b (bars .stamped .long) (bars .below)
-                (bars .rows-long) same;
+            ready = λ d. kept ring set h b (λ x. omega arith) (bars .stamped .long) (bars .below) (bars .rows-long) same;
           }
 
-      pub open-wrong : (w : ℕ) → least ≡ Weight w → FindsOpen grid ring l heads links ends stamps base rows table (Misdeclared l) stamps′ rows′ table′
-      open-wrong w is set f input before g b =
-          let x = least-is (Weight w) is input before f (b .tells) in
-          judging-fault grid input before ring 3 set l (Misdeclared l) (misdeclared refl (three-with-a-cover refl (x .cover) (x .among))) base f f (omega arith) heads links ends
-          stamps′ rows′ table′
+      pub open-wrong : {table : List Float} → (w : ℕ) × (least ≡ Weight w) → FindsOpen grid ring h t (Misdeclared (h .l)) (tray (t .heads) (t .links) (t .ends) stamps rows table)
+      open-wrong is three set input before g b = let x = least-is (is .1) (b .tells) in judging-fault (misdeclared refl (three-with-a-cover three (x .cover) (x .among)))
 
     -- declared patched: it is as its part of the set is found
 
-    module _ (part : List ℕ) (long-part : length part ≡ share ring) where
-      pub cover-room : PartRoom grid ring part stamps′ base rows′ table
+    module _ {part : List ℕ} (long : length part ≡ share ring) where
+      pub cover-room : PartRoom grid ring part stamps (h .base) rows (t .table)
       cover-room =
+          let j = room .judge in
           record {
             ringed = ringed;
             on = on-grid;
-            three = turn .ring-of .three;
-            long = long-part;
+            three = j .ring-of .three;
+            long = long;
             rows-long = bars .rows-long;
-            table-long = turn .tray .table-long;
-            input = turn .input;
-            before = turn .before;
-            barring = barring (turn .input) (turn .before) e (turn .tray .tells);
+            table-long = j .ready .table-long;
+            input = j .input;
+            before = j .before;
+            barring = barring (j .ready .tells);
           }
 
-      pub chain-room : chaining.CoverRoom ring stamps′ base part heads links ends e
+      pub chain-room : chaining.CoverRoom ring stamps (h .base) part (t .heads) (t .links) (t .ends) (h .edges)
       chain-room =
+          let j = room .judge in
           let many : length part / 3 ≡ length ring - 2 = omega arith in
           record {
             ringed = ringed;
-            threes = record { triangles = length ring - 2; threes = long-part };
-            heads-long = turn .tray .tells .chained .heads-long;
-            links-room = subst (λ (k : ℕ). e + k ≤ length links) (sym many) (turn .room .links-room);
-            ends-room = subst (λ (k : ℕ). e + k ≤ length ends) (sym many) (turn .room .ends-room);
-            few = subst (λ (k : ℕ). e + k < 2 ^ 16) (sym many) (turn .room .few-edges);
+            threes = record { triangles = length ring - 2; threes = long };
+            heads-long = j .ready .tells .chained .heads-long;
+            links-room = rw many (j .room .links-room);
+            ends-room = rw many (j .room .ends-room);
+            few = rw many (j .room .few-edges);
           }
 
-      module _ (l : ℕ) (a : Answer) (finds : FindsCover grid ring part l rows′ a) where
-        pub patched-faulty : (a ≡ Done → ⊥) → (table′ : List Float) → FindsPatched grid ring part l heads links ends stamps base rows table e a e heads links ends stamps′ rows′ table′
-        patched-faulty n table′ set t p input before g b =
-            record {
-              finds = finds input before (barring input before e (b .tells)) set t p;
-              few = omega arith;
-              tray = λ d. absurd (n d);
-            }
+      module _ {a : Answer} (finds : FindsCover grid ring part (h .l) rows a) where
+        module _ (one : h .state ≡ stated.patched) (set : List ℕ) (there : share ring ≤ length (drop (h .at) set)) (p : part ≡ take (share ring) (drop (h .at) set)) where
+          found-here : {input before : List ℕ} → TrayReady input before (h .edges) (h .base) t → Finds grid input before (h .l) ring (h .state) (drop (h .at) set) a
+          found-here {input} {before} b = rw one (finds input before (barring (b .tells)) (drop (h .at) set) there p)
 
-        pub patched-right : (table′ : List Float) → length table′ ≡ length table → (heads′ links′ ends′ : List ℕ) (f : ℕ)
-            → chaining.CoverChained ring part heads links ends e f heads′ links′ ends′
-            → FindsPatched grid ring part l heads links ends stamps base rows table e a f heads′ links′ ends′ stamps′ rows′ table′
-        patched-right table′ same heads′ links′ ends′ f done set t p input before g b =
+        pub patched-faulty : {table : List Float} → (a ≡ Done → ⊥) → FindsPatched grid ring part h t (unchained h a) (tray (t .heads) (t .links) (t .ends) stamps rows table)
+        patched-faulty n one set there p input before g b = record { finds = found-here one set there p b; few = omega arith; ready = λ d. absurd (n d) }
+
+        pub patched-right : {heads links ends : List ℕ} {table : List Float} {f : ℕ} → length table ≡ length (t .table) → chaining.CoverChained ring part (t .heads) (t .links) (t .ends) (h .edges) f heads links ends
+            → FindsPatched grid ring part h t (record { answer = a; edges = f }) (tray heads links ends stamps rows table)
+        patched-right {f = f} same done one set there p input before g b =
+            let found = found-here one set there p b in
             record {
-              finds = finds input before (barring input before e (b .tells)) set t p;
-              few = let k : f ≤ e + length part / 3 = done .few in omega arith;
-              tray = λ d.
-                  let x = right-patched grid input before ring 1 set refl (done-right grid input before ring 1 set l a (finds input before (barring input before e (b .tells)) set t p) d) in
-                  subst (λ (q : List ℕ). Tray input (before ++ q) f heads′ links′ ends′ stamps′ (base + length ring) rows′ table′)
-                  (p ∙ ap (λ (k : ℕ). take k set) (sym (taken-patched ring 1 refl)))
+              finds = found;
+              few = let k : f ≤ h .edges + length part / 3 = done .few in omega arith;
+              ready = λ d.
+                  let x = right-patched one (done-right found d) in
+                  rw (taken-patched ring (h .state) one, ← p)
                   (record {
-                    tells = done .tells input before (x .cover) (b .whole) long-part (cover-part ring part set (x .cover) p (x .taken)) (g .sides) (b .tells);
-                    whole = whole-after ring before part (b .whole) long-part;
+                    tells = done .tells input before (x .cover) (b .whole) long (cover-part p (x .taken)) (g .sides) (b .tells);
+                    whole = whole-after ring set h b part long;
                     stamps-long = bars .stamped .long;
                     below = bars .below;
                     rows-long = bars .rows-long;
@@ -232,39 +208,30 @@ module _ (grid : List ℤ) (ring heads links ends stamps : List ℕ) (base : ℕ
 
   -- ---- by its state
 
-  pub as-open : OpenRoom grid ring heads links ends stamps base rows table
-  as-open = record { edges = e; turn = turn; short = short }
-
-  module _ (state : ℕ) (set : List ℕ) (at l : ℕ) where
-    pub by-open : state ≡ 3 → (a : Answer) (stamps′ rows′ : List ℕ) (table′ : List Float) → FindsOpen grid ring l heads links ends stamps base rows table a stamps′ rows′ table′
-        → FindsLoop grid ring state (drop at set) l heads links ends stamps base rows table e a e heads links ends stamps′ rows′ table′
-    by-open three a stamps′ rows′ table′ f =
-        subst (λ (s : ℕ). FindsLoop grid ring s (drop at set) l heads links ends stamps base rows table e a e heads links ends stamps′ rows′ table′) (sym three)
-        (f (drop at set) e)
-
-    pub by-none : (state ≡ 3 → ⊥) → (state ≡ 1 → ⊥)
-        → FindsLoop grid ring state (drop at set) l heads links ends stamps base rows table e (Misdeclared l) e heads links ends stamps rows table
+  module _ {set : List ℕ} where
+    pub by-none : (h .state ≡ stated.left-open → ⊥) → (h .state ≡ stated.patched → ⊥) → FindsLoop grid ring set h t (unchained h (Misdeclared (h .l))) t
     by-none three one input before g b =
-        judging-fault grid input before ring state (drop at set) l (Misdeclared l)
-        (misdeclared refl (⊎-elim (λ (x : state ≡ 2). two-on-a-short x short) (λ (x : state ≡ 2 → ⊥). no-state one x three) (eq-or-not state 2)))
-        base e e (omega arith) heads links ends stamps rows table
+        judging-fault
+        (misdeclared refl
+        (⊎-elim (λ (x : h .state ≡ stated.long). two-on-a-short x (room .short)) (λ (x : h .state ≡ stated.long → ⊥). no-state one x three) (eq-or-not (h .state) stated.long)))
 
-    module _ (one : state ≡ 1) where
-      pub by-missing : length set - at < share ring
-          → FindsLoop grid ring state (drop at set) l heads links ends stamps base rows table e (Uncovered l) e heads links ends stamps rows table
-      by-missing m input before g b =
-          judging-fault grid input before ring state (drop at set) l (Uncovered l)
-          (no-cover refl (declared-patched input before ring state one short)
-          (λ c h.
-          let k : length (drop at set) ≡ length set - at = length-drop at set in
-          let t : share ring ≤ length (drop at set) = h .there in
-          omega arith))
-          base e e (omega arith) heads links ends stamps rows table
+    pub by-missing : h .state ≡ stated.patched → length set - h .at < share ring → FindsLoop grid ring set h t (unchained h (Uncovered (h .l))) t
+    by-missing one m input before g b =
+        judging-fault
+        (no-cover refl (declared-patched input before ring (h .state) one (room .short))
+        (λ c k. let x : length (drop (h .at) set) ≡ length set - h .at = length-drop (h .at) set in let y : share ring ≤ length (drop (h .at) set) = k .there in omega arith))
 
-      pub by-patched : (part : List ℕ) → part ≡ take (share ring) (drop at set) → share ring ≤ length set - at
-          → (a : Answer) (f : ℕ) (heads′ links′ ends′ stamps′ rows′ : List ℕ) (table′ : List Float)
-          → FindsPatched grid ring part l heads links ends stamps base rows table e a f heads′ links′ ends′ stamps′ rows′ table′
-          → FindsLoop grid ring state (drop at set) l heads links ends stamps base rows table e a f heads′ links′ ends′ stamps′ rows′ table′
-      by-patched part p t a f heads′ links′ ends′ stamps′ rows′ table′ h =
-          subst (λ (s : ℕ). FindsLoop grid ring s (drop at set) l heads links ends stamps base rows table e a f heads′ links′ ends′ stamps′ rows′ table′) (sym one)
-          (h (drop at set) (subst (λ (k : ℕ). share ring ≤ k) (sym (length-drop at set)) t) p)
+-- its share, as the code cuts it out of the set
+module _ (ring set : List ℕ) (at : ℕ) (there : share ring ≤ length set - at) where
+  share-there : share ring ≤ length (drop at set)
+  share-there = let x : length (drop at set) ≡ length set - at = length-drop at set in omega arith
+
+  cut-share : take (at + share ring - at) (drop at set) ≡ take (share ring) (drop at set)
+  cut-share = let e : at + share ring - at ≡ share ring = omega arith in ap (λ (k : ℕ). take k (drop at set)) e
+
+  pub cut-long : length (take (at + share ring - at) (drop at set)) ≡ share ring
+  cut-long = ap length cut-share ∙ length-take-le (share ring) (drop at set) share-there
+
+pub by-share : {grid : List ℤ} {ring set : List ℕ} {h : InHand} {t : Tray} {r : LoopJudged} {t′ : Tray} → h .state ≡ stated.patched → share ring ≤ length set - h .at
+    → FindsPatched grid ring (take (h .at + share ring - h .at) (drop (h .at) set)) h t r t′ → FindsLoop grid ring set h t r t′
+by-share {ring = ring} {set = set} {h = h} one there f = f one set (share-there ring set (h .at) there) (cut-share ring set (h .at) there)

@@ -5,52 +5,41 @@ use Rattle.judge_loop.proofs.Laws.Judging.{bars-room, cover-room, chain
 use Rattle.judge_loop.proofs.judge_patched.Statement.{statement}
 use Rattle.judge_loop.proofs.judge_patched.Tie as tie
 
-abbrev to-start : tie.After-bars-of → tie.Start
-to-start p = search
+-- where the bars are found and where the part is judged, and what lies behind each
+abbrev Barred : Type 0
+Barred = tie.After-bars-of
 
-abbrev to-after-bars-of : tie.After-judge-cover → tie.After-bars-of
-to-after-bars-of p = search
+abbrev Judged : Type 0
+Judged = tie.After-judge-cover
 
-abbrev to-start-2 : tie.After-judge-cover → tie.Start
-to-start-2 p = to-start (to-after-bars-of p)
+abbrev entry : Barred → tie.Start
+entry b = search
 
-abbrev to-after-judge-cover : tie.After-chain-cover → tie.After-judge-cover
-to-after-judge-cover p = search
+abbrev barred : Judged → Barred
+barred j = search
 
-abbrev to-start-3 : tie.After-chain-cover → tie.Start
-to-start-3 p = to-start-2 (to-after-judge-cover p)
-
-abbrev to-after-bars-of-2 : tie.After-chain-cover → tie.After-bars-of
-to-after-bars-of-2 p = to-after-bars-of (to-after-judge-cover p)
-
-abbrev to-after-table : tie.After-chain-cover → tie.After-table
-to-after-table p = search
+abbrev judged : tie.After-table → Judged
+judged t = search
 
 pub judge-patched-spec : {M : Type 1} → statement M
 judge-patched-spec =
     tie.close
     (tie.spec
-    (λ c κs. let start : tie.Start = search in let t = start .pre in bars-room _ _ _ _ _ _ _ _ _ _ (t .0) (t .1))
-    (λ c κs.
-    let after-bars-of : tie.After-bars-of = search in
-    let t = (to-start after-bars-of) .pre in cover-room _ _ _ _ _ _ _ _ _ _ (t .0) (t .1) _ _ (after-bars-of .bars-of .ensures) _ (t .2))
+    (λ c κs. let s : tie.Start = search in bars-room (s .pre .0))
+    (λ c κs. let b : Barred = search in let s = entry b in cover-room (s .pre .0) (b .bars-of .ensures) (s .pre .1))
     (λ c. search needs)
     (λ c. search needs)
     (λ c. search needs)
     (λ c. search needs)
-    (λ c.
-    let after-judge-cover : tie.After-judge-cover = search in
-    let t = (to-start-2 after-judge-cover) .pre in patched-faulty _ _ _ _ _ _ _ _ _ _ (t .0) (t .1) _ _
-    (to-after-bars-of after-judge-cover .bars-of .ensures) _ (t .2) _ _ (after-judge-cover .judge-cover .ensures) (not-done _ (c .match .keys2)) _)
-    (λ c κs.
-    let after-judge-cover : tie.After-judge-cover = search in
-    let t = (to-start-2 after-judge-cover) .pre in chain-room _ _ _ _ _ _ _ _ _ _ (t .0) (t .1) _ _ (to-after-bars-of after-judge-cover .bars-of .ensures) _
-    (t .2))
+    (λ c. let j : Judged = search in let b = barred j in let s = entry b in patched-faulty (s .pre .0) (b .bars-of .ensures) (s .pre .1) (j .judge-cover .ensures) (not-done (search)))
+    (λ c κs. let j : Judged = search in let b = barred j in let s = entry b in chain-room (s .pre .0) (b .bars-of .ensures) (s .pre .1))
     (λ c. search needs)
     (λ c. search needs)
     (λ c. search needs)
     (λ c.
-    let after-chain-cover : tie.After-chain-cover = search in
-    let t = (to-start-3 after-chain-cover) .pre in patched-right _ _ _ _ _ _ _ _ _ _ (t .0) (t .1) _ _
-    (to-after-bars-of-2 after-chain-cover .bars-of .ensures) _ (t .2) _ _ (to-after-judge-cover after-chain-cover .judge-cover .ensures) _
-    (to-after-table after-chain-cover .table .given) _ _ _ _ (after-chain-cover .chain-cover .ensures)))
+    let k : tie.After-chain-cover = search in
+    let t : tie.After-table = search in
+    let j = judged t in
+    let b = barred j in
+    let s = entry b in
+    patched-right (s .pre .0) (b .bars-of .ensures) (s .pre .1) (j .judge-cover .ensures) (t .table .given) (k .chain-cover .ensures)))

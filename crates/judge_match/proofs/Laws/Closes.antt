@@ -7,6 +7,7 @@ use mathlib.Core.List.{List, [], _∷_, _++_}
 use native.Mathlib.Omega.{arith}
 use lib.ListN.{length, getD}
 use borrow.Author.Tests.{not-true, not-false}
+use Rattle.base_limits.specs.Limits as limits
 use Rattle.surface_rules.specs.Threes.{threes}
 use Rattle.surface_rules.proofs.Laws.Tests.{both-true}
 use Rattle.cover_rules.specs.Covers.{Triangle, on, vertexOf}
@@ -14,8 +15,9 @@ use Rattle.cover_rules.specs.Workings.Matching.{In, Parted}
 use Rattle.cover_rules.proofs.Laws.Listed.{in-cases}
 use Rattle.cover_rules.proofs.Laws.Closed.{covered-parts}
 use Rattle.cover_bits.specs.Workings.Masks.{bit}
+use Rattle.judge_seat.specs.declared.Seat.{Seat}
 use Rattle.judge_seat.specs.declared.Seat.the-variants.{Of, Not}
-use Rattle.judge_seat.specs.Workings.Seats.{Ringed, Threes, SeatFound, tripleAt}
+use Rattle.judge_seat.specs.Workings.Seats.{Ringed, Threes, SeatOf, SeatFound, tripleAt}
 use Rattle.judge_seat.proofs.Laws.Places.{different}
 use Rattle.judge_seat.proofs.Laws.Passed.{Passed, passed-none, passed-room, passed-all, passed-in, passed-more}
 use Rattle.judge_seat.proofs.Laws.Seated.{seatless}
@@ -29,35 +31,35 @@ pub record Closing (corners stamps : List ℕ) (base : ℕ) (rows : List ℕ) (q
   pub parted : (ring : List ℕ) → Ringed ring base stamps → Held (length ring) (vertexOf ring) (threes corners) rows
       → (t : Triangle) → In t front → Parted (length ring) (vertexOf ring) (threes corners) t
 
-pub closing-begins : (corners stamps : List ℕ) (base : ℕ) (rows : List ℕ) → Threes corners → Closing corners stamps base rows 0
-closing-begins corners stamps base rows t = record { front = []; passed = passed-none corners t; parted = λ ring h z x g. absurd g }
+pub closing-begins : {corners stamps : List ℕ} {base : ℕ} {rows : List ℕ} → Threes corners → Closing corners stamps base rows 0
+closing-begins t = record { front = []; passed = passed-none t; parted = λ ring h z x g. absurd g }
 
-module _ (corners stamps : List ℕ) (base : ℕ) (rows : List ℕ) (q : ℕ) (g : Closing corners stamps base rows q) where
-  pub closing-room : q < length corners → q + 3 ≤ length corners
-  closing-room l = passed-room corners q (g .front) (g .passed) l
+module _ {corners stamps : List ℕ} {base : ℕ} {rows : List ℕ} {q : ℕ} (g : Closing corners stamps base rows q) where
+  pub closing-ends : length corners ≤ q → Closes corners stamps base rows true
+  closing-ends l = λ ring h z t n. g .parted ring h z t (subst (In t) (passed-all (g .passed) l) n)
 
-  pub closing-seatless : q < length corners → SeatFound corners q stamps base Not → Closes corners stamps base rows false
-  closing-seatless l f = λ ring h z. seatless corners stamps base q (g .front) (g .passed) l f ring h
+  module _ (l : q < length corners) where
+    pub closing-room : q + 3 ≤ length corners
+    closing-room = passed-room (g .passed) l
 
-  -- p and s tell whether the parts are set
-  module _ (i k m : ℕ) (l : q < length corners) (f : SeatFound corners q stamps base (Of i k m))
-      (p s : Bool) (ep : p ≡ bit (getD rows i 0) m) (es : s ≡ bit (getD rows m 0) k) where
-    pub closing-more : not (p && s) ≡ false → Closing corners stamps base rows (q + 3)
-    closing-more e = record {
-      front = g .front ++ (tripleAt corners q ∷ []);
-      passed = passed-more corners q (g .front) (g .passed) l;
-      parted = λ ring h z x n. ⊎-elim (g .parted ring h z x) (⊎-elim (λ d. subst (Parted (length ring) (vertexOf ring) (threes corners)) (sym d) (here ring h z)) absurd) (in-cases x (g .front) (tripleAt corners q ∷ []) n);
-    }
-      where
-        here : (ring : List ℕ) → Ringed ring base stamps → Held (length ring) (vertexOf ring) (threes corners) rows
+    module _ {a : Seat} (f : SeatFound corners q stamps base a) where
+      pub closing-seatless : a ≡ Not → Closes corners stamps base rows false
+      closing-seatless n = λ ring h z. seatless (g .passed) l f n ring h
+
+      -- p and s tell whether the parts are set
+      module _ {i k m : ℕ} (is : a ≡ Of i k m) {p s : Bool} (ep : p ≡ bit (getD rows i 0) m) (es : s ≡ bit (getD rows m 0) k) where
+        seat : (ring : List ℕ) → Ringed ring base stamps → SeatOf (length ring) (vertexOf ring) (tripleAt corners q) (Of i k m)
+        seat ring h = subst (SeatOf (length ring) (vertexOf ring) (tripleAt corners q)) is (f .seat ring h)
+
+        inside : (ring : List ℕ) → Ringed ring base stamps → (i < m) × (m < k) × (k < length ring) × (length ring ≤ limits.longest)
+        inside ring h = let y = seat ring h in (y .0 .low, y .0 .high, y .0 .to, h .few)
+
+        here : (ring : List ℕ) → Ringed ring base stamps → Held (length ring) (vertexOf ring) (threes corners) rows → not (p && s) ≡ false
             → Parted (length ring) (vertexOf ring) (threes corners) (tripleAt corners q)
-        here ring h z =
-            let y = f .seat ring h in
+        here ring h z e =
+            let y = seat ring h in
             let b = both-true p s (not-false (p && s) e) in
-            let o : i < m = y .0 .low in
-            let u : m < k = y .0 .high in
-            let r : k < length ring = y .0 .to in
-            let w = h .few in
+            let w = inside ring h in
             record {
               seat = on i k m;
               seated = y .0;
@@ -66,18 +68,21 @@ module _ (corners stamps : List ℕ) (base : ℕ) (rows : List ℕ) (q : ℕ) (g
               after = z .tells m k (omega arith) (omega arith) (sym es ∙ b .1);
             }
 
-    pub closing-stops : not (p && s) ≡ true → Closes corners stamps base rows false
-    closing-stops e = λ ring h z c v.
-        let y = f .seat ring h in
-        let o : i < m = y .0 .low in
-        let u : m < k = y .0 .high in
-        let r : k < length ring = y .0 .to in
-        let x = h .few in
-        let w = covered-parts (length ring) (vertexOf ring) (different ring base stamps h) (threes corners) c v (tripleAt corners q) (on i k m)
-        (passed-in corners q (g .front) (g .passed) l) (y .0) (y .1) in
-        true≢false
-        (sym (and-both p s (ep ∙ z .shows i m (omega arith) (omega arith) (w .0)) (es ∙ z .shows m k (omega arith) (omega arith) (w .1)))
-        ∙ not-true (p && s) e)
+        pub closing-more : not (p && s) ≡ false → Closing corners stamps base rows (q + 3)
+        closing-more e = record {
+          front = g .front ++ (tripleAt corners q ∷ []);
+          passed = passed-more (g .passed) l;
+          parted = λ ring h z x n.
+              ⊎-elim (g .parted ring h z x)
+              (⊎-elim (λ d. subst (Parted (length ring) (vertexOf ring) (threes corners)) (sym d) (here ring h z e)) absurd)
+              (in-cases x (g .front) (tripleAt corners q ∷ []) n);
+        }
 
-  pub closing-ends : length corners ≤ q → Closes corners stamps base rows true
-  closing-ends l = λ ring h z t n. g .parted ring h z t (subst (In t) (passed-all corners q (g .front) (g .passed) l) n)
+        pub closing-stops : not (p && s) ≡ true → Closes corners stamps base rows false
+        closing-stops e = λ ring h z c v.
+            let y = seat ring h in
+            let x = inside ring h in
+            let w = covered-parts (length ring) (vertexOf ring) (different h) (threes corners) c v (tripleAt corners q) (on i k m) (passed-in (g .passed) l) (y .0) (y .1) in
+            true≢false
+            (sym (and-both p s (ep ∙ z .shows i m (omega arith) (omega arith) (w .0)) (es ∙ z .shows m k (omega arith) (omega arith) (w .1)))
+            ∙ not-true (p && s) e)

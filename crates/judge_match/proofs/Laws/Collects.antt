@@ -8,8 +8,9 @@ use lib.ListN.{length, getD, set, length-set}
 use Rattle.base_limits.specs.Limits as limits
 use Rattle.cover_rules.specs.Covers.{Triangle, vertexOf}
 use Rattle.cover_bits.specs.Workings.Masks.{bit}
+use Rattle.judge_seat.specs.declared.Seat.{Seat}
 use Rattle.judge_seat.specs.declared.Seat.the-variants.{Of, Not}
-use Rattle.judge_seat.specs.Workings.Seats.{Ringed, Threes, SeatFound, tripleAt}
+use Rattle.judge_seat.specs.Workings.Seats.{Ringed, Threes, SeatOf, SeatFound, tripleAt}
 use Rattle.judge_seat.proofs.Laws.Places.{different}
 use Rattle.judge_seat.proofs.Laws.Seated.{seatless}
 use Rattle.judge_seat.proofs.Laws.Passed.{Passed, passed-none, passed-room, passed-all, passed-more}
@@ -23,33 +24,33 @@ pub record Collecting (corners stamps : List ℕ) (base : ℕ) (rows₀ : List �
   pub long : length rows ≡ limits.longest
   pub held : (ring : List ℕ) → Ringed ring base stamps → Held (length ring) (vertexOf ring) [] rows₀ → Held (length ring) (vertexOf ring) front rows
 
-pub collecting-begins : (corners stamps : List ℕ) (base : ℕ) (rows : List ℕ) → Threes corners → length rows ≡ limits.longest
+pub collecting-begins : {corners stamps : List ℕ} {base : ℕ} {rows : List ℕ} → Threes corners → length rows ≡ limits.longest
     → Collecting corners stamps base rows 0 rows
-collecting-begins corners stamps base rows t l =
-    record { front = []; passed = passed-none corners t; long = l; held = λ ring h g. g }
+collecting-begins t l = record { front = []; passed = passed-none t; long = l; held = λ ring h g. g }
 
-module _ (corners stamps : List ℕ) (base : ℕ) (rows₀ : List ℕ) (q : ℕ) (rows : List ℕ) (g : Collecting corners stamps base rows₀ q rows) where
-  pub collecting-room : q < length corners → q + 3 ≤ length corners
-  collecting-room l = passed-room corners q (g .front) (g .passed) l
-
-  pub collecting-stops : q < length corners → SeatFound corners q stamps base Not → Collects corners stamps base rows₀ rows false
-  collecting-stops l f = record { long = g .long; collects = λ ring h z. seatless corners stamps base q (g .front) (g .passed) l f ring h }
-
-  pub collecting-more : (i k m w : ℕ) → q < length corners → SeatFound corners q stamps base (Of i k m)
-      → ((j : ℕ) → j < limits.longest → bit w j ≡ (bit (getD rows i 0) j || eqb j k)) → Collecting corners stamps base rows₀ (q + 3) (set rows i w)
-  collecting-more i k m w l f b = record {
-    front = g .front ++ (tripleAt corners q ∷ []);
-    passed = passed-more corners q (g .front) (g .passed) l;
-    long = length-set rows i w ∙ g .long;
-    held = λ ring h z.
-        let y = f .seat ring h in
-        held-more (length ring) (vertexOf ring) (different ring base stamps h) (h .few) (g .front) rows (g .held ring h z)
-        (tripleAt corners q) i k m (y .0) (y .1) w b;
-  }
-
+module _ {corners stamps : List ℕ} {base : ℕ} {rows₀ : List ℕ} {q : ℕ} {rows : List ℕ} (g : Collecting corners stamps base rows₀ q rows) where
   pub collecting-ends : length corners ≤ q → Collects corners stamps base rows₀ rows true
   collecting-ends l = record {
     long = g .long;
     collects = λ ring h z.
-        subst (λ (s : List Triangle). Held (length ring) (vertexOf ring) s rows) (sym (passed-all corners q (g .front) (g .passed) l)) (g .held ring h z);
+        subst (λ (s : List Triangle). Held (length ring) (vertexOf ring) s rows) (sym (passed-all (g .passed) l)) (g .held ring h z);
   }
+
+  module _ (l : q < length corners) where
+    pub collecting-room : q + 3 ≤ length corners
+    collecting-room = passed-room (g .passed) l
+
+    module _ {a : Seat} (f : SeatFound corners q stamps base a) where
+      pub collecting-stops : a ≡ Not → Collects corners stamps base rows₀ rows false
+      collecting-stops n = record { long = g .long; collects = λ ring h z. seatless (g .passed) l f n ring h }
+
+      pub collecting-more : {i k m : ℕ} (w : ℕ) → a ≡ Of i k m → ((j : ℕ) → j < limits.longest → bit w j ≡ (bit (getD rows i 0) j || eqb j k))
+          → Collecting corners stamps base rows₀ (q + 3) (set rows i w)
+      collecting-more {i} {k} {m} w is b = record {
+        front = g .front ++ (tripleAt corners q ∷ []);
+        passed = passed-more (g .passed) l;
+        long = length-set rows i w ∙ g .long;
+        held = λ ring h z.
+            let y = subst (SeatOf (length ring) (vertexOf ring) (tripleAt corners q)) is (f .seat ring h) in
+            held-more (length ring) (vertexOf ring) (different h) (h .few) (g .front) rows (g .held ring h z) (tripleAt corners q) i k m (y .0) (y .1) w b;
+      }

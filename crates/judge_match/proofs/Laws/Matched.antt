@@ -1,5 +1,5 @@
 -- What the code reads is what the set is of the ring, and two readings of one set are equal.
-use Prim.Native.Nat.{ℕ, _-_, _<_}
+use Prim.Native.Nat.{ℕ, _-_, _<_, _≤_}
 use mathlib.Core.Path.{_≡_, refl, sym, ap, _∙_, subst}
 use mathlib.Core.Bool.{Bool, true, false, not, true≢false}
 use mathlib.Core.Logic.{⊎-elim}
@@ -22,7 +22,7 @@ use Rattle.judge_seat.proofs.Laws.Passed.{triples-length}
 use Rattle.judge_match.specs.declared.Match.{Match}
 use Rattle.judge_match.specs.declared.Match.the-variants.{NoCover, Barred, Allowed}
 use Rattle.judge_match.specs.Workings.Matching.{Matches}
-use Rattle.judge_match.specs.Workings.Rows.{Matchable, SidesFree, Held, Collects, Closes, Clashes}
+use Rattle.judge_match.specs.Workings.Rows.{Matchable, SidesFree, Held, Collected, Collects, Closed, Closes, Clashes}
 
 -- ---- one reading
 
@@ -47,86 +47,85 @@ matches-once ring barred s d Allowed Allowed p q = refl
 
 -- ---- the code's
 
-pub threes-of : (ring stamps : List ℕ) (base : ℕ) (bars set : List ℕ) → Matchable ring stamps base bars set → Threes set
-threes-of ring stamps base bars set p = record { triangles = length ring - 2; threes = p .long }
+pub threes-of : {ring stamps : List ℕ} {base : ℕ} {bars set : List ℕ} → Matchable ring stamps base bars set → Threes set
+threes-of {ring} p = record { triangles = length ring - 2; threes = p .long }
 
 -- what the code has to show
 abbrev pub Answers : List ℕ → List ℕ → List ℕ → Match → Type 0
 Answers ring bars set r = (barred : ℕ → ℕ → Bool) → Rows (length ring) barred bars → SidesFree (length ring) barred → Matches ring barred (threes set) r
 
-module _ (ring stamps : List ℕ) (base : ℕ) (bars set : List ℕ) (p : Matchable ring stamps base bars set) where
+module _ {ring stamps : List ℕ} {base : ℕ} {bars set : List ℕ} (p : Matchable ring stamps base bars set) {has₀ has : List ℕ} {t : Bool}
+    (sides : (vertex : ℕ → ℕ) → Held (length ring) vertex [] has₀) (collects : Collects set stamps base has₀ has t) where
   d : Different (length ring) (vertexOf ring)
-  d = different ring base stamps (p .ringed)
+  d = different (p .ringed)
+
+  collected : Collected ring (threes set) has t
+  collected = collects .collects ring (p .ringed) (sides (vertexOf ring))
 
   -- a triangle lies on no stretch
-  pub match-seatless : (has₀ has : List ℕ) (t : Bool) → ((vertex : ℕ → ℕ) → Held (length ring) vertex [] has₀) → Collects set stamps base has₀ has t
-      → not t ≡ true → Answers ring bars set NoCover
-  match-seatless has₀ has true s c e barred r f = absurd (true≢false (sym e))
-  match-seatless has₀ has false s c e barred r f = c .collects ring (p .ringed) (s (vertexOf ring))
+  pub match-seatless : not t ≡ true → Answers ring bars set NoCover
+  match-seatless e barred r f = subst (Collected ring (threes set) has) (not-true t e) collected
 
-  pub match-held : (has₀ has : List ℕ) (t : Bool) → ((vertex : ℕ → ℕ) → Held (length ring) vertex [] has₀) → Collects set stamps base has₀ has t
-      → not t ≡ false → Held (length ring) (vertexOf ring) (threes set) has
-  match-held has₀ has true s c e = c .collects ring (p .ringed) (s (vertexOf ring))
-  match-held has₀ has false s c e = absurd (true≢false e)
+  module _ (seated : not t ≡ false) where
+    held : Held (length ring) (vertexOf ring) (threes set) has
+    held = subst (Collected ring (threes set) has) (not-false t seated) collected
 
-  module _ (has : List ℕ) (held : Held (length ring) (vertexOf ring) (threes set) has) where
-    top-below : length ring - 1 < limits.longest
-    top-below = let l = p .many in let u = p .ringed .few in omega arith
+    whole : (2 < length ring) × (length ring ≤ limits.longest)
+    whole = (p .many, p .ringed .few)
 
-    -- the whole loop has no triangle
-    pub match-topless : (t : Bool) → t ≡ bit (getD has 0 0) (length ring - 1) → not t ≡ true → Answers ring bars set NoCover
-    match-topless t b e barred r f c v =
-        let l = p .many in
-        let w = covered-whole (length ring) (vertexOf ring) d (threes set) c v (omega arith) in
-        true≢false (sym (held .shows 0 (length ring - 1) (omega arith) top-below w) ∙ sym b ∙ not-true t e)
+    -- a part has no triangle
+    pub match-open : (v : Bool) → Closes set stamps base has v → not v ≡ true → Answers ring bars set NoCover
+    match-open v closes e barred r f = subst (Closed ring (threes set)) (not-true v e) (closes ring (p .ringed) held)
 
-    pub match-top : (t : Bool) → t ≡ bit (getD has 0 0) (length ring - 1) → not t ≡ false → Laid (length ring) (vertexOf ring) (threes set) 0 (length ring - 1)
-    match-top t b e = let l = p .many in held .tells 0 (length ring - 1) (omega arith) top-below (sym b ∙ not-false t e)
+    module _ {u : Bool} (b : u ≡ bit (getD has 0 0) (length ring - 1)) where
+      -- the whole loop has none
+      pub match-topless : not u ≡ true → Answers ring bars set NoCover
+      match-topless e barred r f c v =
+          let l = whole in
+          let w = covered-whole (length ring) (vertexOf ring) d (threes set) c v (omega arith) in
+          true≢false (sym (held .shows 0 (length ring - 1) (omega arith) (omega arith) w) ∙ sym b ∙ not-true u e)
 
-    -- a part has none
-    pub match-open : (t : Bool) → Closes set stamps base has t → not t ≡ true → Answers ring bars set NoCover
-    match-open true c e barred r f = absurd (true≢false (sym e))
-    match-open false c e barred r f = c ring (p .ringed) held
+      module _ (topped : not u ≡ false) (v : Bool) (closes : Closes set stamps base has v) (closed : not v ≡ false) where
+        top : Laid (length ring) (vertexOf ring) (threes set) 0 (length ring - 1)
+        top = let l = whole in held .tells 0 (length ring - 1) (omega arith) (omega arith) (sym b ∙ not-false u topped)
 
-    module _ (top : Laid (length ring) (vertexOf ring) (threes set) 0 (length ring - 1)) where
-      cover-of : (t : Bool) → Closes set stamps base has t → not t ≡ false → (c : Cover) × Covering ring (threes set) c
-      cover-of true c e =
-          closed-covered (length ring) (vertexOf ring) d (threes set) (c ring (p .ringed) held) (triples-length set (length ring - 2) (p .long)) top
-      cover-of false c e = absurd (true≢false e)
+        covered : (c : Cover) × Covering ring (threes set) c
+        covered =
+            closed-covered (length ring) (vertexOf ring) d (threes set) (subst (Closed ring (threes set)) (not-false v closed) (closes ring (p .ringed) held))
+            (triples-length set (length ring - 2) (p .long)) top
 
-      -- a stretch that is set and barred is no side, so it is used
-      pub match-barred : (t u : Bool) → Closes set stamps base has t → not t ≡ false → Clashes (length ring) has bars u → u ≡ true → Answers ring bars set Barred
-      match-barred t true c e x i barred r f =
-          let v = cover-of t c e in (
-            v .0,
-            v .1,
+        module _ (w : Bool) (clashes : Clashes (length ring) has bars w) where
+          -- a stretch that is set and barred is no side, so it is used
+          pub match-barred : w ≡ true → Answers ring bars set Barred
+          match-barred e barred r f = (
+            covered .0,
+            covered .1,
             x .0,
             x .1,
             ⊎-elim
                 (λ s. absurd (true≢false (sym held-bar ∙ ap (barred (x .0)) s ∙ f (x .0) (x .2))))
                 (λ w. w)
-                (laid-used (length ring) (vertexOf ring) d (threes set) (v .0) (v .1) (x .0) (x .1) (held .tells (x .0) (x .1) (omega (arith, x .2)) (x .3) (x .4))),
+                (laid-used (length ring) (vertexOf ring) d (threes set) (covered .0) (covered .1) (x .0) (x .1) (held .tells (x .0) (x .1) (omega (arith, x .2)) (x .3) (x .4))),
             held-bar,
           )
-        where
-          held-bar : barred (x .0) (x .1) ≡ true
-          held-bar = sym (r .tells (x .0) (x .1) (omega (arith, x .2)) (x .3)) ∙ x .5
-      match-barred t false c e x i barred r f = absurd (true≢false (sym i))
+            where
+              x : Clashes (length ring) has bars true
+              x = subst (Clashes (length ring) has bars) e clashes
 
-      pub match-allowed : (t u : Bool) → Closes set stamps base has t → not t ≡ false → Clashes (length ring) has bars u → u ≡ false → Answers ring bars set Allowed
-      match-allowed t true c e x i barred r f = absurd (true≢false i)
-      match-allowed t false c e x i barred r f =
-          let v = cover-of t c e in (
-            v .0,
-            v .1,
+              held-bar : barred (x .0) (x .1) ≡ true
+              held-bar = sym (r .tells (x .0) (x .1) (omega (arith, x .2)) (x .3)) ∙ x .5
+
+          pub match-allowed : w ≡ false → Answers ring bars set Allowed
+          match-allowed e barred r f = (
+            covered .0,
+            covered .1,
             record {
-              covers = v .1 .0;
-              free = λ a b w.
-                  let n = uses-in 0 (length ring - 1) (v .0) a b (v .1 .0) w in
-                  let l = p .many in
-                  let u = p .ringed .few in
+              covers = covered .1 .0;
+              free = λ a b k.
+                  let n = uses-in 0 (length ring - 1) (covered .0) a b (covered .1 .0) k in
+                  let l = whole in
                   sym (r .tells a b (omega arith) (omega arith))
-                  ∙ x a b (omega arith) (omega arith)
-                  (held .shows a b (omega arith) (omega arith) (used-laid (length ring) (vertexOf ring) d (threes set) (v .0) (v .1) a b w));
+                  ∙ subst (Clashes (length ring) has bars) e clashes a b (omega arith) (omega arith)
+                  (held .shows a b (omega arith) (omega arith) (used-laid (length ring) (vertexOf ring) d (threes set) (covered .0) (covered .1) a b k));
             },
           )

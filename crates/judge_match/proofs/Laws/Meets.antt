@@ -48,17 +48,17 @@ pub record Gathered (rows bars : List ℕ) (j both : ℕ) : Type 0 where
   pub met : (k : ℕ) → bit both k ≡ true → (a : ℕ) × (a < j) × (bit (getD rows a 0) k ≡ true) × (bit (getD bars a 0) k ≡ true)
   pub all : (a k : ℕ) → a < j → bit (getD rows a 0) k ≡ true → bit (getD bars a 0) k ≡ true → bit both k ≡ true
 
-pub gathered-none : (rows bars : List ℕ) → Gathered rows bars 0 0
-gathered-none rows bars = record {
+pub gathered-none : {rows bars : List ℕ} → Gathered rows bars 0 0
+gathered-none = record {
   fits = pow-pos limits.longest;
   met = λ k e. absurd (true≢false (sym e ∙ bit-zero k));
   all = λ a k l. absurd (omega arith);
 }
 
-pub gathered-more : (rows bars : List ℕ) (j both r : ℕ) → Gathered rows bars j both
+pub gathered-more : {rows bars : List ℕ} {j both r : ℕ} → Gathered rows bars j both
     → (r < 2 ^ limits.longest) × ((k : ℕ) → bit r k ≡ (bit both k || (bit (getD rows j 0) k && bit (getD bars j 0) k)))
     → Gathered rows bars (j + 1) r
-gathered-more rows bars j both r g h = record {
+gathered-more {rows} {bars} {j} {both} g h = record {
   fits = h .0;
   met = λ k e.
       ⊎-elim
@@ -76,8 +76,8 @@ gathered-more rows bars j both r g h = record {
 }
 
 -- once all rows but the last are gathered
-pub gathered-all : (n : ℕ) (rows bars : List ℕ) (j both : ℕ) → Gathered rows bars j both → j ≤ n - 1 → n ≤ j + 1 → Clashes n rows bars (ltb 0 both)
-gathered-all n rows bars j both g l m = go (ltb 0 both) refl
+pub gathered-all : {n : ℕ} {rows bars : List ℕ} {j both : ℕ} → Gathered rows bars j both → j ≤ n - 1 → n ≤ j + 1 → Clashes n rows bars (ltb 0 both)
+gathered-all {n} {rows} {bars} {j} {both} g l m = go (ltb 0 both) refl
   where
     go : (t : Bool) → ltb 0 both ≡ t → Clashes n rows bars t
     go true e =

@@ -30,12 +30,12 @@ pub record Sided (rows : List ℕ) (j : ℕ) : Type 0 where
   pub done : (a b : ℕ) → a < j → b < limits.longest → bit (getD rows a 0) b ≡ eqb b (suc a)
   pub clear : (a : ℕ) → j ≤ a → a < limits.longest → getD rows a 0 ≡ 0
 
-pub sided-none : (rows : List ℕ) → length rows ≡ limits.longest → ((j : ℕ) → j < limits.longest → getD rows j 0 ≡ 0) → Sided rows 0
-sided-none rows l z = record { long = l; done = λ a b h. absurd (omega arith); clear = λ a h. z a }
+pub sided-none : {rows : List ℕ} → length rows ≡ limits.longest → ((j : ℕ) → j < limits.longest → getD rows j 0 ≡ 0) → Sided rows 0
+sided-none l z = record { long = l; done = λ a b h. absurd (omega arith); clear = λ a h. z a }
 
-pub sided-more : (rows : List ℕ) (j w : ℕ) → Sided rows j → j < limits.longest
+pub sided-more : {rows : List ℕ} {j : ℕ} (w : ℕ) → Sided rows j → j < limits.longest
     → ((k : ℕ) → k < limits.longest → bit w k ≡ (bit 0 k || eqb k (j + 1))) → Sided (set rows j w) (j + 1)
-sided-more rows j w h l f = record {
+sided-more {rows} {j} w h l f = record {
   long = length-set rows j w ∙ h .long;
   done = λ a b m n. go a b m n (ℕ-discrete a j);
   clear = λ a m n. getD-set-other rows j a w 0 (λ e. omega arith) ∙ h .clear a (omega arith) n;
@@ -53,8 +53,8 @@ sided-more rows j w h l f = record {
     go a b m n (no e) = ap (λ (x : ℕ). bit x b) (getD-set-other rows j a w 0 e) ∙ h .done a b (omega arith) n
 
 -- the sides of a loop of n
-pub sided-all : (n : ℕ) (rows : List ℕ) (j : ℕ) → Sided rows j → n ≤ limits.longest → j ≤ n - 1 → n ≤ j + 1 → (vertex : ℕ → ℕ) → Held n vertex [] rows
-sided-all n rows j h few l m vertex = record { long = h .long; tells = λ a b p q. tell a b p q (decLt a j); shows = show }
+pub sided-all : {n : ℕ} {rows : List ℕ} {j : ℕ} → Sided rows j → n ≤ limits.longest → j ≤ n - 1 → n ≤ j + 1 → (vertex : ℕ → ℕ) → Held n vertex [] rows
+sided-all {n} {rows} {j} h few l m vertex = record { long = h .long; tells = λ a b p q. tell a b p q (decLt a j); shows = show }
   where
     tell : (a b : ℕ) → a < n → b < limits.longest → Dec (a < j) → bit (getD rows a 0) b ≡ true → Laid n vertex [] a b
     tell a b p q (yes r) e =

@@ -12,14 +12,14 @@ Inv-loop n has bars both₀ j₀ both j = (j ≤ n - 1) × Gathered has bars j b
 abbrev μ-loop : tie.MeasureT-loop
 μ-loop n has bars both₀ j₀ both j = n - j
 
-abbrev to-at-loop : tie.After-meet Inv-loop μ-loop → tie.At-loop Inv-loop μ-loop
-to-at-loop p = search
+abbrev here : tie.After-meet Inv-loop μ-loop → tie.At-loop Inv-loop μ-loop
+here m = search
 
 pub clash-spec : {M : Type 1} → statement M
 clash-spec =
     tie.close
     (tie.spec Inv-loop μ-loop
-    (λ c. (search needs, gathered-none _ _))
+    (λ c. (search needs, gathered-none))
     (λ c. search needs)
     (λ c. search needs)
     (λ c. search needs)
@@ -28,5 +28,5 @@ clash-spec =
     (λ c κs. search needs)
     (λ c. search needs)
     (λ c. search needs)
-    (λ c. (omega arith, gathered-more _ _ _ _ _ (to-at-loop c .loop .inv .1) (c .meet .ensures)))
+    (λ c. (omega arith, gathered-more (here c .loop .inv .1) (c .meet .ensures)))
     (λ c. search gathered-all))

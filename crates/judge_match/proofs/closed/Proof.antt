@@ -1,7 +1,7 @@
 -- Each triangle's two parts are asked for.
-use mathlib.Core.Path.{subst}
 use Rattle.judge_seat.specs.declared.Seat.the-variants.{Of}
-use Rattle.judge_seat.specs.Workings.Seats.{SeatFound}
+use Rattle.judge_seat.specs.Workings.Seats.{Fits}
+use Rattle.judge_seat.proofs.Laws.Seated.{seat-fits}
 use Prim.Native.Nat.{_-_}
 use lib.ListN.{length}
 use Rattle.judge_match.proofs.Laws.Closes.{Closing, closing-begins, closing-room, closing-seatless, closing-more, closing-stops, closing-ends}
@@ -16,71 +16,62 @@ Inv-loop set stamps base has q₀ q = Closing set stamps base has q
 abbrev μ-loop : tie.MeasureT-loop
 μ-loop set stamps base has q₀ q = length set - q
 
--- the seat that was found
-seat-found : (c : tie.After-known-told Inv-loop μ-loop)
-    → SeatFound (c .before .before .before .before .before .before .before .args .set .now) (c .before .before .before .before .before .loop .q) (c .before .before .before .before .before .before .before .args .stamps .now) (c .before .before .before .before .before .before .before .args .base) (Of (c .before .seat .given .0 .0) (c .before .seat .given .0 .1 .0) (c .before .seat .given .0 .1 .1 .0))
-seat-found c = subst (SeatFound _ _ _ _) (c .before .seat .given .1) (c .before .before .before .seat-at .ensures)
+-- where a turn begins, where its seat was found, where its positions are known, and where both its parts were asked for
+abbrev Turn : Type 0
+Turn = tie.In-loop Inv-loop μ-loop
 
-abbrev to-at-loop : tie.After-seat-at Inv-loop μ-loop → tie.At-loop Inv-loop μ-loop
-to-at-loop p = search
+abbrev Seated : Type 0
+Seated = tie.After-seat-at Inv-loop μ-loop
 
-abbrev to-turn : tie.After-seat-at Inv-loop μ-loop → tie.In-loop Inv-loop μ-loop
-to-turn p = search
+abbrev Known : Type 0
+Known = tie.After-known-told Inv-loop μ-loop
 
-abbrev to-after-is-set-arg : tie.After-is-set Inv-loop μ-loop → tie.After-is-set-arg Inv-loop μ-loop
-to-after-is-set-arg p = search
+abbrev Asked : Type 0
+Asked = tie.After-is-set2 Inv-loop μ-loop
 
-abbrev to-after-seat-at : tie.After-is-set Inv-loop μ-loop → tie.After-seat-at Inv-loop μ-loop
-to-after-seat-at p = search
+abbrev turn : Seated → Turn
+turn s = search
 
-abbrev to-at-loop-2 : tie.After-is-set Inv-loop μ-loop → tie.At-loop Inv-loop μ-loop
-to-at-loop-2 p = to-at-loop (to-after-seat-at p)
+abbrev seated : Known → Seated
+seated k = search
 
-abbrev to-after-is-set : tie.After-is-set2 Inv-loop μ-loop → tie.After-is-set Inv-loop μ-loop
-to-after-is-set p = search
+abbrev known : tie.After-is-set Inv-loop μ-loop → Known
+known a = search
 
-abbrev to-at-loop-3 : tie.After-is-set2 Inv-loop μ-loop → tie.At-loop Inv-loop μ-loop
-to-at-loop-3 p = to-at-loop-2 (to-after-is-set p)
+abbrev before : Asked → tie.After-is-set Inv-loop μ-loop
+before a = search
 
-abbrev to-turn-2 : tie.After-is-set Inv-loop μ-loop → tie.In-loop Inv-loop μ-loop
-to-turn-2 p = to-turn (to-after-seat-at p)
-
-abbrev to-turn-3 : tie.After-is-set2 Inv-loop μ-loop → tie.In-loop Inv-loop μ-loop
-to-turn-3 p = to-turn-2 (to-after-is-set p)
-
-abbrev to-after-is-set-arg-2 : tie.After-is-set2 Inv-loop μ-loop → tie.After-is-set-arg Inv-loop μ-loop
-to-after-is-set-arg-2 p = to-after-is-set-arg (to-after-is-set p)
+-- the positions stand within a row
+fits : (k : Known) → Fits (Of (k .before .seat .given .0 .0) (k .before .seat .given .0 .1 .0) (k .before .seat .given .0 .1 .1 .0))
+fits k = seat-fits (seated k .seat-at .ensures) (k .before .seat .given .1)
 
 pub closed-spec : {M : Type 1} → statement M
 closed-spec =
     tie.close
     (tie.spec Inv-loop μ-loop
     (λ c. search closing-begins)
-    (λ c κs. let start : tie.Start Inv-loop μ-loop = search in (closing-room _ _ _ _ _ (c .before .loop .inv) (c .loop-test .taken), start .pre .1))
+    (λ c κs. let s : tie.Start Inv-loop μ-loop = search in (closing-room (c .before .loop .inv) (c .loop-test .taken), s .pre .1))
     (λ c. search needs)
     (λ c. search needs)
+    (λ c. let s : Seated = search in let t = turn s in closing-seatless (t .before .loop .inv) (t .loop-test .taken) (s .seat-at .ensures) (c .enum-told .given .1))
+    (λ c. omega (arith, fits c))
+    (λ c. omega (arith, fits c))
+    (λ c κs. omega (arith, fits (search)))
+    (λ c. omega (arith, fits (search)))
+    (λ c. omega (arith, fits (search)))
+    (λ c κs. omega (arith, fits (known (search))))
     (λ c.
-    let after-seat-at : tie.After-seat-at Inv-loop μ-loop = search in
-    closing-seatless _ _ _ _ _ (to-at-loop after-seat-at .loop .inv) (to-turn after-seat-at .loop-test .taken)
-    (subst (SeatFound _ _ _ _) (c .enum-told .given .1) (after-seat-at .seat-at .ensures)))
-    (λ c. omega (arith, seat-found c .fits))
-    (λ c. omega (arith, seat-found c .fits))
-    (λ c κs. omega (arith, seat-found (c .before) .fits))
-    (λ c. omega (arith, seat-found (c .before .before) .fits))
-    (λ c. omega (arith, seat-found (c .before .before) .fits))
-    (λ c κs. let after-is-set : tie.After-is-set Inv-loop μ-loop = search in omega (arith, seat-found (to-after-is-set-arg after-is-set .before) .fits))
-    (λ c.
-    let after-is-set2 : tie.After-is-set2 Inv-loop μ-loop = search in
-    closing-stops _ _ _ _ _ (to-at-loop-3 after-is-set2 .loop .inv) _ _ _ (to-turn-3 after-is-set2 .loop-test .taken)
-    (seat-found (to-after-is-set-arg-2 after-is-set2 .before)) _ _ (to-after-is-set after-is-set2 .is-set .ensures) (c .before .is-set2 .ensures)
-    (c .if1 .taken))
-    (λ c.
-    let after-is-set2 : tie.After-is-set2 Inv-loop μ-loop = search in
-    omega (arith, closing-room _ _ _ _ _ (to-at-loop-3 after-is-set2 .loop .inv) (to-turn-3 after-is-set2 .loop-test .taken)))
+    let a : Asked = search in
+    let k = known (before a) in
+    let s = seated k in
+    let t = turn s in
+    closing-stops (t .before .loop .inv) (t .loop-test .taken) (s .seat-at .ensures) (k .before .seat .given .1) (before a .is-set .ensures) (a .is-set2 .ensures) (c .if1 .taken))
+    (λ c. let a : Asked = search in let t = turn (seated (known (before a))) in omega (arith, closing-room (t .before .loop .inv) (t .loop-test .taken)))
     (λ c. search needs)
     (λ c.
-    let after-is-set2 : tie.After-is-set2 Inv-loop μ-loop = search in
-    closing-more _ _ _ _ _ (to-at-loop-3 after-is-set2 .loop .inv) _ _ _ (to-turn-3 after-is-set2 .loop-test .taken)
-    (seat-found (to-after-is-set-arg-2 after-is-set2 .before)) _ _ (to-after-is-set after-is-set2 .is-set .ensures) (c .before .is-set2 .ensures)
-    (c .if1 .left))
+    let a : Asked = search in
+    let k = known (before a) in
+    let s = seated k in
+    let t = turn s in
+    closing-more (t .before .loop .inv) (t .loop-test .taken) (s .seat-at .ensures) (k .before .seat .given .1) (before a .is-set .ensures) (a .is-set2 .ensures) (c .if1 .left))
     (λ c. search closing-ends))

@@ -1,7 +1,7 @@
 -- Each triangle's seat is added to the rows.
-use mathlib.Core.Path.{subst}
 use Rattle.judge_seat.specs.declared.Seat.the-variants.{Of}
-use Rattle.judge_seat.specs.Workings.Seats.{SeatFound}
+use Rattle.judge_seat.specs.Workings.Seats.{Fits}
+use Rattle.judge_seat.proofs.Laws.Seated.{seat-fits}
 use Prim.Native.Nat.{_-_}
 use lib.ListN.{length}
 use Rattle.judge_match.proofs.Laws.Collects.{Collecting, collecting-begins, collecting-room, collecting-stops, collecting-more, collecting-ends}
@@ -16,44 +16,48 @@ Inv-loop set stamps base has₀ q₀ has q = Collecting set stamps base has₀ q
 abbrev μ-loop : tie.MeasureT-loop
 μ-loop set stamps base has₀ q₀ has q = length set - q
 
--- the seat that was found
-seat-found : (c : tie.After-known-told Inv-loop μ-loop)
-    → SeatFound (c .before .before .before .before .before .before .before .args .set .now) (c .before .before .before .before .before .loop .q) (c .before .before .before .before .before .before .before .args .stamps .now) (c .before .before .before .before .before .before .before .args .base) (Of (c .before .seat .given .0 .0) (c .before .seat .given .0 .1 .0) (c .before .seat .given .0 .1 .1 .0))
-seat-found c = subst (SeatFound _ _ _ _) (c .before .seat .given .1) (c .before .before .before .seat-at .ensures)
+-- where a turn begins, where its seat was found, and where its positions are known
+abbrev Turn : Type 0
+Turn = tie.In-loop Inv-loop μ-loop
 
-abbrev to-at-loop : tie.After-seat-at Inv-loop μ-loop → tie.At-loop Inv-loop μ-loop
-to-at-loop p = search
+abbrev Seated : Type 0
+Seated = tie.After-seat-at Inv-loop μ-loop
 
-abbrev to-turn : tie.After-seat-at Inv-loop μ-loop → tie.In-loop Inv-loop μ-loop
-to-turn p = search
+abbrev Known : Type 0
+Known = tie.After-known-told Inv-loop μ-loop
 
-abbrev to-after-seat-at : tie.After-with Inv-loop μ-loop → tie.After-seat-at Inv-loop μ-loop
-to-after-seat-at p = search
+abbrev turn : Seated → Turn
+turn s = search
 
-abbrev to-at-loop-2 : tie.After-with Inv-loop μ-loop → tie.At-loop Inv-loop μ-loop
-to-at-loop-2 p = to-at-loop (to-after-seat-at p)
+abbrev seated : Known → Seated
+seated k = search
 
-abbrev to-turn-2 : tie.After-with Inv-loop μ-loop → tie.In-loop Inv-loop μ-loop
-to-turn-2 p = to-turn (to-after-seat-at p)
+abbrev known : tie.After-with Inv-loop μ-loop → Known
+known w = search
+
+-- the positions stand within a row
+fits : (k : Known) → Fits (Of (k .before .seat .given .0 .0) (k .before .seat .given .0 .1 .0) (k .before .seat .given .0 .1 .1 .0))
+fits k = seat-fits (seated k .seat-at .ensures) (k .before .seat .given .1)
 
 pub collect-spec : {M : Type 1} → statement M
 collect-spec =
     tie.close
     (tie.spec Inv-loop μ-loop
     (λ c. search collecting-begins)
-    (λ c κs. let start : tie.Start Inv-loop μ-loop = search in (collecting-room _ _ _ _ _ _ (c .before .loop .inv) (c .loop-test .taken), start .pre .1))
+    (λ c κs. let s : tie.Start Inv-loop μ-loop = search in (collecting-room (c .before .loop .inv) (c .loop-test .taken), s .pre .1))
     (λ c. search needs)
+    (λ c. search needs)
+    (λ c. let s : Seated = search in let t = turn s in collecting-stops (t .before .loop .inv) (t .loop-test .taken) (s .seat-at .ensures) (c .enum-told .given .1))
+    (λ c. omega (arith, fits c))
+    (λ c. omega (arith, fits c))
+    (λ c κs. omega (arith, fits (search)))
+    (λ c. omega (arith, fits (search)))
+    (λ c. omega (arith, fits (search)))
+    (λ c. let t = turn (seated (known c)) in omega (arith, collecting-room (t .before .loop .inv) (t .loop-test .taken)))
     (λ c. search needs)
     (λ c.
-    let after-seat-at : tie.After-seat-at Inv-loop μ-loop = search in
-    collecting-stops _ _ _ _ _ _ (to-at-loop after-seat-at .loop .inv) (to-turn after-seat-at .loop-test .taken)
-    (subst (SeatFound _ _ _ _) (c .enum-told .given .1) (after-seat-at .seat-at .ensures)))
-    (λ c. omega (arith, seat-found c .fits))
-    (λ c. omega (arith, seat-found c .fits))
-    (λ c κs. omega (arith, seat-found (c .before) .fits))
-    (λ c. omega (arith, seat-found (c .before .before) .fits))
-    (λ c. omega (arith, seat-found (c .before .before) .fits))
-    (λ c. omega (arith, collecting-room _ _ _ _ _ _ (to-at-loop-2 c .loop .inv) (to-turn-2 c .loop-test .taken)))
-    (λ c. search needs)
-    (λ c. collecting-more _ _ _ _ _ _ (to-at-loop-2 c .loop .inv) _ _ _ _ (to-turn-2 c .loop-test .taken) (seat-found (c .before .before)) (c .with .ensures))
+    let k = known c in
+    let s = seated k in
+    let t = turn s in
+    collecting-more (t .before .loop .inv) (t .loop-test .taken) (s .seat-at .ensures) _ (k .before .seat .given .1) (c .with .ensures))
     (λ c. search collecting-ends))

@@ -12,14 +12,14 @@ Inv-loop n has₀ j₀ has j = (j ≤ n - 1) × Sided has j
 abbrev μ-loop : tie.MeasureT-loop
 μ-loop n has₀ j₀ has j = n - j
 
-abbrev to-at-loop : tie.After-with Inv-loop μ-loop → tie.At-loop Inv-loop μ-loop
-to-at-loop p = search
+abbrev here : tie.After-with Inv-loop μ-loop → tie.At-loop Inv-loop μ-loop
+here w = search
 
 pub sides-spec : {M : Type 1} → statement M
 sides-spec =
     tie.close
     (tie.spec Inv-loop μ-loop
-    (λ c. (search needs, sided-none _ (c .pre .1) (c .pre .2)))
+    (λ c. (search needs, sided-none (c .pre .1) (c .pre .2)))
     (λ c. search needs)
     (λ c. search needs)
     (λ c κs. search needs)
@@ -27,5 +27,5 @@ sides-spec =
     (λ c. search needs)
     (λ c. search needs)
     (λ c. search needs)
-    (λ c. (omega arith, sided-more _ _ _ (to-at-loop c .loop .inv .1) (omega arith) (c .with .ensures)))
+    (λ c. (omega arith, sided-more _ (here c .loop .inv .1) (omega arith) (c .with .ensures)))
     (λ c. search sided-all))

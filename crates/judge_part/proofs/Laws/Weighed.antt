@@ -11,6 +11,7 @@ use lib.ListN.{length, take}
 use Rattle.base_answers.specs.declared.Answer.{Answer}
 use Rattle.base_answers.specs.declared.Answer.the-variants.{Done, Uncovered, Barred, Heavy}
 use Rattle.base_limits.specs.Limits as limits
+use Rattle.base_limits.specs.States as stated
 use Rattle.surface_rules.specs.Threes.{threes}
 use Rattle.cover_rules.specs.Covers.{Cover, Allowed}
 use Rattle.cover_weight.specs.Weight.{Coordinates}
@@ -35,12 +36,12 @@ use Rattle.judge_sight.specs.Workings.Findings.{right, fault}
 use Rattle.judge_part.specs.Workings.Parts.{PartRoom, FindsCover, WeightRoom, FindsWeight}
 
 -- the part at the set's front is a cover
-part-cover : (ring part set : List ℕ) (c : Cover) → share ring ≤ length set → part ≡ take (share ring) set → Covering ring (threes part) c → IsCover ring set c
-part-cover ring part set c t e h = record { there = t; covers = subst (λ (p : List ℕ). Covering ring (threes p) c) e h }
+part-cover : {ring part set : List ℕ} {c : Cover} → share ring ≤ length set → part ≡ take (share ring) set → Covering ring (threes part) c → IsCover ring set c
+part-cover {ring} {c = c} t e h = record { there = t; covers = subst (λ (p : List ℕ). Covering ring (threes p) c) e h }
 
 -- the other way round
-pub cover-part : (ring part set : List ℕ) (c : Cover) → part ≡ take (share ring) set → IsCover ring set c → Covering ring (threes part) c
-cover-part ring part set c e h = subst (λ (p : List ℕ). Covering ring (threes p) c) (sym e) (h .covers)
+pub cover-part : {ring part set : List ℕ} {c : Cover} → part ≡ take (share ring) set → IsCover ring set c → Covering ring (threes part) c
+cover-part {ring} {c = c} e h = subst (λ (p : List ℕ). Covering ring (threes p) c) (sym e) (h .covers)
 
 -- ---- an allowed cover and the least weight
 
@@ -80,10 +81,10 @@ module _ (grid : List ℤ) (ring part rows : List ℕ) (table : List Float) (roo
       weight-heavy lighter input before b set t e c h a =
           let x = least-is (Weight w) is input before b in
           fault
-          (too-heavy refl (declared-patched input before ring 1 refl (room .on .few))
+          (too-heavy refl (declared-patched input before ring stated.patched refl (room .on .few))
           (record {
             cover = c;
-            taken = part-cover ring part set c t e h;
+            taken = part-cover t e h;
             allowed = a;
             lighter = record {
               other = x .cover;
@@ -99,7 +100,7 @@ module _ (grid : List ℤ) (ring part rows : List ℕ) (table : List Float) (roo
       weight-right under input before b set t e c h a =
           let x = least-is (Weight w) is input before b in
           right refl
-          (patched refl (room .on .few) c (part-cover ring part set c t e h) a
+          (patched refl (room .on .few) c (part-cover t e h) a
           (λ y.
           let p : weightHere grid ring (y .other) < weightHere grid ring c = y .lighter in
           let z : v ≡ weightHere grid ring c = weight-of c h in
@@ -117,14 +118,14 @@ module _ (grid : List ℤ) (ring part stamps : List ℕ) (base : ℕ) (rows : Li
 
     pub match-none : (l : ℕ) → r ≡ matched.NoCover → FindsCover grid ring part l rows (Uncovered l)
     match-none l is input before b set t e =
-        fault (no-cover refl (declared-patched input before ring 1 refl (room .on .few)) (λ c h. match-as matched.NoCover is input before b c (cover-part ring part set c e h)))
+        fault (no-cover refl (declared-patched input before ring stated.patched refl (room .on .few)) (λ c h. match-as matched.NoCover is input before b c (cover-part e h)))
 
     pub match-barred : (l : ℕ) → r ≡ matched.Barred → FindsCover grid ring part l rows (Barred l)
     match-barred l is input before b set t e =
         let x = match-as matched.Barred is input before b in
         fault
-        (cover-barred refl (declared-patched input before ring 1 refl (room .on .few))
-        (record { cover = x .0; taken = part-cover ring part set (x .0) t e (x .1); from = x .2; to = x .3; used = x .4; barring = x .5 }))
+        (cover-barred refl (declared-patched input before ring stated.patched refl (room .on .few))
+        (record { cover = x .0; taken = part-cover t e (x .1); from = x .2; to = x .3; used = x .4; barring = x .5 }))
 
     module _ (is : r ≡ matched.Allowed) where
       pub match-room : WeightRoom grid ring part rows table

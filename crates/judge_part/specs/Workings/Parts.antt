@@ -7,6 +7,7 @@ use lib.ListN.{length, take}
 use lib.Ieee.{Float}
 use Rattle.base_answers.specs.declared.Answer.{Answer}
 use Rattle.base_limits.specs.Limits as limits
+use Rattle.base_limits.specs.States as stated
 use Rattle.surface_rules.specs.Threes.{threes}
 use Rattle.cover_rules.specs.Covers.{Cover, Allowed}
 use Rattle.cover_bars.specs.Bars.{barred}
@@ -33,7 +34,7 @@ pub record PartRoom (grid : List ℤ) (ring part stamps : List ℕ) (base : ℕ)
 abbrev pub FindsCover : List ℤ → List ℕ → List ℕ → ℕ → List ℕ → Answer → Type 0
 FindsCover grid ring part l rows a =
     (input before : List ℕ) → Barring (barred input before ring) ring rows → (set : List ℕ) → share ring ≤ length set → part ≡ take (share ring) set
-    → Finds grid input before l ring 1 set a
+    → Finds grid input before l ring stated.patched set a
 
 -- the part is an allowed cover by the rows' bars
 pub record WeightRoom (grid : List ℤ) (ring part rows : List ℕ) (table : List Float) : Type 0 where
@@ -52,4 +53,4 @@ abbrev pub FindsWeight : List ℤ → List ℕ → List ℕ → ℕ → List ℕ
 FindsWeight grid ring part l rows a =
     (input before : List ℕ) → Barring (barred input before ring) ring rows → (set : List ℕ) → share ring ≤ length set → part ≡ take (share ring) set
     → (c : Cover) → Covering ring (threes part) c → Allowed (barred input before ring) 0 (length ring - 1) c
-    → Finds grid input before l ring 1 set a
+    → Finds grid input before l ring stated.patched set a

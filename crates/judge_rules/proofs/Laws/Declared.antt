@@ -5,9 +5,10 @@ use Prim.Native.Nat.{ℕ, _≤_}
 use native.Mathlib.Omega.{arith}
 use lib.ListN.{length}
 use Rattle.base_limits.specs.Limits as limits
+use Rattle.base_limits.specs.States as stated
 use Rattle.judge_rules.specs.Faults.{WrongState, no-state, two-on-a-short, not-two-on-a-long, three-with-a-cover, DeclaredPatched}
 
-module _ (input laid ring : List ℕ) (state : ℕ) (one : state ≡ 1) (short : length ring ≤ limits.longest) where
+module _ (input laid ring : List ℕ) (state : ℕ) (one : state ≡ stated.patched) (short : length ring ≤ limits.longest) where
   one-not-wrong : WrongState input laid ring state → ⊥
   one-not-wrong (no-state x y z) = x one
   one-not-wrong (two-on-a-short e s) = omega arith

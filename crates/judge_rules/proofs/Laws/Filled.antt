@@ -11,6 +11,7 @@ use lib.IntN.{ℤ}
 use lib.ListN.{length, getD, take, drop, take-append-drop}
 use lib.Seq.{length-take-le}
 use borrow.Author.Tests.{eq-eqb, ne-eqb}
+use Rattle.base_limits.specs.States as stated
 use Rattle.fill_edges.specs.Filling.{FillsRing, nothing, cover, Filled}
 use Rattle.judge_rules.specs.Faults.{share, Right, patched, long, open-left, RightIf}
 use Rattle.judge_rules.specs.Verdicts.{taken, AllRight, parts}
@@ -19,20 +20,17 @@ use Rattle.judge_rules.proofs.Theorems.{RingsApart, rings-rest}
 -- ---- one loop
 
 module _ (ring : List ℕ) (state : ℕ) where
-  pub taken-patched : state ≡ 1 → taken ring state ≡ share ring
-  taken-patched e = ap (λ (t : Bool). cond t (share ring) 0) (eq-eqb state 1 e)
+  pub taken-patched : state ≡ stated.patched → taken ring state ≡ share ring
+  taken-patched e = ap (λ (t : Bool). cond t (share ring) 0) (eq-eqb state stated.patched e)
 
-  pub taken-none : (state ≡ 1 → ⊥) → taken ring state ≡ 0
-  taken-none n = ap (λ (t : Bool). cond t (share ring) 0) (ne-eqb state 1 n)
+  pub taken-none : (state ≡ stated.patched → ⊥) → taken ring state ≡ 0
+  taken-none n = ap (λ (t : Bool). cond t (share ring) 0) (ne-eqb state stated.patched n)
 
-  pub part-none : (set : List ℕ) → (state ≡ 1 → ⊥) → take (taken ring state) set ≡ []
+  pub part-none : (set : List ℕ) → (state ≡ stated.patched → ⊥) → take (taken ring state) set ≡ []
   part-none set n = ap (λ (k : ℕ). take k set) (taken-none n)
 
-not-one : (state : ℕ) → (state ≡ 2) ⊎ (state ≡ 3) → state ≡ 1 → ⊥
-not-one state h e = ⊎-elim (λ f. omega arith) (λ f. omega arith) h
-
 right-empty : (grid : List ℤ) (input laid ring : List ℕ) (state : ℕ) (set : List ℕ) → 3 ≤ length ring
-    → Right grid input laid ring state set → take (taken ring state) set ≡ [] → (state ≡ 2) ⊎ (state ≡ 3)
+    → Right grid input laid ring state set → take (taken ring state) set ≡ [] → (state ≡ stated.long) ⊎ (state ≡ stated.left-open)
 right-empty grid input laid ring state set n (patched e s c t a l) z =
     let f : length (take (taken ring state) set) ≡ share ring =
     ap (λ (k : ℕ). length (take k set)) (taken-patched ring state e) ∙ length-take-le (share ring) set (t .there) in
@@ -67,14 +65,14 @@ right-fills-if grid input laid false ring state set r = right-fills grid input l
 
 -- declared open, long or a rim
 abbrev pub OpenState : ℕ → Type 0
-OpenState s = (s ≡ 2) ⊎ ((s ≡ 3) ⊎ (s ≡ 4))
+OpenState s = (s ≡ stated.long) ⊎ ((s ≡ stated.left-open) ⊎ (s ≡ stated.rim))
 
 right-empty-if : (grid : List ℤ) (input laid : List ℕ) (k : Bool) (ring : List ℕ) (state : ℕ) (set : List ℕ) → 3 ≤ length ring → RightIf grid input laid k ring state set
     → take (taken ring state) set ≡ [] → OpenState state
 right-empty-if grid input laid true ring state set t e z = inr (inr e)
-right-empty-if grid input laid false ring state set t r z = ⊎-elim (λ (x : state ≡ 2). inl x) (λ (x : state ≡ 3). inr (inl x)) (right-empty grid input laid ring state set t r z)
+right-empty-if grid input laid false ring state set t r z = ⊎-elim (λ (x : state ≡ stated.long). inl x) (λ (x : state ≡ stated.left-open). inr (inl x)) (right-empty grid input laid ring state set t r z)
 
-not-open-one : (s : ℕ) → OpenState s → s ≡ 1 → ⊥
+not-open-one : (s : ℕ) → OpenState s → s ≡ stated.patched → ⊥
 not-open-one s (inl e) f = omega arith
 not-open-one s (inr (inl e)) f = omega arith
 not-open-one s (inr (inr e)) f = omega arith

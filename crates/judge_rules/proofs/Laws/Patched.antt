@@ -29,7 +29,7 @@ module _ (grid : List ℤ) (input laid ring : List ℕ) where
   meets-right long rest m = faults.long refl m
   meets-right uncovered rest m = faults.open-left refl (m .0) (m .1)
 
-  -- a rim lays nothing, takes nothing and is declared 4
+  -- a rim lays nothing, takes nothing and is declared a rim
   kept-taken : (k : Bool) (f : Fate) → Becomes grid input laid k ring f → length (lays ring f) ≡ taken ring (stateOf f)
   kept-taken true f e = rw e
   kept-taken false f m = lays-taken f m

@@ -18,8 +18,8 @@ pub record Passed (corners : List ℕ) (q : ℕ) (front : List Triangle) : Type 
   pub rest : q + 3 * left ≡ length corners
   pub whole : threes corners ≡ front ++ threes (drop q corners)
 
-pub passed-none : (corners : List ℕ) → Threes corners → Passed corners 0 []
-passed-none corners h = record { left = h .triangles; rest = omega (arith, h .threes); whole = refl }
+pub passed-none : {corners : List ℕ} → Threes corners → Passed corners 0 []
+passed-none h = record { left = h .triangles; rest = omega (arith, h .threes); whole = refl }
 
 at-next : (l : List ℕ) (j k : ℕ) → k ≡ suc j → j < length l → drop j l ≡ getD l j 0 ∷ drop k l
 at-next l j k e h = rw e (drop-cons l j 0 h)
@@ -31,7 +31,7 @@ three l q h =
     ∙ ap (λ (x : List ℕ). getD l q 0 ∷ x) (at-next l (q + 1) (q + 2) (omega arith) (omega arith))
     ∙ ap (λ (x : List ℕ). getD l q 0 ∷ (getD l (q + 1) 0 ∷ x)) (at-next l (q + 2) (q + 3) (omega arith) (omega arith)))
 
-module _ (corners : List ℕ) (q : ℕ) (front : List Triangle) (h : Passed corners q front) where
+module _ {corners : List ℕ} {q : ℕ} {front : List Triangle} (h : Passed corners q front) where
   pub passed-all : length corners ≤ q → threes corners ≡ front
   passed-all l = h .whole ∙ ap (λ (x : List ℕ). front ++ threes x) (drop-of-length-le corners l) ∙ append-nil front
 

@@ -18,7 +18,7 @@ use Rattle.judge_seat.proofs.Laws.Places.{different, lies-short, lies-a
 use Rattle.judge_seat.proofs.Laws.Passed.{Passed, passed-in}
 
 -- the corners x, y, z lie at the positions a, b, c
-module _ (set stamps : List ℕ) (base q a b c : ℕ)
+module _ (set : List ℕ) (q : ℕ) {stamps : List ℕ} {base a b c : ℕ}
     (p : (ring : List ℕ) → Ringed ring base stamps → Lies ring (getD set q 0) a)
     (r : (ring : List ℕ) → Ringed ring base stamps → Lies ring (getD set (q + 1) 0) b)
     (s : (ring : List ℕ) → Ringed ring base stamps → Lies ring (getD set (q + 2) 0) c) where
@@ -30,9 +30,9 @@ module _ (set stamps : List ℕ) (base q a b c : ℕ)
         let w = below (length ring) (y .0) u k (y .1) in
         let o = corners-of (tripleAt set q) (named (vertexOf ring) (y .0)) (y .2) in
         n (
-          lies-short ring base stamps h (getD set q 0) a (p ring h) (y .0 .first) (w .first-below) (o .0),
-          lies-short ring base stamps h (getD set (q + 1) 0) b (r ring h) (y .0 .second) (w .second-below) (o .1),
-          lies-short ring base stamps h (getD set (q + 2) 0) c (s ring h) (y .0 .third) (w .third-below) (o .2),
+          lies-short h (p ring h) (y .0 .first) (w .first-below) (o .0),
+          lies-short h (r ring h) (y .0 .second) (w .second-below) (o .1),
+          lies-short h (s ring h) (y .0 .third) (w .third-below) (o .2),
         );
   }
 
@@ -43,17 +43,17 @@ module _ (set stamps : List ℕ) (base q a b c : ℕ)
     module _ (ring : List ℕ) (h : Ringed ring base stamps) where
       on-loop : Below (length ring) (on a b c)
       on-loop = record {
-        first-below = lies-at ring base stamps h (getD set q 0) a (p ring h) la .0;
-        second-below = lies-at ring base stamps h (getD set (q + 1) 0) b (r ring h) lb .0;
-        third-below = lies-at ring base stamps h (getD set (q + 2) 0) c (s ring h) lc .0;
+        first-below = lies-at h (p ring h) la .0;
+        second-below = lies-at h (r ring h) lb .0;
+        third-below = lies-at h (s ring h) lc .0;
       }
 
       by-places : tripleAt set q ≡ named (vertexOf ring) (on a b c)
       by-places =
           by-corners (tripleAt set q) (named (vertexOf ring) (on a b c))
-          (lies-at ring base stamps h (getD set q 0) a (p ring h) la .1)
-          (lies-at ring base stamps h (getD set (q + 1) 0) b (r ring h) lb .1)
-          (lies-at ring base stamps h (getD set (q + 2) 0) c (s ring h) lc .1)
+          (lies-at h (p ring h) la .1)
+          (lies-at h (r ring h) lb .1)
+          (lies-at h (s ring h) lc .1)
 
     fits-of : (k : Seat) → SeatedAs (on a b c) k → Fits k
     fits-of (Of i k m) t = (t .0, t .1, below-alike limits.longest (on a b c) (on i k m) below-row (t .2) .second-below)
@@ -67,17 +67,20 @@ module _ (set stamps : List ℕ) (base q a b c : ℕ)
     seat-of ring h Not t =
         λ u k e.
         t u (k .low) (k .high)
-        (seat-alike (length ring) (vertexOf ring) (different ring base stamps h) (on a b c) u (on-loop ring h) k
+        (seat-alike (length ring) (vertexOf ring) (different h) (on a b c) u (on-loop ring h) k
         (subst (λ (x : Triangle). Alike x (named (vertexOf ring) u)) (by-places ring h) e))
 
     pub seat-turned : (k : Seat) → SeatedAs (on a b c) k → SeatFound set q stamps base k
     seat-turned k t = record { fits = fits-of k t; seat = λ ring h. seat-of ring h k t }
 
+-- the positions of a seat that was found
+pub seat-fits : {set : List ℕ} {q : ℕ} {stamps : List ℕ} {base : ℕ} {s : Seat} {i k m : ℕ} → SeatFound set q stamps base s → s ≡ Of i k m
+    → (i < m) × (m < k) × (k < limits.longest)
+seat-fits f e = subst Fits e (f .fits)
+
 -- a triangle of the set that has no seat
-pub seatless : (corners stamps : List ℕ) (base q : ℕ) (front : List Triangle) → Passed corners q front → q < length corners
-    → SeatFound corners q stamps base Not → (ring : List ℕ) → Ringed ring base stamps → (c : Cover) → Covering ring (threes corners) c → ⊥
-seatless corners stamps base q front p l f ring h c v =
-    let t = tripleAt corners q in
-    let d = different ring base stamps h in
-    let x = covered-seat (length ring) (vertexOf ring) d (threes corners) c v t (passed-in corners q front p l) in
-    f .seat ring h (x .0) (cover-seated (length ring) c (v .0) (x .0) (x .1)) (x .2)
+pub seatless : {corners stamps : List ℕ} {base q : ℕ} {front : List Triangle} → Passed corners q front → q < length corners
+    → {s : Seat} → SeatFound corners q stamps base s → s ≡ Not → (ring : List ℕ) → Ringed ring base stamps → (c : Cover) → Covering ring (threes corners) c → ⊥
+seatless {corners} {stamps} {base} {q} p l f e ring h c v =
+    let x = covered-seat (length ring) (vertexOf ring) (different h) (threes corners) c v (tripleAt corners q) (passed-in p l) in
+    subst (SeatFound corners q stamps base) e f .seat ring h (x .0) (cover-seated (length ring) c (v .0) (x .0) (x .1)) (x .2)

@@ -9,7 +9,7 @@ use Rattle.cover_rules.proofs.Laws.Sets.{corners-of}
 use Rattle.judge_seat.specs.declared.Seat.the-variants.{Of, Not}
 use Rattle.judge_seat.specs.Workings.Seats.{SeatedAs}
 
-module _ (a b c : ℕ) where
+module _ {a b c : ℕ} where
   pub from-first : a < c → c < b → SeatedAs (on a b c) (Of a b c)
   from-first l h = (l, h, inl refl)
 

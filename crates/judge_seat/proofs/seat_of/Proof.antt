@@ -10,7 +10,7 @@ seat-of-spec =
     (tie.spec
     (λ c. search from-first)
     (λ c. search from-second)
-    (λ c. from-none _ _ _ (λ x. omega arith) (λ x. omega arith) (λ x. omega arith))
+    (λ c. from-none (λ x. omega arith) (λ x. omega arith) (λ x. omega arith))
     (λ c. search from-third)
-    (λ c. from-none _ _ _ (λ x. omega arith) (λ x. omega arith) (λ x. omega arith))
-    (λ c. from-none _ _ _ (λ x. omega arith) (λ x. omega arith) (λ x. omega arith)))
+    (λ c. from-none (λ x. omega arith) (λ x. omega arith) (λ x. omega arith))
+    (λ c. from-none (λ x. omega arith) (λ x. omega arith) (λ x. omega arith)))

@@ -12,14 +12,14 @@ use Rattle.judge_rules.specs.Faults.{Right}
 use Rattle.judge_rules.proofs.Theorems.{fault-said}
 use Rattle.judge_sight.specs.Workings.Findings.{Finds, right, fault}
 
-module _ (grid : List ℤ) (input laid ring : List ℕ) (state : ℕ) (set : List ℕ) (l : ℕ) (a : Answer) where
-  pub done-right : Finds grid input laid l ring state set a → a ≡ Done → Right grid input laid ring state set
-  done-right (right e r) d = r
-  done-right (fault f) d = absurd (fault-said grid input laid l ring state set a f d)
+pub done-right : {grid : List ℤ} {input laid : List ℕ} {l : ℕ} {ring : List ℕ} {state : ℕ} {set : List ℕ} {a : Answer} → Finds grid input laid l ring state set a
+    → a ≡ Done → Right grid input laid ring state set
+done-right (right e r) d = r
+done-right (fault f) d = absurd (fault-said f d)
 
 -- the numbers of all answers but the first
 abbrev others : List ℕ
 others = 1 ∷ 2 ∷ 3 ∷ 4 ∷ 5 ∷ 6 ∷ 7 ∷ 8 ∷ 9 ∷ 10 ∷ 11 ∷ 12 ∷ 13 ∷ 14 ∷ 15 ∷ []
 
-pub not-done : (a : Answer) → OneOf others (tagOf the-type a) → a ≡ Done → ⊥
-not-done a h d = miss others 0 tt (subst (λ (x : Answer). OneOf others (tagOf the-type x)) d h)
+pub not-done : {a : Answer} → OneOf others (tagOf the-type a) → a ≡ Done → ⊥
+not-done h d = miss others 0 tt (subst (λ (x : Answer). OneOf others (tagOf the-type x)) d h)

@@ -10,6 +10,7 @@ use lib.ListN.{length, getD, take, drop, length-drop}
 use lib.Seq.{getD-take, getD-drop, length-take-le}
 use Rattle.base_answers.specs.declared.Answer.the-variants.{Done, Misdeclared, Uncovered}
 use Rattle.base_limits.specs.Limits as limits
+use Rattle.base_limits.specs.States as stated
 use Rattle.surface_rules.specs.Threes.{threes}
 use Rattle.surface_rules.proofs.Laws.Tests.{eq-or-not}
 use Rattle.cover_rules.specs.Covers.{Cover, empty, apex, Triangle, on, triangles, vertexOf, patchOf}
@@ -20,6 +21,7 @@ use Rattle.cover_rules.proofs.Laws.Sets.{by-corners}
 use Rattle.cover_bars.specs.Bars.{between}
 use Rattle.cover_bars.specs.Workings.Chains.{Tells}
 use Rattle.cover_bars.proofs.Laws.Triples.{ends-of, between-append, between-one}
+use Rattle.judge_seat.specs.Workings.Seats.{tripleAt}
 use Rattle.judge_seat.specs.Workings.Covering.{Covering}
 use Rattle.fill_fates.proofs.Laws.Three.{three-meets}
 use Rattle.fill_fates.proofs.Laws.Sides.{three-tells}
@@ -29,11 +31,11 @@ use Rattle.judge_sight.specs.Workings.Findings.{right, fault, SightRoom,
 
 -- ---- the long loop
 
-pub long-right : (state l : ℕ) → state ≡ 2 → (ring : List ℕ) → limits.longest < length ring → (set : List ℕ) (at : ℕ) → FindsAtSight ring state set at l Done
-long-right state l e ring n set at grid input laid = right refl (long e n)
+pub long-right : {state l : ℕ} → state ≡ stated.long → (ring : List ℕ) → limits.longest < length ring → (set : List ℕ) (at : ℕ) → FindsAtSight ring state set at l Done
+long-right e ring n set at grid input laid = right refl (long e n)
 
-pub long-wrong : (state l : ℕ) → (state ≡ 2 → ⊥) → (ring : List ℕ) → limits.longest < length ring → (set : List ℕ) (at : ℕ) → FindsAtSight ring state set at l (Misdeclared l)
-long-wrong state l e ring n set at grid input laid = fault (misdeclared refl (not-two-on-a-long e n))
+pub long-wrong : {state l : ℕ} → (state ≡ stated.long → ⊥) → (ring : List ℕ) → limits.longest < length ring → (set : List ℕ) (at : ℕ) → FindsAtSight ring state set at l (Misdeclared l)
+long-wrong e ring n set at grid input laid = fault (misdeclared refl (not-two-on-a-long e n))
 
 -- ---- one triangle
 
@@ -98,69 +100,65 @@ module _ (set : List ℕ) (at : ℕ) (room : at + 3 ≤ length set) where
   part-at : (i k : ℕ) → i < 3 → k ≡ at + i → getD set k 0 ≡ getD (take 3 (drop at set)) i 0
   part-at i k l e = ap (λ (z : ℕ). getD set z 0) e ∙ sym (getD-take 3 (drop at set) i 0 l ∙ getD-drop at set i 0)
 
-  part-lone : on (getD set at 0) (getD set (at + 1) 0) (getD set (at + 2) 0) ≡ lone (take 3 (drop at set))
+  part-lone : tripleAt set at ≡ lone (take 3 (drop at set))
   part-lone =
-      by-corners (on (getD set at 0) (getD set (at + 1) 0) (getD set (at + 2) 0)) (lone (take 3 (drop at set)))
+      by-corners (tripleAt set at) (lone (take 3 (drop at set)))
       (part-at 0 at (omega arith) (omega arith)) (part-at 1 (at + 1) (omega arith) refl) (part-at 2 (at + 2) (omega arith) refl)
 
-module _ (ring : List ℕ) (state : ℕ) (set : List ℕ) (at l : ℕ) (n : length ring ≡ 3) where
-  three-share : share ring ≡ 3
-  three-share = omega arith
-
+module _ (ring : List ℕ) (n : length ring ≡ 3) where
   short : length ring ≤ limits.longest
   short = omega arith
 
-  three-state : (grid : List ℤ) (input laid : List ℕ) → (state ≡ 1 → ⊥) → WrongState input laid ring state
-  three-state grid input laid e =
+  three-state : (grid : List ℤ) (input laid : List ℕ) (state : ℕ) → (state ≡ stated.patched → ⊥) → WrongState input laid ring state
+  three-state grid input laid state e =
       ⊎-elim
-      (λ (f : state ≡ 2). two-on-a-short f short)
-      (λ (f : state ≡ 2 → ⊥).
+      (λ (f : state ≡ stated.long). two-on-a-short f short)
+      (λ (f : state ≡ stated.long → ⊥).
       ⊎-elim
-      (λ (g : state ≡ 3). three-with-a-cover g (apex 1 empty empty) (three-meets grid input laid ring n .1 .among))
-      (λ (g : state ≡ 3 → ⊥). no-state e f g)
-      (eq-or-not state 3))
-      (eq-or-not state 2)
+      (λ (g : state ≡ stated.left-open). three-with-a-cover g (apex 1 empty empty) (three-meets grid input laid ring n .1 .among))
+      (λ (g : state ≡ stated.left-open → ⊥). no-state e f g)
+      (eq-or-not state stated.left-open))
+      (eq-or-not state stated.long)
 
-  pub three-wrong : (state ≡ 1 → ⊥) → FindsAtSight ring state set at l (Misdeclared l)
-  three-wrong e grid input laid = fault (misdeclared refl (three-state grid input laid e))
+  -- the corners that the loop takes
+  same-part : (rest : List ℕ) → take (share ring) rest ≡ take 3 rest
+  same-part rest = let e : share ring ≡ 3 = omega arith in ap (λ (k : ℕ). take k rest) e
 
-  module _ (one : state ≡ 1) where
+-- `set` and `at` are shown by nothing but what is left of the set
+module _ {ring : List ℕ} {state l : ℕ} (set : List ℕ) (at : ℕ) (n : length ring ≡ 3) where
+  pub three-wrong : (state ≡ stated.patched → ⊥) → FindsAtSight ring state set at l (Misdeclared l)
+  three-wrong e grid input laid = fault (misdeclared refl (three-state ring n grid input laid state e))
+
+  module _ (one : state ≡ stated.patched) where
     pub three-missing : length set - at < 3 → FindsAtSight ring state set at l (Uncovered l)
     three-missing m grid input laid =
         fault
-        (no-cover refl (declared-patched input laid ring state one short)
+        (no-cover refl (declared-patched input laid ring state one (short ring n))
         (λ c h.
         let e : length (drop at set) ≡ length set - at = length-drop at set in
         let t : 3 * (length ring - 2) ≤ length (drop at set) = h .there in
         omega arith))
 
     module _ (room : at + 3 ≤ length set) where
-      -- the corners that the loop takes
-      same-part : take (share ring) (drop at set) ≡ take 3 (drop at set)
-      same-part = ap (λ (k : ℕ). take k (drop at set)) three-share
-
-      abbrev found : Triangle
-      found = on (getD set at 0) (getD set (at + 1) 0) (getD set (at + 2) 0)
-
-      pub three-no-cover : WoundAgainst ring found false → FindsAtSight ring state set at l (Uncovered l)
+      pub three-no-cover : WoundAgainst ring (tripleAt set at) false → FindsAtSight ring state set at l (Uncovered l)
       three-no-cover a grid input laid =
           fault
-          (no-cover refl (declared-patched input laid ring state one short)
+          (no-cover refl (declared-patched input laid ring state one (short ring n))
           (λ c h.
           a
           (subst (λ (t : Triangle). Alike t (turnedRing ring)) (sym (part-lone set at room))
           (covering-alike ring n (take 3 (drop at set)) (part-long set at room) c
-          (subst (λ (p : List ℕ). Covering ring (threes p) c) same-part (h .covers))))))
+          (subst (λ (p : List ℕ). Covering ring (threes p) c) (same-part ring n (drop at set)) (h .covers))))))
 
-      pub three-right : WoundAgainst ring found true → FindsAtSight ring state set at l Done
+      pub three-right : WoundAgainst ring (tripleAt set at) true → FindsAtSight ring state set at l Done
       three-right a grid input laid =
           let m = three-meets grid input laid ring n .1 in
           right refl
-          (patched one short (apex 1 empty empty)
+          (patched one (short ring n) (apex 1 empty empty)
           (record {
             there = let t : 3 ≤ length (drop at set) = left-long set at room in omega arith;
             covers =
-                subst (λ (p : List ℕ). Covering ring (threes p) (apex 1 empty empty)) (sym same-part)
+                subst (λ (p : List ℕ). Covering ring (threes p) (apex 1 empty empty)) (sym (same-part ring n (drop at set)))
                 (alike-covering ring n grid (take 3 (drop at set)) (part-long set at room)
                 (subst (λ (t : Triangle). Alike t (turnedRing ring)) (part-lone set at room) a));
           })
@@ -169,8 +167,8 @@ module _ (ring : List ℕ) (state : ℕ) (set : List ℕ) (at l : ℕ) (n : leng
 
 -- ---- which of the two it is
 
-pub sight-three : (ring set : List ℕ) (at : ℕ) → SightRoom ring set at → length ring ≤ limits.longest → (length ring ≡ 3) × (at ≤ length set)
-sight-three ring set at h s = (⊎-elim (λ (e : length ring ≡ 3). e) (λ (e : limits.longest < length ring). omega arith) (h .sight), h .within)
+pub sight-three : {ring set : List ℕ} {at : ℕ} → SightRoom ring set at → length ring ≤ limits.longest → (length ring ≡ 3) × (at ≤ length set)
+sight-three {ring} h s = (⊎-elim (λ (e : length ring ≡ 3). e) (λ (e : limits.longest < length ring). omega arith) (h .sight), h .within)
 
 -- ---- the chains
 
@@ -193,11 +191,11 @@ alike-joins s t (inr (inr e)) u v =
     ∙ sym (between-one (t .first) (t .second) (t .third) u v)
 
 -- so the chains tell of a triangle that covers the loop of three, as they are
-pub three-told : (input laid ring : List ℕ) (e : ℕ) (heads links ends part : List ℕ) → length ring ≡ 3 → length laid % 3 ≡ 0
+pub three-told : {input laid heads links ends : List ℕ} {e : ℕ} (ring part : List ℕ) → length ring ≡ 3 → length laid % 3 ≡ 0
     → ((j : ℕ) → j + 1 < length ring → between input (getD ring j 0) (getD ring (j + 1) 0) ≡ true)
     → between input (getD ring (length ring - 1) 0) (getD ring 0 0) ≡ true
     → length part ≡ 3 → (c : Cover) → Covering ring (threes part) c → Tells input laid e heads links ends → Tells input (laid ++ part) e heads links ends
-three-told input laid ring e heads links ends part n whole sides closing k c h t =
+three-told {input} {laid} {heads} {links} {ends} {e} ring part n whole sides closing k c h t =
     let told = three-tells input laid ring e heads links ends n whole sides (subst (λ (z : ℕ). between input (getD ring z 0) (getD ring 0 0) ≡ true) (sym (far ring n)) closing) t in
     record {
       edges = told .edges;

@@ -1,4 +1,4 @@
--- `judge_long` asks for state 2.
+-- `judge_long` asks for the state long.
 use Rattle.judge_sight.proofs.Laws.Threes.{long-right, long-wrong}
 use Rattle.judge_sight.proofs.judge_long.Statement.{statement}
 use Rattle.judge_sight.proofs.judge_long.Tie as tie

@@ -1,30 +1,31 @@
--- `judge_three` asks for state 1 and for the one cover that there is.
+-- `judge_three` asks for the state patched and for the one cover that there is.
 use mathlib.Core.Path.{subst}
+use Prim.Native.Nat.{_+_, _≤_}
 use native.Mathlib.Omega.{arith}
+use lib.ListN.{length}
 use borrow.Author.Needs.{needs}
 use Rattle.judge_sight.specs.Workings.Findings.{WoundAgainst}
 use Rattle.judge_sight.proofs.Laws.Threes.{three-wrong, three-missing, three-right, three-no-cover}
 use Rattle.judge_sight.proofs.judge_three.Statement.{statement}
 use Rattle.judge_sight.proofs.judge_three.Tie as tie
 
-abbrev to-start : tie.After-is-against → tie.Start
-to-start p = search
+-- where three corners are there, and what lies behind it
+abbrev entry : tie.Else2 → tie.Start
+entry o = search
 
-abbrev to-else1 : tie.After-is-against → tie.Else1
-to-else1 p = search
+abbrev patched : tie.Else2 → tie.Else1
+patched o = search
 
-abbrev to-else2 : tie.After-is-against → tie.Else2
-to-else2 p = search
+there : (o : tie.Else2) → entry o .args .at + 3 ≤ length (entry o .args .set .now)
+there o = omega (arith, o .if2 .left, entry o .pre .1)
 
 pub judge-three-spec : {M : Type 1} → statement M
 judge-three-spec =
     tie.close
     (tie.spec
-    (λ c. let start : tie.Start = search in let x = start .args in three-wrong _ _ (x .set .now) (x .at) _ (start .pre .0) (c .if1 .taken))
+    (λ c. let s : tie.Start = search in let x = s .args in three-wrong (x .set .now) (x .at) (s .pre .0) (c .if1 .taken))
     (λ c. search needs)
-    (λ c.
-    let start : tie.Start = search in let x = start .args in
-    three-missing _ _ (x .set .now) (x .at) _ (start .pre .0) (c .before .if1 .left) (c .if2 .taken))
+    (λ c. let s : tie.Start = search in let x = s .args in three-missing (x .set .now) (x .at) (s .pre .0) (search) (c .if2 .taken))
     (λ c. search needs)
     (λ c. search needs)
     (λ c. search needs)
@@ -35,10 +36,10 @@ judge-three-spec =
     (λ c. search needs)
     (λ c κs. search needs)
     (λ c.
-    let after-is-against : tie.After-is-against = search in let start = to-start after-is-against in let x = start .args in
-    three-right _ _ (x .set .now) (x .at) _ (start .pre .0) (to-else1 after-is-against .if1 .left)
-    (omega (arith, (to-else2 after-is-against) .if2 .left, start .pre .1)) (subst (WoundAgainst _ _) (c .if3 .taken) (c .before .is-against .ensures)))
+    let o : tie.Else2 = search in
+    let x = entry o .args in
+    three-right (x .set .now) (x .at) (entry o .pre .0) (patched o .if1 .left) (there o) (subst (WoundAgainst _ _) (c .if3 .taken) (c .before .is-against .ensures)))
     (λ c.
-    let after-is-against : tie.After-is-against = search in let start = to-start after-is-against in let x = start .args in
-    three-no-cover _ _ (x .set .now) (x .at) _ (start .pre .0) (to-else1 after-is-against .if1 .left)
-    (omega (arith, (to-else2 after-is-against) .if2 .left, start .pre .1)) (subst (WoundAgainst _ _) (c .if3 .left) (c .before .is-against .ensures))))
+    let o : tie.Else2 = search in
+    let x = entry o .args in
+    three-no-cover (x .set .now) (x .at) (entry o .pre .0) (patched o .if1 .left) (there o) (subst (WoundAgainst _ _) (c .if3 .left) (c .before .is-against .ensures))))

@@ -1,7 +1,8 @@
 -- `judge_with` lists the loops apart, so that nothing is written before every check is done, marks the rims where the first half-edges stood, and
 -- hands the verdict the parts that were written.
 use mathlib.Core.Path.{_∙_, sym}
-use mathlib.Core.List.{[]}
+use mathlib.Core.List.{List, []}
+use Prim.Native.Nat.{ℕ}
 use borrow.Author.Needs.{needs}
 use Rattle.surface_rules.proofs.Laws.Lists.{as-long}
 use Rattle.survey_rules.specs.Outcome.{Buffers, buffers}
@@ -68,34 +69,39 @@ marks-marked c = search
 abbrev lent-here : tie.Start → Buffers
 lent-here c = buffers (c .args .grid .now) (c .args .rings .now) (c .args .lengths .now)
 
--- what is known once nothing is refused
-known-here : (c : tie.Else1)
+-- what is known once nothing is refused, of the table of turns that the check left
+abbrev known-here : (c : tie.Else1)
     → let s = entry (checked c) in
     let b = lent-here s in
-    Known (s .args .words .now) (s .args .corners .now) (checked c .before .check .last .1 .1 .1 .1 .0) (b .grid) (b .rings) (b .lengths) [] []
+    (table : List ℕ) × Known (s .args .words .now) (s .args .corners .now) table (b .grid) (b .rings) (b .lengths) [] []
 known-here c =
     let s = entry (checked c) in
     let b = lent-here s in
-    known _ _ _ (b .grid) (b .rings) (b .lengths) [] [] _ (s .pre .scratch .counts) (checked c .before .check .ensures) (sym (c .before .refuses .ensures) ∙ c .if1 .left)
+    let k = checked c .before .check .ensures in
+    (_, known _ _ _ (b .grid) (b .rings) (b .lengths) [] [] _ (s .pre .scratch .counts) k (sym (c .before .refuses .ensures) ∙ c .if1 .left))
+
+-- the loops as they were listed, and as they stand in the lent buffers
+abbrev surveyed : tie.After-lengths → tie.After-marks
+surveyed q = listed (counted (gridded (ringed q)))
 
 -- the parts of the buffers that were written are there
 grid-there : tie.Need-slice-reshare-prefix-mark
 grid-there c = let q : tie.After-lengths = search in let g = gridded (ringed q) in grid-in (entry (checked (passed (turns-listed (listed (counted g))))) .args .words .now) _ _ (g .before .lay-grid .ensures)
 
 rings-there : tie.Need-slice-reshare-prefix-mark-2
-rings-there c = let q : tie.After-lengths = search in rings-in (lists-laid (turns-listed (listed (counted (gridded (ringed q)))) .before .list-with .ensures .0) _ _ _ _ (ringed q .before .lay-front .ensures) (q .before .lay-front2 .ensures))
+rings-there c = let q : tie.After-lengths = search in rings-in (lists-laid (turns-listed (surveyed q) .before .list-with .ensures .0) _ _ _ _ (ringed q .before .lay-front .ensures) (q .before .lay-front2 .ensures))
 
 lengths-there : tie.Need-slice-reshare-prefix-mark-3
-lengths-there c = let q : tie.After-lengths = search in lengths-in (lists-laid (turns-listed (listed (counted (gridded (ringed q)))) .before .list-with .ensures .0) _ _ _ _ (ringed q .before .lay-front .ensures) (q .before .lay-front2 .ensures))
+lengths-there c = let q : tie.After-lengths = search in lengths-in (lists-laid (turns-listed (surveyed q) .before .list-with .ensures .0) _ _ _ _ (ringed q .before .lay-front .ensures) (q .before .lay-front2 .ensures))
 
 grid-still : tie.Need-slice-reshare-prefix-verdict
 grid-still c = let m : tie.After-turns3 = search in let g = gridded (ringed (laid m)) in grid-in (entry (checked (passed (turns-listed (listed (counted g))))) .args .words .now) _ _ (g .before .lay-grid .ensures)
 
 rings-still : tie.Need-slice-reshare-prefix-verdict-2
-rings-still c = let m : tie.After-turns3 = search in let q = laid m in rings-in (lists-laid (turns-listed (listed (counted (gridded (ringed q)))) .before .list-with .ensures .0) _ _ _ _ (ringed q .before .lay-front .ensures) (q .before .lay-front2 .ensures))
+rings-still c = let m : tie.After-turns3 = search in let q = laid m in rings-in (lists-laid (turns-listed (surveyed q) .before .list-with .ensures .0) _ _ _ _ (ringed q .before .lay-front .ensures) (q .before .lay-front2 .ensures))
 
 lengths-still : tie.Need-slice-reshare-prefix-verdict-3
-lengths-still c = let m : tie.After-turns3 = search in let q = laid m in lengths-in (lists-laid (turns-listed (listed (counted (gridded (ringed q)))) .before .list-with .ensures .0) _ _ _ _ (ringed q .before .lay-front .ensures) (q .before .lay-front2 .ensures))
+lengths-still c = let m : tie.After-turns3 = search in let q = laid m in lengths-in (lists-laid (turns-listed (surveyed q) .before .list-with .ensures .0) _ _ _ _ (ringed q .before .lay-front .ensures) (q .before .lay-front2 .ensures))
 
 pub judge-with-spec : {M : Type 1} → statement M
 judge-with-spec =
@@ -112,7 +118,7 @@ judge-with-spec =
     (t .before .check .ensures) (sym (c .before .before .refuses .ensures) ∙ c .before .if1 .taken))
     (λ c κs.
     let p : tie.Else1 = search in
-    let k = known-here p in
+    let k = known-here p .1 in
     let s = entry (checked p) in (
       ready k _ _ _ (still-long (s .pre .scratch .turns-long) (checked p .turns .given)) (s .pre .rings-long) (s .pre .lengths-long) (s .pre .marks-long),
       lent-long k _ _
@@ -128,12 +134,12 @@ judge-with-spec =
     (λ c.
     let n : tie.After-marks = search in
     let l = turns-listed n in
-    states-refuse _ _ _ _ (lent-here (entry (checked (passed l)))) (known-here (passed l)) _ _ _ _ _ _ _ (l .before .list-with .ensures .0) _ (c .refused2 .ensures)
+    states-refuse _ _ _ _ (lent-here (entry (checked (passed l)))) (known-here (passed l) .1) _ _ _ _ _ _ _ (l .before .list-with .ensures .0) _ (c .refused2 .ensures)
     (c .before .if2 .taken))
-    (λ c κs. let p : tie.Else2 = search in grid-ready (known-here (passed (turns-listed (listed p)))))
-    (λ c κs. let g : tie.After-grid = search in let l = turns-listed (listed (counted g)) in rings-room (known-here (passed l)) (l .before .list-with .ensures .0))
+    (λ c κs. let p : tie.Else2 = search in grid-ready (known-here (passed (turns-listed (listed p))) .1))
+    (λ c κs. let g : tie.After-grid = search in let l = turns-listed (listed (counted g)) in rings-room (known-here (passed l) .1) (l .before .list-with .ensures .0))
     (λ c κs.
-    let r : tie.After-rings = search in let l = turns-listed (listed (counted (gridded r))) in lengths-room (known-here (passed l))
+    let r : tie.After-rings = search in let l = turns-listed (listed (counted (gridded r))) in lengths-room (known-here (passed l) .1)
     (l .before .list-with .ensures .0))
     grid-there
     (λ c. as-long _ _ (grid-there (c .before)))
@@ -148,8 +154,8 @@ judge-with-spec =
     let l = turns-listed n in
     let p = passed l in
     let s = entry (checked p) in
-    mark-room (known-here p)
-    (lists-laid (turns-listed (listed (counted (gridded (ringed q)))) .before .list-with .ensures .0) _ _ _ _ (ringed q .before .lay-front .ensures)
+    mark-room (known-here p .1)
+    (lists-laid (turns-listed (surveyed q) .before .list-with .ensures .0) _ _ _ _ (ringed q .before .lay-front .ensures)
     (q .before .lay-front2 .ensures))
     (g .before .lay-grid .ensures) (l .before .list-with .ensures .1) (still-long (still-long (s .pre .scratch .turns-long) (checked p .turns .given)) (l .turns2 .given))
     (still-long (s .pre .scratch .path-long) (path-listed n .path .given)) (still-long (s .pre .scratch .pieces-long) (places-listed n .places .given)))
@@ -166,17 +172,17 @@ judge-with-spec =
     let e = counted g in
     let p = passed (turns-listed (listed e)) in
     let s = entry (checked p) in
-    verdict-room (s .args .words .now) (s .args .corners .now) (lent-here s) (known-here p)
-    (lists-laid (turns-listed (listed (counted (gridded (ringed q)))) .before .list-with .ensures .0) _ _ _ _ (ringed q .before .lay-front .ensures)
+    verdict-room (s .args .words .now) (s .args .corners .now) (lent-here s) (known-here p .1)
+    (lists-laid (turns-listed (surveyed q) .before .list-with .ensures .0) _ _ _ _ (ringed q .before .lay-front .ensures)
     (q .before .lay-front2 .ensures))
     (g .before .lay-grid .ensures) (m .before .mark .ensures) _ (e .if2 .left))
     (λ c.
-    let m = marked c in let l = turns-listed (listed (counted (gridded (ringed (laid m))))) in m .turns3 .given ∙ l .turns2 .given ∙ checked (passed l) .turns .given)
-    (λ c. let m = path-marked c in m .path2 .given ∙ path-listed (listed (counted (gridded (ringed (laid (m .before .before)))))) .path .given)
-    (λ c. let m = places-marked c in m .places2 .given ∙ places-listed (listed (counted (gridded (ringed (laid (m .before .before .before .before)))))) .places .given)
-    (λ c. found-listed (listed (counted (gridded (ringed (laid (marked c)))))) .found .given)
-    (λ c. sizes-listed (listed (counted (gridded (ringed (laid (marked c)))))) .sizes .given)
-    (λ c. let m = marks-marked c in m .marks2 .given ∙ listed (counted (gridded (ringed (laid (m .before .before .before .before .before .before))))) .marks .given)
+    let m = marked c in let l = turns-listed (surveyed (laid m)) in m .turns3 .given ∙ l .turns2 .given ∙ checked (passed l) .turns .given)
+    (λ c. let m = path-marked c in m .path2 .given ∙ path-listed (surveyed (laid (marked c))) .path .given)
+    (λ c. let m = places-marked c in m .places2 .given ∙ places-listed (surveyed (laid (marked c))) .places .given)
+    (λ c. found-listed (surveyed (laid (marked c))) .found .given)
+    (λ c. sizes-listed (surveyed (laid (marked c))) .sizes .given)
+    (λ c. let m = marks-marked c in m .marks2 .given ∙ surveyed (laid (marked c)) .marks .given)
     (λ c. gridded (ringed (laid (marked c))) .grid .given)
     (λ c. ringed (laid (marked c)) .rings .given)
     (λ c. laid (marked c) .lengths .given)
@@ -187,7 +193,7 @@ judge-with-spec =
     let e = counted g in
     let p = passed (turns-listed (listed e)) in
     let s = entry (checked p) in
-    judges (s .args .words .now) (s .args .corners .now) (lent-here s) (known-here p)
-    (lists-laid (turns-listed (listed (counted (gridded (ringed q)))) .before .list-with .ensures .0) _ _ _ _ (ringed q .before .lay-front .ensures)
+    judges (s .args .words .now) (s .args .corners .now) (lent-here s) (known-here p .1)
+    (lists-laid (turns-listed (surveyed q) .before .list-with .ensures .0) _ _ _ _ (ringed q .before .lay-front .ensures)
     (q .before .lay-front2 .ensures))
     (g .before .lay-grid .ensures) (m .before .mark .ensures) _ (e .if2 .left) _ _ (c .verdict .ensures)))

@@ -27,7 +27,7 @@ use Rattle.judge_seat.proofs.Laws.Passed.{Passed, passed-none, passed-room, pas
 use Rattle.judge_weigh.specs.Workings.Weighing.{namedWeight, setWeight, AllNamed}
 
 module _ (grid : List ℤ) where
-  pub weight-append : (s t : List Triangle) → setWeight grid (s ++ t) ≡ setWeight grid s + setWeight grid t
+  weight-append : (s t : List Triangle) → setWeight grid (s ++ t) ≡ setWeight grid s + setWeight grid t
   unfolding setWeight
   weight-append [] t = omega arith
   weight-append (x ∷ s) t = omega (arith, weight-append s t)
@@ -40,7 +40,7 @@ module _ (grid : List ℤ) where
   unfolding setWeight
   weight-cons t s = refl
 
-  pub alike-weight : (x y : Triangle) → Alike x y → namedWeight grid x ≡ namedWeight grid y
+  alike-weight : (x y : Triangle) → Alike x y → namedWeight grid x ≡ namedWeight grid y
   alike-weight x y (inl e) = ap (namedWeight grid) e
   alike-weight x y (inr (inl e)) =
       ap (namedWeight grid) e ∙ weight-turned (pointOf grid (y .first)) (pointOf grid (y .second)) (pointOf grid (y .third))
@@ -50,7 +50,7 @@ module _ (grid : List ℤ) where
       ∙ weight-turned (pointOf grid (y .first)) (pointOf grid (y .second)) (pointOf grid (y .third))
 
   -- any order, each begun at any corner
-  pub listed-weight : (ts s : List Triangle) → ListsTriangles s ts → setWeight grid s ≡ setWeight grid ts
+  listed-weight : (ts s : List Triangle) → ListsTriangles s ts → setWeight grid s ≡ setWeight grid ts
   listed-weight [] s h = ap (setWeight grid) h
   listed-weight (t ∷ ts) s h =
       omega (
@@ -105,37 +105,38 @@ pub record Weighed (grid : List ℤ) (corners : List ℕ) (q total : ℕ) : Type
   pub sum : total ≡ setWeight grid front
   pub most : total ≤ q * heaviest
 
-pub weighed-none : (grid : List ℤ) (corners : List ℕ) → Threes corners → Weighed grid corners 0 0
+pub weighed-none : {grid : List ℤ} {corners : List ℕ} → Threes corners → Weighed grid corners 0 0
 unfolding setWeight
-weighed-none grid corners h = record { front = []; passed = passed-none corners h; sum = refl; most = omega arith }
+weighed-none h = record { front = []; passed = passed-none h; sum = refl; most = omega arith }
 
 more : (q t w n : ℕ) → t ≤ q * n → w ≤ n → t + w ≤ (q + 3) * n
 more q t w n a b = le-trans (omega (arith, suc-mul q n)) (let l : suc q ≤ q + 3 = omega arith in mul-le-mul l (le-refl n))
 
-module _ (grid : List ℤ) (corners : List ℕ) (q total : ℕ) (near : Coordinates grid) (h : Weighed grid corners q total) where
-  pub weighed-room : q < length corners → q + 3 ≤ length corners
-  weighed-room l = passed-room corners q (h .front) (h .passed) l
-
+module _ {grid : List ℤ} {corners : List ℕ} {q total : ℕ} (h : Weighed grid corners q total) where
   pub weighed-ends : length corners ≤ q → total ≡ setWeight grid (threes corners)
-  weighed-ends l = h .sum ∙ ap (setWeight grid) (sym (passed-all corners q (h .front) (h .passed) l))
+  weighed-ends l = h .sum ∙ ap (setWeight grid) (sym (passed-all (h .passed) l))
 
-  module _ (w : ℕ) (e : w ≡ namedWeight grid (tripleAt corners q)) where
-    one-most : w ≤ heaviest
-    one-most =
-        subst (λ (x : ℕ). x ≤ heaviest) (sym e)
-        (weight-most _ _ _ (named-on-grid grid near (tripleAt corners q .first), named-on-grid grid near (tripleAt corners q .second), named-on-grid grid near (tripleAt corners q .third)))
+  module _ (l : q < length corners) where
+    pub weighed-room : q + 3 ≤ length corners
+    weighed-room = passed-room (h .passed) l
 
-    sum-most : total + w ≤ (q + 3) * heaviest
-    sum-most = more q total w heaviest (h .most) one-most
+    -- the triangle at q weighs w
+    module _ (near : Coordinates grid) {w : ℕ} (e : w ≡ namedWeight grid (tripleAt corners q)) where
+      one-most : w ≤ heaviest
+      one-most =
+          subst (λ (x : ℕ). x ≤ heaviest) (sym e)
+          (weight-most _ _ _ (named-on-grid grid near (tripleAt corners q .first), named-on-grid grid near (tripleAt corners q .second), named-on-grid grid near (tripleAt corners q .third)))
 
-    pub weighed-fits : q < length corners → length corners ≤ 3 * limits.longest → Fits w64 (total + w)
-    weighed-fits l few =
-        record { fits = lt-of-le-of-lt (le-trans sum-most (mul-le-mul (le-trans (weighed-room l) few) (le-refl heaviest))) (lit< tt) }
+      sum-most : total + w ≤ (q + 3) * heaviest
+      sum-most = more q total w heaviest (h .most) one-most
 
-    pub weighed-more : q < length corners → Weighed grid corners (q + 3) (total + w)
-    weighed-more l = record {
-      front = h .front ++ (tripleAt corners q ∷ []);
-      passed = passed-more corners q (h .front) (h .passed) l;
-      sum = omega (arith, h .sum, weight-append grid (h .front) (tripleAt corners q ∷ []), weight-one grid (tripleAt corners q));
-      most = sum-most;
-    }
+      pub weighed-fits : length corners ≤ 3 * limits.longest → Fits w64 (total + w)
+      weighed-fits few = record { fits = lt-of-le-of-lt (le-trans sum-most (mul-le-mul (le-trans weighed-room few) (le-refl heaviest))) (lit< tt) }
+
+      pub weighed-more : Weighed grid corners (q + 3) (total + w)
+      weighed-more = record {
+        front = h .front ++ (tripleAt corners q ∷ []);
+        passed = passed-more (h .passed) l;
+        sum = omega (arith, h .sum, weight-append grid (h .front) (tripleAt corners q ∷ []), weight-one grid (tripleAt corners q));
+        most = sum-most;
+      }

@@ -14,7 +14,7 @@ use Rattle.surface_rules.proofs.Laws.Smallest.{least-at, never-least}
 use Rattle.loop_rules.specs.Loops.{startsAt}
 use Rattle.loop_cut.specs.Workings.Growing.{Sought}
 
-module _ (corners path : List ℕ) (depth : ℕ) (places : List ℕ) (x : ℕ) (s : Sought corners path depth places x) where
+module _ {corners path : List ℕ} {depth : ℕ} {places : List ℕ} {x : ℕ} (s : Sought corners path depth places x) where
   n : length (take depth path) ≡ depth
   n = length-take-le depth path (s .long)
 

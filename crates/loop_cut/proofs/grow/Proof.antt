@@ -6,8 +6,9 @@ use borrow.Author.Needs.{needs}
 use Rattle.loop_cut.proofs.grow.Statement.{statement}
 use Rattle.loop_cut.proofs.grow.Tie as tie
 
-abbrev to-start : tie.After-starts-at → tie.Start
-to-start p = search
+-- where the edge that closes a loop was looked for, and the function's entry behind it
+abbrev entry : tie.After-starts-at → tie.Start
+entry s = search
 
 pub grow-spec : {M : Type 1} → statement M
 grow-spec =
@@ -19,10 +20,8 @@ grow-spec =
     (λ c. search needs)
     (λ c. search needs)
     (λ c. search needs)
-    (λ c.
-    let start : tie.Start = search in let after-shared-slice-known : tie.After-shared-slice-known = search in
-    omega (arith, start-named _ _ _ _ _ _ _ _ _ (start .pre), after-shared-slice-known .shared-slice-known .given (start .args .e)))
-    (λ c. let start : tie.Start = search in omega (arith, start-named _ _ _ _ _ _ _ _ _ (start .pre)))
+    (λ c. let s : tie.Start = search in let k : tie.After-shared-slice-known = search in omega (arith, start-named (s .pre), k .shared-slice-known .given (s .args .e)))
+    (λ c. let s : tie.Start = search in omega (arith, start-named (s .pre)))
     (λ c. search start-named)
     (λ c. search needs)
     (λ c. search needs)
@@ -32,9 +31,7 @@ grow-spec =
     (λ c. search needs)
     (λ c. search needs)
     (λ c. search needs)
-    (λ c κs.
-    let after-starts-at : tie.After-starts-at = search in let after-found : tie.After-found = search in
-    cut-room _ _ _ _ _ _ _ _ _ (to-start after-starts-at .pre) _ (sym (after-found .found .given .1) ∙ after-starts-at .starts-at .ensures))
+    (λ c κs. let s : tie.After-starts-at = search in let f : tie.After-found = search in cut-room (entry s .pre) (sym (f .found .given .1) ∙ s .starts-at .ensures))
     (λ c. search needs)
     (λ c. search needs)
     (λ c. search grew-on)

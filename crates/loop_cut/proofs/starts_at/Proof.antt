@@ -7,9 +7,13 @@ use borrow.Author.Needs.{needs}
 use Rattle.loop_cut.proofs.starts_at.Statement.{statement}
 use Rattle.loop_cut.proofs.starts_at.Tie as tie
 
--- the edge at the place of x is one of the surface
-inside : (c : tie.After-shared-slice-known2) → getD (c .before .before .before .args .path .now) (getD (c .before .before .before .args .places .now) (c .before .before .before .args .x) 0) 0 < length (c .before .before .before .args .corners .now)
-inside c = c .before .before .before .pre .edges _ (c .before .if1 .left)
+-- where the place of x is one of the path, and the function's entry behind it
+abbrev entry : tie.Else1 → tie.Start
+entry e = search
+
+-- the edge there is one of the surface
+inside : (e : tie.Else1) → getD (entry e .args .path .now) (getD (entry e .args .places .now) (entry e .args .x) 0) 0 < length (entry e .args .corners .now)
+inside e = entry e .pre .edges _ (e .if1 .left)
 
 pub starts-at-spec : {M : Type 1} → statement M
 starts-at-spec =
@@ -21,8 +25,8 @@ starts-at-spec =
     (λ c. search seek-past)
     (λ c. search needs)
     (λ c. search needs)
-    (λ c. omega (arith, inside c))
-    (λ c. omega (arith, inside c))
-    (λ c. inside (c .before))
+    (λ c. omega (arith, inside (search)))
+    (λ c. omega (arith, inside (search)))
+    (λ c. inside (search))
     (λ c. search seek-found)
     (λ c. search seek-other))

@@ -27,6 +27,19 @@ pub record Sought (corners path : List ℕ) (depth : ℕ) (places : List ℕ) (x
 
 -- ---- the listing
 
+-- where the loops are listed: their rings, their lengths and their first half-edges
+pub record Ledger : Type 0 where
+  pub rings : List ℕ
+  pub lengths : List ℕ
+  pub firsts : List ℕ
+
+abbrev pub ledger : List ℕ → List ℕ → List ℕ → Ledger
+ledger rings lengths firsts = record { rings = rings; lengths = lengths; firsts = firsts }
+
+-- the loops ls are listed there, over what it was
+abbrev pub ListsIn : List ℕ → List (List ℕ) → Ledger → Listed → Ledger → Type 0
+ListsIn corners ls w₀ at w = ListsLoops corners ls (w₀ .rings) (w₀ .lengths) (w₀ .firsts) at (w .rings) (w .lengths) (w .firsts)
+
 -- the path's edges from j up to `end`
 abbrev pub part : List ℕ → ℕ → ℕ → List ℕ
 part path j end = drop j (take end path)
@@ -37,26 +50,25 @@ pub record RingRoom (corners path : List ℕ) (j end : ℕ) (rings : List ℕ) (
   pub edges : (i : ℕ) → i < end → getD path i 0 < length corners
   pub room : from + (end - j) ≤ length rings
 
-pub record CutRoom (corners path : List ℕ) (j end : ℕ) (rings lengths firsts : List ℕ) (at : Listed) : Type 0 where
+pub record CutRoom (corners path : List ℕ) (j end : ℕ) (w : Ledger) (at : Listed) : Type 0 where
   pub some : j < end
   pub few : end ≤ limits.corners
-  pub ring : RingRoom corners path j end rings (at .vertices)
-  pub lengths-room : at .loops < length lengths
-  pub firsts-room : at .loops < length firsts
+  pub ring : RingRoom corners path j end (w .rings) (at .vertices)
+  pub lengths-room : at .loops < length (w .lengths)
+  pub firsts-room : at .loops < length (w .firsts)
 
 -- the part of the path from j is listed behind whatever loops were
-pub record WasCut (corners path : List ℕ) (j end : ℕ) (at : Listed) (rings lengths firsts : List ℕ) (r : Listed) (rings′ lengths′ firsts′ : List ℕ) : Type 0 where
+pub record WasCut (corners path : List ℕ) (j end : ℕ) (at : Listed) (w : Ledger) (r : Listed) (w′ : Ledger) : Type 0 where
   pub back : r .path ≡ j
-  pub lists : (ls : List (List ℕ)) (rings₀ lengths₀ firsts₀ : List ℕ) → ListsLoops corners ls rings₀ lengths₀ firsts₀ at rings lengths firsts
-      → ListsLoops corners (ls ++ (part path j end ∷ [])) rings₀ lengths₀ firsts₀ r rings′ lengths′ firsts′
+  pub lists : (ls : List (List ℕ)) (w₀ : Ledger) → ListsIn corners ls w₀ at w → ListsIn corners (ls ++ (part path j end ∷ [])) w₀ r w′
 
 -- the path and the listing are those of t
-pub record Stands (corners : List ℕ) (t : Split) (rings lengths firsts path : List ℕ) (at : Listed) (rings′ lengths′ firsts′ : List ℕ) : Type 0 where
+pub record Stands (corners : List ℕ) (t : Split) (w₀ : Ledger) (path : List ℕ) (at : Listed) (w : Ledger) : Type 0 where
   pub depth : at .path ≡ length (t .path)
   pub along : take (at .path) path ≡ t .path
-  pub lists : ListsLoops corners (t .listed) rings lengths firsts at rings′ lengths′ firsts′
+  pub lists : ListsIn corners (t .listed) w₀ at w
 
-pub record GrowRoom (corners : List ℕ) (e f : ℕ) (path places rings lengths firsts : List ℕ) (at : Listed) : Type 0 where
+pub record GrowRoom (corners : List ℕ) (e f : ℕ) (path places : List ℕ) (w : Ledger) (at : Listed) : Type 0 where
   pub few : length corners ≤ limits.corners
   pub edge : e < length corners
   pub after : f ≡ following e
@@ -66,12 +78,11 @@ pub record GrowRoom (corners : List ℕ) (e f : ℕ) (path places rings lengths 
   pub new : (i : ℕ) → i < at .path → startOf corners (getD path i 0) ≡ startOf corners e → ⊥
   pub deep : at .path < length corners
   pub path-room : at .path < length path
-  pub rings-room : at .vertices + (at .path + 1) ≤ length rings
-  pub lengths-room : (j : ℕ) → startsAt corners (take (at .path) path ++ (e ∷ [])) (endOf corners e) ≡ At j → at .loops < length lengths
-  pub firsts-room : (j : ℕ) → startsAt corners (take (at .path) path ++ (e ∷ [])) (endOf corners e) ≡ At j → at .loops < length firsts
+  pub rings-room : at .vertices + (at .path + 1) ≤ length (w .rings)
+  pub lengths-room : (j : ℕ) → startsAt corners (take (at .path) path ++ (e ∷ [])) (endOf corners e) ≡ At j → at .loops < length (w .lengths)
+  pub firsts-room : (j : ℕ) → startsAt corners (take (at .path) path ++ (e ∷ [])) (endOf corners e) ≡ At j → at .loops < length (w .firsts)
 
 -- whatever stood there has grown by e
-pub record Grew (corners : List ℕ) (e : ℕ) (path : List ℕ) (at : Listed) (rings lengths firsts path′ places′ : List ℕ) (r : Listed) (rings′ lengths′ firsts′ : List ℕ) : Type 0 where
+pub record Grew (corners : List ℕ) (e : ℕ) (path : List ℕ) (at : Listed) (w : Ledger) (path′ places′ : List ℕ) (r : Listed) (w′ : Ledger) : Type 0 where
   pub kept : Path corners path′ (r .path) places′
-  pub stands : (t : Split) (rings₀ lengths₀ firsts₀ : List ℕ) → Stands corners t rings₀ lengths₀ firsts₀ path at rings lengths firsts
-      → Stands corners (grow corners t e) rings₀ lengths₀ firsts₀ path′ r rings′ lengths′ firsts′
+  pub stands : (t : Split) (w₀ : Ledger) → Stands corners t w₀ path at w → Stands corners (grow corners t e) w₀ path′ r w′

@@ -12,8 +12,8 @@ use Rattle.surface_rules.specs.Edges.{Sound, following, twin}
 use Rattle.surface_twins.specs.Workings.Turns.{openMark}
 use Rattle.loop_rules.specs.Loops.{leads, loopsBelow}
 use Rattle.loop_rules.proofs.Laws.Surfaces.{edgesBelow}
-use Rattle.loop_cut.specs.Listing.{ListsLoops}
 use Rattle.loop_cut.specs.declared.Listed.{Listed}
+use Rattle.loop_cut.specs.Workings.Growing.{Ledger, ledger, ListsIn}
 use Rattle.loop_leaders.specs.Workings.Leading.{walkedMark}
 
 -- ---- the table of turns, in which walked edges are marked
@@ -39,27 +39,37 @@ KeepsTurns corners turns = (walked : List ℕ) × Turned corners walked turns
 
 -- ---- the cycles
 
+-- what is lent for the walk: the table of turns, the path with the places of its points, and where the loops are listed
+pub record Walk : Type 0 where
+  pub turns : List ℕ
+  pub path : List ℕ
+  pub places : List ℕ
+  pub ledger : Ledger
+
+abbrev pub walk : List ℕ → List ℕ → List ℕ → List ℕ → List ℕ → List ℕ → Walk
+walk turns path places rings lengths firsts = record { turns = turns; path = path; places = places; ledger = ledger rings lengths firsts }
+
 -- what all cycles ask for
-pub record Room (corners turns path places rings lengths firsts : List ℕ) : Type 0 where
+pub record Room (corners : List ℕ) (w : Walk) : Type 0 where
   pub sound : Sound corners
   pub few : length corners ≤ limits.corners
-  pub named : (i : ℕ) → i < length corners → getD corners i 0 < length places
-  pub turns-long : length corners ≤ length turns
-  pub path-long : length corners ≤ length path
-  pub rings-long : length corners ≤ length rings
-  pub lengths-long : length corners / 3 ≤ length lengths
-  pub firsts-long : length corners / 3 ≤ length firsts
+  pub named : (i : ℕ) → i < length corners → getD corners i 0 < length (w .places)
+  pub turns-long : length corners ≤ length (w .turns)
+  pub path-long : length corners ≤ length (w .path)
+  pub rings-long : length corners ≤ length (w .ledger .rings)
+  pub lengths-long : length corners / 3 ≤ length (w .ledger .lengths)
+  pub firsts-long : length corners / 3 ≤ length (w .ledger .firsts)
 
 -- h is the first edge of a cycle, all smaller cycles were walked, and their loops are listed
-pub record CycleRoom (corners : List ℕ) (h : ℕ) (turns path places rings lengths firsts : List ℕ) (from : Listed) : Type 0 where
-  pub room : Room corners turns path places rings lengths firsts
+pub record CycleRoom (corners : List ℕ) (h : ℕ) (w : Walk) (from : Listed) : Type 0 where
+  pub room : Room corners w
   pub edge : h < length corners
   pub leading : leads corners h ≡ true
-  pub turned : Turned corners (edgesBelow corners h) turns
+  pub turned : Turned corners (edgesBelow corners h) (w .turns)
   pub no-path : from .path ≡ 0
-  pub lists : ListsLoops corners (loopsBelow corners h) rings lengths firsts from rings lengths firsts
+  pub lists : ListsIn corners (loopsBelow corners h) (w .ledger) from (w .ledger)
 
-pub record CycleListed (corners : List ℕ) (h : ℕ) (rings lengths firsts turns′ : List ℕ) (r : Listed) (rings′ lengths′ firsts′ : List ℕ) : Type 0 where
+pub record CycleListed (corners : List ℕ) (h : ℕ) (w : Ledger) (turns′ : List ℕ) (r : Listed) (w′ : Ledger) : Type 0 where
   pub turned : Turned corners (edgesBelow corners (suc h)) turns′
   pub no-path : r .path ≡ 0
-  pub lists : ListsLoops corners (loopsBelow corners (suc h)) rings lengths firsts r rings′ lengths′ firsts′
+  pub lists : ListsIn corners (loopsBelow corners (suc h)) w r w′

@@ -32,10 +32,6 @@ quiet-join turns h i j a b k l m = ⊎-elim (λ (d : k < i). a k l d) (λ (d : i
 pub quiet-after : (turns : List ℕ) (h i : ℕ) → Quiet turns h i → getD turns h 0 < openMark → openMark ≤ getD turns i 0 → h ≤ i → h < i
 quiet-after turns h i q l m w = ⊎-elim (λ (e : h ≡ i). absurd (let b : getD turns i 0 < openMark = subst (λ (z : ℕ). getD turns z 0 < openMark) e l in omega arith)) (λ (d : h < i). d) (eq-or-lt-of-le w)
 
--- one half-edge alone
-pub quiet-one : (turns : List ℕ) (h : ℕ) → getD turns h 0 < openMark → Quiet turns h (h + 1)
-quiet-one turns h l = quiet-more turns h h (quiet-none turns h) l
-
 -- while all were quiet
 pub all-quiet : (turns : List ℕ) (h i : ℕ) (all : Bool) → (all ≡ true → Quiet turns h i) → (all && ltb (getD turns i 0) openMark) ≡ true → Quiet turns h (i + 1)
 all-quiet turns h i true q e = quiet-more turns h i (q refl) (ltb-true _ _ e)

@@ -24,5 +24,5 @@ is-quiet-spec =
     (λ c. search needs)
     (λ c. search needs)
     (λ c. search needs)
-    (λ c. let at-loop : tie.At-loop Inv-loop μ-loop = search in (search needs, search needs, all-quiet _ _ _ _ (at-loop .loop .inv .2)))
+    (λ c. let l : tie.At-loop Inv-loop μ-loop = search in (search needs, search needs, all-quiet _ _ _ _ (l .loop .inv .2)))
     (λ c. quiet-end _ _ _ _ _ (c .before .loop .inv .2) (search needs)))

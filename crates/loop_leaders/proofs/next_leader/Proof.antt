@@ -12,8 +12,9 @@ Inv-loop turns h n i₀ i = (h ≤ i) × (i ≤ n) × Quiet turns h i
 abbrev μ-loop : tie.MeasureT-loop
 μ-loop turns h n i₀ i = n - i
 
-abbrev to-start : tie.After-skip-quiet Inv-loop μ-loop → tie.Start Inv-loop μ-loop
-to-start p = search
+-- where the quiet eights end, and the function's entry behind it
+abbrev entry : tie.After-skip-quiet Inv-loop μ-loop → tie.Start Inv-loop μ-loop
+entry s = search
 
 pub next-leader-spec : {M : Type 1} → statement M
 next-leader-spec =
@@ -24,13 +25,10 @@ next-leader-spec =
     (λ c. search needs)
     (λ c. search needs)
     (λ c.
-    let at-loop : tie.At-loop Inv-loop μ-loop = search in
-    let after-skip-quiet : tie.After-skip-quiet Inv-loop μ-loop = search in (
-      quiet-after _ _ _ (at-loop .loop .inv .2) (to-start after-skip-quiet .pre .2) (c .if1 .taken) (at-loop .loop .inv .0),
-      search needs,
-      at-loop .loop .inv .2,
-    ))
+    let l : tie.At-loop Inv-loop μ-loop = search in
+    let s : tie.After-skip-quiet Inv-loop μ-loop = search in
+    (quiet-after _ _ _ (l .loop .inv .2) (entry s .pre .2) (c .if1 .taken) (l .loop .inv .0), search needs, l .loop .inv .2))
     (λ c. search needs)
     (λ c. search needs)
-    (λ c. let at-loop : tie.At-loop Inv-loop μ-loop = search in (search needs, search needs, quiet-more _ _ _ (at-loop .loop .inv .2) (c .if1 .left)))
+    (λ c. let l : tie.At-loop Inv-loop μ-loop = search in (search needs, search needs, quiet-more _ _ _ (l .loop .inv .2) (c .if1 .left)))
     (λ c. (search needs, search needs, c .before .loop .inv .2)))

@@ -13,8 +13,9 @@ Inv-loop turns h n i₀ i = (h ≤ i) × (i ≤ n) × Quiet turns h i
 abbrev μ-loop : tie.MeasureT-loop
 μ-loop turns h n i₀ i = n - i
 
-abbrev to-at-loop : tie.After-is-quiet Inv-loop μ-loop → tie.At-loop Inv-loop μ-loop
-to-at-loop p = search
+-- where eight were looked at, and the loop behind it
+abbrev loop : tie.After-is-quiet Inv-loop μ-loop → tie.At-loop Inv-loop μ-loop
+loop q = search
 
 pub skip-quiet-spec : {M : Type 1} → statement M
 skip-quiet-spec =
@@ -26,7 +27,5 @@ skip-quiet-spec =
     (λ c. search needs)
     (λ c. search needs)
     (λ c. search needs)
-    (λ c.
-    let after-is-quiet : tie.After-is-quiet Inv-loop μ-loop = search in
-    (search needs, search needs, quiet-join _ _ _ _ (to-at-loop after-is-quiet .loop .inv .2) (c .before .is-quiet .ensures (not-false _ (c .if1 .left)))))
+    (λ c. (search needs, search needs, quiet-join _ _ _ _ (loop (c .before) .loop .inv .2) (c .before .is-quiet .ensures (not-false _ (c .if1 .left)))))
     (λ c. search needs))

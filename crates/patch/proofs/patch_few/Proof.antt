@@ -12,7 +12,7 @@ patch-few-spec =
     (λ c. search needs)
     (λ c. search needs)
     (λ c. search needs)
-    (λ c κs. let s : tie.Start = search in scratch-few _ _ _ _ _ (s .pre .0) (s .pre .1) (s .pre .2) (lit≤ tt) (lit≤ tt) (lit≤ tt))
+    (λ c κs. let s : tie.Start = search in scratch-few (s .pre .0) (s .pre .1) (s .pre .2) (lit≤ tt) (lit≤ tt) (lit≤ tt))
     (λ c. search needs)
     (λ c. search needs)
     (λ c. search needs)

@@ -12,7 +12,7 @@ patch-many-spec =
     (λ c. search needs)
     (λ c. search needs)
     (λ c. search needs)
-    (λ c κs. let start : tie.Start = search in scratch-most _ _ _ _ _ (start .pre) (lit≤ tt) (lit≤ tt) (lit≤ tt))
+    (λ c κs. let s : tie.Start = search in scratch-most (s .pre) (lit≤ tt) (lit≤ tt) (lit≤ tt))
     (λ c. search needs)
     (λ c. search needs)
     (λ c. search needs)

@@ -13,110 +13,97 @@ use Rattle.fill_fates.specs.Fates.{rim}
 use Rattle.fill_fates.specs.Course.{laidBy}
 use Rattle.fill_scratch.specs.Workings.Rings.{Loops, RingPlace, rimMark}
 use Rattle.fill_scratch.proofs.Laws.Reading.{as-many, length-at, ring-at, places-of}
-use Rattle.patch_all.specs.Workings.Courses.{Lent, CourseRoom, Ran, RanAll}
+use Rattle.patch_all.specs.Workings.Courses.{Docket, docket, Lent, CourseRoom, Ran, CourseDone}
 use Rattle.patch_all.proofs.Laws.Courses.{ran-begins, becomes-rim, states-in, weights-in, ran-more, laid-next, ran-all}
 
-pub record Going (grid : List ℤ) (input rings lengths states₀ weights₀ patches₀ : List ℕ) (l r p : ℕ) (states weights patches : List ℕ) : Type 0 where
-  pub states-kept : length states ≡ length states₀
-  pub weights-kept : length weights ≡ length weights₀
-  pub patches-kept : length patches ≡ length patches₀
-  pub ran : (rims : List Bool) (rs : List (List ℕ)) → Loops grid input rs rings lengths → Lent rims rs states₀ weights₀ patches₀ → Ran grid input rims rs states₀ weights₀ patches₀ l r p states weights patches
+-- the loop is one of the rings', and the next one's ring begins behind its own
+module _ {grid : List ℤ} {input : List ℕ} {rs : List (List ℕ)} {rings lengths : List ℕ} (s : Loops grid input rs rings lengths) {l : ℕ} where
+  pub listed : l < length lengths → l < length rs
+  listed h = let a : length lengths ≡ length rs = as-many grid input rs rings lengths s in omega arith
 
-module _ {grid : List ℤ} {input rings lengths states₀ weights₀ patches₀ : List ℕ} where
-  pub going-begins : Going grid input rings lengths states₀ weights₀ patches₀ 0 0 0 states₀ weights₀ patches₀
+  pub read-on : l < length rs → (r : ℕ) → r + getD lengths l 0 ≡ r + length (getD rs l [])
+  read-on k r = ap (λ (x : ℕ). r + x) (length-at grid input rs rings lengths s l k)
+
+-- the first l loops ran, whatever loops they are
+abbrev pub Runs : List ℤ → List ℕ → List ℕ → List ℕ → Docket → ℕ → ℕ → ℕ → Docket → Type 0
+Runs grid input rings lengths c₀ l r p c =
+    (rims : List Bool) (rs : List (List ℕ)) → Loops grid input rs rings lengths → Lent rims rs c₀ → Ran grid input rims rs c₀ l r p c
+
+pub record Going (grid : List ℤ) (input rings lengths : List ℕ) (c₀ : Docket) (l r p : ℕ) (c : Docket) : Type 0 where
+  pub states-kept : length (c .states) ≡ length (c₀ .states)
+  pub weights-kept : length (c .weights) ≡ length (c₀ .weights)
+  pub patches-kept : length (c .patches) ≡ length (c₀ .patches)
+  pub ran : Runs grid input rings lengths c₀ l r p c
+
+-- the docket once the state and the weight of loop l are written, and the patches are these
+abbrev pub written : Docket → ℕ → ℕ → ℕ → List ℕ → Docket
+written c l state weight patches = docket (set (c .states) l state) (set (c .weights) l weight) patches
+
+module _ {grid : List ℤ} {input rings lengths : List ℕ} {c₀ : Docket} where
+  pub going-begins : Going grid input rings lengths c₀ 0 0 0 c₀
   going-begins = record { states-kept = refl; weights-kept = refl; patches-kept = refl; ran = λ rims rs s n. ran-begins s n }
 
-  module _ {l r p : ℕ} {states weights patches : List ℕ} (g : Going grid input rings lengths states₀ weights₀ patches₀ l r p states weights patches) where
+  module _ {l r p : ℕ} {c : Docket} (g : Going grid input rings lengths c₀ l r p c) where
     -- what is read behind the first l rings is the next one
-    pub part-is : (rims : List Bool) (rs : List (List ℕ)) → Loops grid input rs rings lengths → Lent rims rs states₀ weights₀ patches₀ → l < length rs → take (r + getD lengths l 0 - r) (drop r rings) ≡ getD rs l []
-    part-is rims rs s n k = ring-at grid input rs rings lengths s l r k (g .ran rims rs s n .read)
+    pub part-is : {rims : List Bool} {rs : List (List ℕ)} → Loops grid input rs rings lengths → Lent rims rs c₀ → l < length rs
+        → take (r + getD lengths l 0 - r) (drop r rings) ≡ getD rs l []
+    part-is {rims} {rs} s n k = ring-at grid input rs rings lengths s l r k (g .ran rims rs s n .read)
 
     -- one loop more
-    unfoldable pub going-next : {r′ p′ : ℕ} (state weight : ℕ) {patches′ : List ℕ} → length patches′ ≡ length patches
-        → ((rims : List Bool) (rs : List (List ℕ)) → Loops grid input rs rings lengths → Lent rims rs states₀ weights₀ patches₀ → Ran grid input rims rs states₀ weights₀ patches₀ (l + 1) r′ p′ (set states l state) (set weights l weight) patches′)
-        → Going grid input rings lengths states₀ weights₀ patches₀ (l + 1) r′ p′ (set states l state) (set weights l weight) patches′
+    unfoldable pub going-next : {r′ p′ : ℕ} (state weight : ℕ) {patches′ : List ℕ} → length patches′ ≡ length (c .patches)
+        → Runs grid input rings lengths c₀ (l + 1) r′ p′ (written c l state weight patches′)
+        → Going grid input rings lengths c₀ (l + 1) r′ p′ (written c l state weight patches′)
     going-next state weight kept more = record {
-      states-kept = length-set states l state ∙ g .states-kept;
-      weights-kept = length-set weights l weight ∙ g .weights-kept;
+      states-kept = length-set (c .states) l state ∙ g .states-kept;
+      weights-kept = length-set (c .weights) l weight ∙ g .weights-kept;
       patches-kept = kept ∙ g .patches-kept;
       ran = more;
     }
 
     -- a rim leaves its state as it is marked
-    module _ (h : l < length lengths) (e : getD states l 0 ≡ rimMark) where
-      marked-so : set states l rimMark ≡ states
-      marked-so = ap (set states l) (sym e) ∙ set-getD states l 0
-
-      rim-ran : (rims : List Bool) (rs : List (List ℕ)) → Loops grid input rs rings lengths → Lent rims rs states₀ weights₀ patches₀
-          → Ran grid input rims rs states₀ weights₀ patches₀ (l + 1) (r + getD lengths l 0) p (set states l rimMark) (set weights l 0) patches
+    module _ (h : l < length lengths) (e : getD (c .states) l 0 ≡ rimMark) where
+      pub rim-ran : Runs grid input rings lengths c₀ (l + 1) (r + getD lengths l 0) p (docket (c .states) (set (c .weights) l 0) (c .patches))
       rim-ran rims rs s n =
-          let a : length lengths ≡ length rs = as-many grid input rs rings lengths s in
-          let k : l < length rs = omega arith in
+          let k = listed s h in
           let x = g .ran rims rs s n in
-          ran-more s n k x rim (becomes-rim s n k x e)
-          (ap (λ (x : ℕ). r + x) (length-at grid input rs rings lengths s l k)) (sym (add-zero p)) refl refl (sym (laid-none p patches))
+          let m : set (c .states) l rimMark ≡ c .states = ap (set (c .states) l) (sym e) ∙ set-getD (c .states) l 0 in
+          ran-more s n k x rim (becomes-rim s n k x e) (read-on s k r) (sym (add-zero p)) (sym m) refl (sym (laid-none p (c .patches)))
 
-      pub rim-kept : (rims : List Bool) (rs : List (List ℕ)) → Loops grid input rs rings lengths → Lent rims rs states₀ weights₀ patches₀
-          → Ran grid input rims rs states₀ weights₀ patches₀ (l + 1) (r + getD lengths l 0) p states (set weights l 0) patches
-      rim-kept rims rs s n =
-          let y = rim-ran rims rs s n in
-          record {
-            most = y .most;
-            fates = y .fates;
-            course = y .course;
-            read = y .read;
-            count = y .count;
-            states-are = sym marked-so ∙ y .states-are;
-            weights-are = y .weights-are;
-            patches-are = y .patches-are;
-          }
-
-      unfoldable pub going-rim : Going grid input rings lengths states₀ weights₀ patches₀ (l + 1) (r + getD lengths l 0) p states (set weights l 0) patches
+      unfoldable pub going-rim : Going grid input rings lengths c₀ (l + 1) (r + getD lengths l 0) p (docket (c .states) (set (c .weights) l 0) (c .patches))
       going-rim = record {
         states-kept = g .states-kept;
-        weights-kept = length-set weights l 0 ∙ g .weights-kept;
+        weights-kept = length-set (c .weights) l 0 ∙ g .weights-kept;
         patches-kept = g .patches-kept;
-        ran = rim-kept;
+        ran = rim-ran;
       }
 
       -- and lays nothing
-      pub rim-laid : (rims : List Bool) (rs : List (List ℕ)) (s : Loops grid input rs rings lengths) (n : Lent rims rs states₀ weights₀ patches₀)
+      pub rim-laid : (rims : List Bool) (rs : List (List ℕ)) (s : Loops grid input rs rings lengths) (n : Lent rims rs c₀)
           → laidBy (take (l + 1) rs) (going-rim .ran rims rs s n .fates) ≡ laidBy (take l rs) (g .ran rims rs s n .fates)
-      unfolding going-rim rim-kept rim-ran
-      rim-laid rims rs s n =
-          let a : length lengths ≡ length rs = as-many grid input rs rings lengths s in
-          let k : l < length rs = omega arith in
-          let x = g .ran rims rs s n in
-          laid-next s n k x rim (becomes-rim s n k x e)
-          (ap (λ (x : ℕ). r + x) (length-at grid input rs rings lengths s l k)) (sym (add-zero p)) refl refl (sym (laid-none p patches))
-          ∙ append-nil (laidBy (take l rs) (x .fates))
+      unfolding going-rim rim-ran ran-more
+      rim-laid rims rs s n = let x = g .ran rims rs s n in laid-next s n (listed s h) x rim ∙ append-nil (laidBy (take l rs) (x .fates))
 
-    pub going-ends : length lengths ≤ l → (rims : List Bool) (rs : List (List ℕ)) → Loops grid input rs rings lengths → Lent rims rs states₀ weights₀ patches₀ → RanAll grid input rims rs states₀ weights₀ patches₀ p states weights patches
-    going-ends h rims rs s n =
-        let a : length lengths ≡ length rs = as-many grid input rs rings lengths s in
-        ran-all s n (omega arith) (g .ran rims rs s n)
+    pub going-ends : length lengths ≤ l → CourseDone grid input rings lengths c₀ p c
+    going-ends h rims rs s n = let a : length lengths ≡ length rs = as-many grid input rs rings lengths s in ran-all s n (omega arith) (g .ran rims rs s n)
 
     -- ---- what the code asks of the places
 
-    module _ (room : CourseRoom grid input rings lengths states₀ weights₀ patches₀) (h : l < length lengths) where
-      here : Ran grid input (room .rims) (room .rs) states₀ weights₀ patches₀ l r p states weights patches
+    module _ (room : CourseRoom grid input rings lengths c₀) (h : l < length lengths) where
+      abbrev pub here : Ran grid input (room .rims) (room .rs) c₀ l r p c
       here = g .ran (room .rims) (room .rs) (room .loops) (room .lent)
-
-      below : l < length (room .rs)
-      below = let a : length lengths ≡ length (room .rs) = as-many grid input (room .rs) rings lengths (room .loops) in omega arith
 
       pub places : RingPlace rings lengths l r
       places = places-of grid input (room .rs) rings lengths (room .loops) l r h (here .read)
 
-      pub state-in : l < length states
-      state-in = states-in (room .loops) (room .lent) below here
+      pub state-in : l < length (c .states)
+      state-in = states-in (room .loops) (room .lent) (listed (room .loops) h) here
 
-      pub weight-in : l < length weights
-      weight-in = weights-in (room .loops) (room .lent) below here
+      pub weight-in : l < length (c .weights)
+      weight-in = weights-in (room .loops) (room .lent) (listed (room .loops) h) here
 
 -- there is a mark for each loop
-pub marks-long : {grid : List ℤ} {input rings lengths states weights patches : List ℕ} → CourseRoom grid input rings lengths states weights patches → length lengths ≤ length states
-marks-long {grid} {input} {rings} {lengths} {states} room =
+pub marks-long : {grid : List ℤ} {input rings lengths : List ℕ} {c : Docket} → CourseRoom grid input rings lengths c → length lengths ≤ length (c .states)
+marks-long {grid} {input} {rings} {lengths} {c} room =
     let a : length lengths ≡ length (room .rs) = as-many grid input (room .rs) rings lengths (room .loops) in
-    let b : length (room .rs) ≤ length states = room .lent .states-room in
+    let b : length (room .rs) ≤ length (c .states) = room .lent .states-room in
     omega arith

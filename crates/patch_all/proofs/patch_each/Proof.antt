@@ -1,18 +1,21 @@
 -- `patch_each` patches all loops but rims, with one tray.
 use Rattle.fill_scratch.specs.Workings.Rings.{RingPlace}
+use Rattle.fill_scratch.specs.Workings.Tray.{tray}
 use Rattle.fill_scratch.proofs.Laws.Tray.{input-room}
+use Rattle.patch_all.specs.Workings.Courses.{docket}
 use Rattle.patch_all.proofs.Laws.Going.{places, state-in, weight-in, going-ends}
 use Rattle.patch_all.proofs.Laws.FullCourse.{AtWork, work-begins, standing-here, take-room, work-rim, work-on}
 use lib.ListN.{length}
 use mathlib.Core.Path.{sym}
-use Prim.Native.Nat.{_-_}
+use Prim.Native.Nat.{_-_, _<_}
 use borrow.Author.Needs.{needs}
 use native.Mathlib.Omega.{arith}
 use Rattle.patch_all.proofs.patch_each.Statement.{statement}
 use Rattle.patch_all.proofs.patch_each.Tie as tie
 
 abbrev Inv-loop : tie.InvT-loop
-Inv-loop grid corners rings lengths states₀ weights₀ patches₀ heads₀ links₀ ends₀ stamps₀ rows₀ table₀ r₀ p₀ e₀ l₀ states weights patches heads links ends stamps rows table r p e l = AtWork grid corners rings lengths states₀ weights₀ patches₀ l r p e states weights patches heads links ends stamps rows table
+Inv-loop grid corners rings lengths states₀ weights₀ patches₀ heads₀ links₀ ends₀ stamps₀ rows₀ table₀ r₀ p₀ e₀ l₀ states weights patches heads links ends stamps rows table r p e l =
+    AtWork grid corners rings lengths (docket states₀ weights₀ patches₀) l r p e (docket states weights patches) (tray heads links ends stamps rows table)
 
 abbrev μ-loop : tie.MeasureT-loop
 μ-loop grid corners rings lengths states₀ weights₀ patches₀ heads₀ links₀ ends₀ stamps₀ rows₀ table₀ r₀ p₀ e₀ l₀ states weights patches heads links ends stamps rows table r p e l = length lengths - l
@@ -27,12 +30,20 @@ entry t = search
 here : (t : Turn) → RingPlace (entry t .args .rings .now) (entry t .args .lengths .now) (t .before .loop .l) (t .before .loop .r)
 here t = places (t .before .loop .inv .going) (entry t .pre) (t .loop-test .taken)
 
+-- the loop's state and weight are there
+state-there : (t : Turn) → t .before .loop .l < length (t .before .loop .states)
+state-there t = state-in (t .before .loop .inv .going) (entry t .pre) (t .loop-test .taken)
+
+weight-there : (t : Turn) → t .before .loop .l < length (t .before .loop .weights)
+weight-there t = weight-in (t .before .loop .inv .going) (entry t .pre) (t .loop-test .taken)
+
 loop-again-2 : tie.Need-loop-again-2 Inv-loop μ-loop
 loop-again-2 c =
     let t : Turn = search in
     let o : tie.Else1 Inv-loop μ-loop = search in
     let u : tie.After-patch-loop Inv-loop μ-loop = search in
-    work-on (t .before .loop .inv) (entry t .pre) (t .loop-test .taken) (o .if1 .left) (search (u .patch-loop .kept)) (search (u .patch-loop .kept)) (search (u .patch-loop .kept)) (u .patch-loop .ensures)
+    work-on (t .before .loop .inv) (entry t .pre) (t .loop-test .taken) (o .if1 .left) (search (u .patch-loop .kept)) (search (u .patch-loop .kept))
+    (search (u .patch-loop .kept)) (u .patch-loop .ensures)
 
 pub patch-each-spec : {M : Type 1} → statement M
 patch-each-spec =
@@ -47,9 +58,9 @@ patch-each-spec =
     (λ c. omega (arith, here (search)))
     (λ c. omega (arith, here (search)))
     (λ c. omega (arith, here (search)))
-    (λ c. let t : Turn = search in state-in (t .before .loop .inv .going) (entry t .pre) (t .loop-test .taken))
+    (λ c. state-there (search))
     (λ c. omega (arith, here (search)))
-    (λ c. let t : Turn = search in weight-in (t .before .loop .inv .going) (entry t .pre) (t .loop-test .taken))
+    (λ c. weight-there (search))
     (λ c. omega (arith, here (search)))
     (λ c. let t : Turn = search in omega (arith, t .loop-test))
     (λ c. let t : Turn = search in work-rim (t .before .loop .inv) (entry t .pre) (t .loop-test .taken) (c .if1 .taken))
@@ -59,14 +70,14 @@ patch-each-spec =
     (λ c. here (search) .ring-in)
     (λ c. let t : Turn = search in sym (standing-here (t .before .loop .inv) (entry t .pre) .links-long))
     (λ c. let t : Turn = search in sym (standing-here (t .before .loop .inv) (entry t .pre) .ends-long))
+    (λ c. let t : Turn = search in sym (standing-here (t .before .loop .inv) (entry t .pre) .ready .table-long))
     (λ c. omega (arith, here (search)))
     (λ c. omega (arith, here (search)))
-    (λ c. let t : Turn = search in sym (standing-here (t .before .loop .inv) (entry t .pre) .tray .table-long))
     (λ c κs. let t : Turn = search in take-room (t .before .loop .inv) (entry t .pre) (t .loop-test .taken))
     (λ c. omega (arith, here (search)))
-    (λ c. let t : Turn = search in state-in (t .before .loop .inv .going) (entry t .pre) (t .loop-test .taken))
+    (λ c. state-there (search))
     (λ c. omega (arith, here (search)))
-    (λ c. let t : Turn = search in weight-in (t .before .loop .inv .going) (entry t .pre) (t .loop-test .taken))
+    (λ c. weight-there (search))
     (λ c. omega (arith, here (search)))
     (λ c. let t : Turn = search in omega (arith, t .loop-test))
     loop-again-2

@@ -10,43 +10,51 @@ use Rattle.fill_fates.specs.Fates.{Fate}
 use Rattle.fill_fates.specs.Course.{Course, statesOf, weightsOf, laidBy}
 use Rattle.fill_scratch.specs.Workings.Rings.{Loops, Input, Marks}
 
--- room for what they leave; before the course the rims are marked among the states
-pub record Lent (rims : List Bool) (rs : List (List ℕ)) (states weights patches : List ℕ) : Type 0 where
-  pub rims-many : length rims ≡ length rs
-  pub marked : Marks rims states
-  pub states-room : length rs ≤ length states
-  pub weights-room : length rs ≤ length weights
-  pub patches-room : 3 * length (flatten rs) ≤ length patches
+-- what the course writes: a state and a weight for each loop, and the corners of the patches
+pub record Docket : Type 0 where
+  pub states : List ℕ
+  pub weights : List ℕ
+  pub patches : List ℕ
 
-pub record CourseRoom (grid : List ℤ) (input rings lengths states weights patches : List ℕ) : Type 0 where
+abbrev pub docket : List ℕ → List ℕ → List ℕ → Docket
+docket states weights patches = record { states = states; weights = weights; patches = patches }
+
+-- room for what the loops leave; before the course the rims are marked among the states
+pub record Lent (rims : List Bool) (rs : List (List ℕ)) (c : Docket) : Type 0 where
+  pub rims-many : length rims ≡ length rs
+  pub marked : Marks rims (c .states)
+  pub states-room : length rs ≤ length (c .states)
+  pub weights-room : length rs ≤ length (c .weights)
+  pub patches-room : 3 * length (flatten rs) ≤ length (c .patches)
+
+pub record CourseRoom (grid : List ℤ) (input rings lengths : List ℕ) (c : Docket) : Type 0 where
   pub rims : List Bool
   pub rs : List (List ℕ)
   pub loops : Loops grid input rs rings lengths
-  pub lent : Lent rims rs states weights patches
+  pub lent : Lent rims rs c
   pub corners : Input input
 
 -- the first l loops ran: r ring vertices were read and p corners laid
-pub record Ran (grid : List ℤ) (input : List ℕ) (rims : List Bool) (rs : List (List ℕ)) (states₀ weights₀ patches₀ : List ℕ) (l r p : ℕ) (states weights patches : List ℕ) : Type 0 where
+pub record Ran (grid : List ℤ) (input : List ℕ) (rims : List Bool) (rs : List (List ℕ)) (c₀ : Docket) (l r p : ℕ) (c : Docket) : Type 0 where
   pub most : l ≤ length rs
   pub fates : List Fate
   pub course : Course grid input [] (take l rims) (take l rs) fates
   pub read : r ≡ length (flatten (take l rs))
   pub count : p ≡ length (laidBy (take l rs) fates)
-  pub states-are : states ≡ over (statesOf fates) states₀
-  pub weights-are : weights ≡ over (weightsOf grid (take l rs) fates) weights₀
-  pub patches-are : patches ≡ over (laidBy (take l rs) fates) patches₀
+  pub states-are : c .states ≡ over (statesOf fates) (c₀ .states)
+  pub weights-are : c .weights ≡ over (weightsOf grid (take l rs) fates) (c₀ .weights)
+  pub patches-are : c .patches ≡ over (laidBy (take l rs) fates) (c₀ .patches)
 
 -- all loops ran
-pub record RanAll (grid : List ℤ) (input : List ℕ) (rims : List Bool) (rs : List (List ℕ)) (states₀ weights₀ patches₀ : List ℕ) (p : ℕ) (states weights patches : List ℕ) : Type 0 where
+pub record RanAll (grid : List ℤ) (input : List ℕ) (rims : List Bool) (rs : List (List ℕ)) (c₀ : Docket) (p : ℕ) (c : Docket) : Type 0 where
   pub fates : List Fate
   pub course : Course grid input [] rims rs fates
   pub count : p ≡ length (laidBy rs fates)
-  pub states-are : states ≡ over (statesOf fates) states₀
-  pub weights-are : weights ≡ over (weightsOf grid rs fates) weights₀
-  pub patches-are : patches ≡ over (laidBy rs fates) patches₀
+  pub states-are : c .states ≡ over (statesOf fates) (c₀ .states)
+  pub weights-are : c .weights ≡ over (weightsOf grid rs fates) (c₀ .weights)
+  pub patches-are : c .patches ≡ over (laidBy rs fates) (c₀ .patches)
 
 -- whatever loops they are
-abbrev pub CourseDone : List ℤ → List ℕ → List ℕ → List ℕ → List ℕ → List ℕ → List ℕ → ℕ → List ℕ → List ℕ → List ℕ → Type 0
-CourseDone grid input rings lengths states weights patches p states′ weights′ patches′ =
-    (rims : List Bool) (rs : List (List ℕ)) → Loops grid input rs rings lengths → Lent rims rs states weights patches
-    → RanAll grid input rims rs states weights patches p states′ weights′ patches′
+abbrev pub CourseDone : List ℤ → List ℕ → List ℕ → List ℕ → Docket → ℕ → Docket → Type 0
+CourseDone grid input rings lengths c p c′ =
+    (rims : List Bool) (rs : List (List ℕ)) → Loops grid input rs rings lengths → Lent rims rs c → RanAll grid input rims rs c p c′

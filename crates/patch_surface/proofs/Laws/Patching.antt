@@ -31,21 +31,27 @@ use Rattle.fill_fates.proofs.Laws.Lengths.{states-length}
 use Rattle.fill_scratch.specs.Workings.Scratch.{few, Scratch}
 use Rattle.rim_mark.specs.Workings.Marking.{markOf, Marked}
 use Rattle.rim_mark.proofs.Laws.Listed.{input-here, as-many-loops, loops-here, all-marked, marks-here, rims-here}
-use Rattle.patch_all.specs.Workings.Courses.{Lent, CourseRoom, RanAll, CourseDone}
-use Rattle.patch_surface.specs.Outcome.{Buffers, outcome, buffers, done, needs, lent, Patches}
+use Rattle.patch_all.specs.Workings.Courses.{Docket, docket, Lent, CourseRoom, RanAll, CourseDone}
+use Rattle.patch_surface.specs.Outcome.{Buffers, Outcome, outcome, buffers, done, needs, lent, Patches}
 use Rattle.patch_surface.specs.declared.Patched.{Patched}
 
--- room for any surface is room for this one
-pub scratch-most : (words corners turns path places : List ℕ) → countRefusal (length words) (length corners) ≡ Done → limits.corners ≤ length turns → limits.corners ≤ length path → limits.points ≤ length places
-    → Scratch words corners turns path places
-scratch-most words corners turns path places c t p q =
-    let f = counts-fit (length words) (length corners) c in
-    record { counts = c; turns-long = le-trans (f .few-corners) t; path-long = le-trans (f .few-corners) p; places-long = omega (arith, f .few-words); pieces-long = omega (arith, f .few-corners) }
+module _ {words corners turns path places : List ℕ} (c : countRefusal (length words) (length corners) ≡ Done) where
+  -- room for any surface is room for this one
+  pub scratch-most : limits.corners ≤ length turns → limits.corners ≤ length path → limits.points ≤ length places → Scratch words corners turns path places
+  scratch-most t p q =
+      let f = counts-fit (length words) (length corners) c in
+      record {
+        counts = c;
+        turns-long = le-trans (f .few-corners) t;
+        path-long = le-trans (f .few-corners) p;
+        places-long = omega (arith, f .few-words);
+        pieces-long = omega (arith, f .few-corners);
+      }
 
--- room for few is room for a surface with few points and corners
-pub scratch-few : (words corners turns path places : List ℕ) → countRefusal (length words) (length corners) ≡ Done → length words / 3 ≤ few → length corners ≤ few
-    → few ≤ length turns → few ≤ length path → few ≤ length places → Scratch words corners turns path places
-scratch-few words corners turns path places c p q t u v = record { counts = c; turns-long = le-trans q t; path-long = le-trans q u; places-long = le-trans p v; pieces-long = omega arith }
+  -- room for few is room for a surface with few points and corners
+  pub scratch-few : length words / 3 ≤ few → length corners ≤ few → few ≤ length turns → few ≤ length path → few ≤ length places
+      → Scratch words corners turns path places
+  scratch-few p q t u v = record { counts = c; turns-long = le-trans q t; path-long = le-trans q u; places-long = le-trans p v; pieces-long = omega arith }
 
 -- a refusal as the code makes it
 abbrev pub Refuses : Patched → Answer → Type 0
@@ -58,70 +64,83 @@ lentBesides b = length (b .states) ∷ length (b .weights) ∷ length (b .patche
 abbrev pub needsBesides : List ℕ → List ℕ
 needsBesides corners = length corners / 3 ∷ length corners / 3 ∷ 3 * length corners ∷ []
 
-module _ (words corners : List ℕ) (b : Buffers) where
+module _ (words corners : List ℕ) (b : Buffers) {r : Patched} {a : Answer} (h : Refuses r a) (t : refusing a ≡ true) where
   -- what the table says decides
-  decided : (r : Patched) (a : Answer) → Refuses r a → refusal words corners (lent b) (needs words corners) ≡ a → refusing a ≡ true → Patches words corners b (outcome r b)
-  decided r a h e t = rw (e, t) (λ i. record { answer = h .0 i; loops = h .1 i; vertices = h .2 i; corners = h .3 i; left = b })
+  decided : refusal words corners (lent b) (needs words corners) ≡ a → Patches words corners b (outcome r b)
+  decided e = rw (e, t) (λ i. record { answer = h .0 i; loops = h .1 i; vertices = h .2 i; corners = h .3 i; left = b })
 
-  pub counts-refuse : (r : Patched) (a : Answer) → Refuses r a → a ≡ countRefusal (length words) (length corners) → refusing a ≡ true → Patches words corners b (outcome r b)
-  counts-refuse r a h e t = decided r a h (count-decides words corners (lent b) (needs words corners) a e t) t
+  pub counts-refuse : a ≡ countRefusal (length words) (length corners) → Patches words corners b (outcome r b)
+  counts-refuse e = decided (count-decides words corners (lent b) (needs words corners) a e t)
 
-  pub content-refuse : countRefusal (length words) (length corners) ≡ Done → (r : Patched) (a : Answer) (table : List ℕ) → Refuses r a → Checked words corners (lent b) (needs words corners) a table → refusing a ≡ true
+  pub content-refuse : countRefusal (length words) (length corners) ≡ Done → {table : List ℕ} → Checked words corners (lent b) (needs words corners) a table
       → Patches words corners b (outcome r b)
-  content-refuse c r a table h k t = decided r a h (content-decides words corners (lent b) (needs words corners) c a (k .said)) t
+  content-refuse c k = decided (content-decides words corners (lent b) (needs words corners) c a (k .said))
 
-  module _ {table : List ℕ} (k : Known words corners table (b .grid) (b .rings) (b .lengths) (lentBesides b) (needsBesides corners)) where
-    -- the loops can be listed in the lent buffers, with their first half-edges among the states
-    pub listing-ready : length corners ≤ length table → Ready corners table (b .rings) (b .lengths) (b .states)
-    listing-ready t = ready k (b .rings) (b .lengths) (b .states) t (k .rings-long) (k .lengths-long) (k .others-long 0 (omega arith))
+-- what is known once nothing is refused
+abbrev pub KnownWith : List ℕ → List ℕ → List ℕ → Buffers → Type 0
+KnownWith words corners table b = Known words corners table (b .grid) (b .rings) (b .lengths) (lentBesides b) (needsBesides corners)
 
-    module _ {at : Listed} {rings′ lengths′ firsts : List ℕ} {grid′ : List ℤ} (ls : ListsLoops corners (loops corners) (b .rings) (b .lengths) (b .states) at rings′ lengths′ firsts) (eg : grid′ ≡ over (gridOf words) (b .grid)) where
-      abbrev g : List ℤ
-      g = take (length words) grid′
+module _ {words corners : List ℕ} (b : Buffers) {table : List ℕ} (k : KnownWith words corners table b) where
+  -- the loops can be listed in the lent buffers, with their first half-edges among the states
+  pub listing-ready : length corners ≤ length table → Ready corners table (b .rings) (b .lengths) (b .states)
+  listing-ready t = ready k (b .rings) (b .lengths) (b .states) t (k .rings-long) (k .lengths-long) (k .others-long 0 (omega arith))
 
-      module _ {states : List ℕ} (marked : Marked g corners firsts states) where
-        -- there is room for what the course leaves
-        the-lent : Lent (rimList g corners) (ringList corners) states (b .weights) (b .patches)
-        unfolding ringsOf
-        the-lent =
-            let v : length (flatten (ringList corners)) ≤ length corners = rings-few k in
-            let n : length (ringList corners) ≤ length corners / 3 = omega (arith, as-many-loops k, loops-few k) in
-            let q : length corners / 3 ≤ length (b .weights) = k .others-long 1 (omega arith) in
-            let r : 3 * length corners ≤ length (b .patches) = k .others-long 2 (omega arith) in
-            let x = marks-here k ls eg marked in
-            let z : length (rimList g corners) ≤ length states = x .long in
-            record { rims-many = rims-here k ls eg marked; marked = x; states-room = omega (arith, rims-here k ls eg marked); weights-room = omega arith; patches-room = omega arith }
+  module _ {at : Listed} {rings′ lengths′ firsts : List ℕ} {grid′ : List ℤ}
+      (ls : ListsLoops corners (loops corners) (b .rings) (b .lengths) (b .states) at rings′ lengths′ firsts) (eg : grid′ ≡ over (gridOf words) (b .grid)) where
+    abbrev g : List ℤ
+    g = take (length words) grid′
 
-        pub course-room : CourseRoom g corners (take (at .vertices) rings′) (take (at .loops) lengths′) states (b .weights) (b .patches)
-        course-room = record { rims = rimList g corners; rs = ringList corners; loops = loops-here k ls eg; lent = the-lent; corners = input-here k }
+    module _ {states : List ℕ} (marked : Marked g corners firsts states) where
+      -- there is room for what the course leaves
+      the-lent : Lent (rimList g corners) (ringList corners) (docket states (b .weights) (b .patches))
+      unfolding ringsOf
+      the-lent =
+          let v : length (flatten (ringList corners)) ≤ length corners = rings-few k in
+          let n : length (ringList corners) ≤ length corners / 3 = omega (arith, as-many-loops k, loops-few k) in
+          let q : length corners / 3 ≤ length (b .weights) = k .others-long 1 (omega arith) in
+          let r : 3 * length corners ≤ length (b .patches) = k .others-long 2 (omega arith) in
+          let x = marks-here k ls eg marked in
+          let z : length (rimList g corners) ≤ length states = x .long in
+          let m : length (rimList g corners) ≡ length (ringList corners) = rims-here k ls eg marked in
+          record { rims-many = m; marked = x; states-room = omega arith; weights-room = omega arith; patches-room = omega arith }
 
-        pub done-is : (p : ℕ) (states′ weights′ patches′ : List ℕ)
-            → CourseDone g corners (take (at .vertices) rings′) (take (at .loops) lengths′) states (b .weights) (b .patches) p states′ weights′ patches′
-            → Patches words corners b (outcome (record { answer = Done; loops = at .loops; vertices = at .vertices; corners = p }) (buffers grid′ rings′ lengths′ states′ weights′ patches′))
-        done-is p states′ weights′ patches′ r = rw (k .none-refused) (q .fates, subst (λ (x : List ℤ). Course x corners [] (rimList x corners) (ringList corners) (q .fates)) gridded (q .course), left)
-          where
-            q : RanAll g corners (rimList g corners) (ringList corners) states (b .weights) (b .patches) p states′ weights′ patches′
-            q = r (rimList g corners) (ringList corners) (loops-here k ls eg) the-lent
+      pub course-room : CourseRoom g corners (take (at .vertices) rings′) (take (at .loops) lengths′) (docket states (b .weights) (b .patches))
+      course-room = record { rims = rimList g corners; rs = ringList corners; loops = loops-here k ls eg; lent = the-lent; corners = input-here k }
 
-            gridded : g ≡ gridOf words
-            gridded = grid-part words (b .grid) grid′ eg
+      -- what the course leaves is what the patcher promises
+      abbrev left-by : ℕ → Docket → Outcome
+      left-by p c =
+          outcome (record { answer = Done; loops = at .loops; vertices = at .vertices; corners = p })
+          (buffers grid′ rings′ lengths′ (c .states) (c .weights) (c .patches))
 
-            -- as many states as marks
-            es : states′ ≡ over (statesOf (q .fates)) (b .states)
-            es =
-                q .states-are
-                ∙ ap (over (statesOf (q .fates))) (all-marked k ls eg marked)
-                ∙ over-again (statesOf (q .fates)) (map markOf (rimList g corners)) (b .states)
-                (states-length (q .fates) ∙ course-length g corners [] (rimList g corners) (ringList corners) (q .fates) (q .course) ∙ sym (the-lent .rims-many) ∙ sym (length-map (rimList g corners) markOf))
+      pub done-is : {p : ℕ} {c : Docket} → CourseDone g corners (take (at .vertices) rings′) (take (at .loops) lengths′) (docket states (b .weights) (b .patches)) p c
+          → Patches words corners b (left-by p c)
+      done-is {p} {c} r =
+          rw (k .none-refused) (q .fates, subst (λ (x : List ℤ). Course x corners [] (rimList x corners) (ringList corners) (q .fates)) gridded (q .course), left)
+        where
+          q : RanAll g corners (rimList g corners) (ringList corners) (docket states (b .weights) (b .patches)) p c
+          q = r (rimList g corners) (ringList corners) (loops-here k ls eg) the-lent
 
-            ew : weights′ ≡ over (weightsOf (gridOf words) (ringList corners) (q .fates)) (b .weights)
-            ew = q .weights-are ∙ ap (λ (x : List ℤ). over (weightsOf x (ringList corners) (q .fates)) (b .weights)) gridded
+          gridded : g ≡ gridOf words
+          gridded = grid-part words (b .grid) grid′ eg
 
-            left : outcome (record { answer = Done; loops = at .loops; vertices = at .vertices; corners = p }) (buffers grid′ rings′ lengths′ states′ weights′ patches′) ≡ done words corners (q .fates) b
-            left = λ t. record {
-              answer = Done;
-              loops = ls .count t;
-              vertices = ls .vertices t;
-              corners = q .count t;
-              left = record { grid = eg t; rings = ls .all-rings t; lengths = ls .all-lengths t; states = es t; weights = ew t; patches = q .patches-are t };
-            }
+          -- as many states as marks
+          es : c .states ≡ over (statesOf (q .fates)) (b .states)
+          es =
+              q .states-are
+              ∙ ap (over (statesOf (q .fates))) (all-marked k ls eg marked)
+              ∙ over-again (statesOf (q .fates)) (map markOf (rimList g corners)) (b .states)
+              (states-length (q .fates) ∙ course-length g corners [] (rimList g corners) (ringList corners) (q .fates) (q .course)
+              ∙ sym (the-lent .rims-many) ∙ sym (length-map (rimList g corners) markOf))
+
+          ew : c .weights ≡ over (weightsOf (gridOf words) (ringList corners) (q .fates)) (b .weights)
+          ew = q .weights-are ∙ ap (λ (x : List ℤ). over (weightsOf x (ringList corners) (q .fates)) (b .weights)) gridded
+
+          left : left-by p c ≡ done words corners (q .fates) b
+          left = λ t. record {
+            answer = Done;
+            loops = ls .count t;
+            vertices = ls .vertices t;
+            corners = q .count t;
+            left = record { grid = eg t; rings = ls .all-rings t; lengths = ls .all-lengths t; states = es t; weights = ew t; patches = q .patches-are t };
+          }

@@ -5,11 +5,11 @@ use lib.ListN.{length}
 use borrow.Author.Needs.{needs}
 use Rattle.surface_rules.proofs.Laws.Lists.{as-long}
 use Rattle.surface_rules.proofs.Laws.Thens.{counts-fit}
-use Rattle.survey_rules.proofs.Laws.Known.{Known, known, still-long, grid-ready, lent-long}
+use Rattle.survey_rules.proofs.Laws.Known.{known, still-long, grid-ready, lent-long}
 use Rattle.survey_rules.proofs.Laws.Parts.{grid-in, rings-in, lengths-in}
 use Rattle.rim_mark.proofs.Laws.Listed.{mark-room}
 use Rattle.patch_surface.specs.Outcome.{Buffers, buffers}
-use Rattle.patch_surface.proofs.Laws.Patching.{lentBesides, needsBesides, content-refuse, listing-ready, course-room, done-is}
+use Rattle.patch_surface.proofs.Laws.Patching.{lentBesides, needsBesides, KnownWith, content-refuse, listing-ready, course-room, done-is}
 use Rattle.patch_surface.proofs.patch_with.Statement.{statement}
 use Rattle.patch_surface.proofs.patch_with.Tie as tie
 
@@ -26,6 +26,9 @@ passed c = search
 abbrev gridded : tie.After-turns2 → tie.After-grid
 gridded c = search
 
+abbrev start : tie.After-turns2 → tie.Start
+start l = entry (checked (passed (gridded l)))
+
 abbrev listed : tie.After-turns3 → tie.After-turns2
 listed c = search
 
@@ -41,6 +44,9 @@ states-marked c = search
 abbrev states-listed : tie.After-places2 → tie.After-states
 states-listed c = search
 
+abbrev lengths-listed : tie.After-places2 → tie.After-lengths
+lengths-listed c = search
+
 abbrev places-listed : tie.After-places2 → tie.After-places
 places-listed c = search
 
@@ -51,16 +57,16 @@ lent-here c = buffers (c .args .grid .now) (c .args .rings .now) (c .args .lengt
 -- what is known once nothing is refused
 known-here : (c : tie.Else1)
     → let s = entry (checked c) in
-    let b = lent-here s in
-    Known (s .args .words .now) (s .args .corners .now) (checked c .before .check .last .1 .1 .1 .1 .0) (b .grid) (b .rings) (b .lengths) (lentBesides b) (needsBesides (s .args .corners .now))
+    KnownWith (s .args .words .now) (s .args .corners .now) (checked c .before .check .last .1 .1 .1 .1 .0) (lent-here s)
 known-here c =
     let s = entry (checked c) in
     let b = lent-here s in
-    known _ _ _ (b .grid) (b .rings) (b .lengths) (lentBesides b) (needsBesides (s .args .corners .now)) _ (s .pre .counts) (checked c .before .check .ensures) (sym (c .before .refuses .ensures) ∙ c .if1 .left)
+    known _ _ _ (b .grid) (b .rings) (b .lengths) (lentBesides b) (needsBesides (s .args .corners .now)) _ (s .pre .counts) (checked c .before .check .ensures)
+    (sym (c .before .refuses .ensures) ∙ c .if1 .left)
 
 -- the parts of the buffers that were written are there
 grid-there : tie.Need-slice-reshare-prefix-mark
-grid-there c = let l : tie.After-turns2 = search in grid-in (entry (checked (passed (gridded l))) .args .words .now) _ _ (gridded l .before .lay-grid .ensures)
+grid-there c = let l : tie.After-turns2 = search in grid-in (start l .args .words .now) _ _ (gridded l .before .lay-grid .ensures)
 
 rings-there : tie.Need-slice-reshare-prefix-mark-2
 rings-there c = let l : tie.After-turns2 = search in rings-in (l .before .list-with .ensures .0)
@@ -69,13 +75,53 @@ lengths-there : tie.Need-slice-reshare-prefix-mark-3
 lengths-there c = let l : tie.After-turns2 = search in lengths-in (l .before .list-with .ensures .0)
 
 grid-still : tie.Need-slice-reshare-prefix-patch-all
-grid-still c = let m : tie.After-turns3 = search in let l = listed m in grid-in (entry (checked (passed (gridded l))) .args .words .now) _ _ (gridded l .before .lay-grid .ensures)
+grid-still c = let m : tie.After-turns3 = search in let l = listed m in grid-in (start l .args .words .now) _ _ (gridded l .before .lay-grid .ensures)
 
 rings-still : tie.Need-slice-reshare-prefix-patch-all-2
 rings-still c = let m : tie.After-turns3 = search in rings-in (listed m .before .list-with .ensures .0)
 
 lengths-still : tie.Need-slice-reshare-prefix-patch-all-3
 lengths-still c = let m : tie.After-turns3 = search in lengths-in (listed m .before .list-with .ensures .0)
+
+returns : tie.Need-returns
+returns c =
+    let t : tie.After-turns = search in
+    let s = entry t in
+    content-refuse (s .args .words .now) (s .args .corners .now) (lent-here s) (c .refused .ensures)
+    (sym (c .before .before .refuses .ensures) ∙ c .before .if1 .taken) (s .pre .counts) (t .before .check .ensures)
+
+list-with-requires : tie.Need-list-with-requires
+list-with-requires c κs =
+    let p = passed (search) in
+    let s = entry (checked p) in
+    let k = known-here p in
+    (listing-ready (lent-here s) k (still-long (s .pre .turns-long) (checked p .turns .given)), lent-long k _ _ (s .pre .path-long) (s .pre .places-long))
+
+mark-requires : tie.Need-mark-requires
+mark-requires c κs =
+    let q : tie.After-places = search in
+    let a = q .before .before in
+    let l = a .before .before in
+    let p = passed (gridded l) in
+    let s = start l in
+    mark-room (known-here p) (l .before .list-with .ensures .0) (gridded l .before .lay-grid .ensures) (l .before .list-with .ensures .1)
+    (still-long (still-long (s .pre .turns-long) (checked p .turns .given)) (l .turns2 .given)) (still-long (s .pre .path-long) (a .path .given))
+    (still-long (s .pre .pieces-long) (q .places .given))
+
+patch-all-requires : tie.Need-patch-all-requires
+patch-all-requires c κs =
+    let m : tie.After-turns3 = search in
+    let l = listed m in
+    course-room (lent-here (start l)) (known-here (passed (gridded l))) (l .before .list-with .ensures .0) (gridded l .before .lay-grid .ensures)
+    (m .before .mark .ensures)
+
+returns-2 : tie.Need-returns-2
+returns-2 c =
+    let r : tie.After-patch-all = search in
+    let m = marked r in
+    let l = listed m in
+    done-is (lent-here (start l)) (known-here (passed (gridded l))) (l .before .list-with .ensures .0) (gridded l .before .lay-grid .ensures)
+    (m .before .mark .ensures) (r .patch-all .ensures)
 
 pub patch-with-spec : {M : Type 1} → statement M
 patch-with-spec =
@@ -88,64 +134,30 @@ patch-with-spec =
     (λ c κs. search needs)
     (λ c κs. search needs)
     (λ c. let t : tie.After-turns = search in t .turns .given)
-    (λ c.
-    let t : tie.After-turns = search in content-refuse _ _ (lent-here (entry t)) (entry t .pre .counts) _ _ _ (c .refused .ensures) (t .before .check .ensures)
-    (sym (c .before .before .refuses .ensures) ∙ c .before .if1 .taken))
+    returns
     (λ c κs. grid-ready (known-here (c .before)))
-    (λ c κs.
-    let g : tie.After-grid = search in
-    let p = passed g in
-    let k = known-here p in
-    let s = entry (checked p) in (
-      listing-ready (s .args .words .now) (s .args .corners .now) (lent-here s) k (still-long (s .pre .turns-long) (checked p .turns .given)),
-      lent-long k _ _
-          (s .pre .path-long) (s .pre .places-long),
-    ))
+    list-with-requires
     grid-there
     (λ c. as-long _ _ (grid-there (c .before)))
     rings-there
     (λ c. as-long _ _ (rings-there (c .before)))
     lengths-there
     (λ c. as-long _ _ (lengths-there (c .before)))
-    (λ c κs.
-    let q : tie.After-places = search in
-    let a = q .before .before in
-    let l = a .before .before in
-    let p = passed (gridded l) in
-    let s = entry (checked p) in
-    mark-room (known-here p) (l .before .list-with .ensures .0) (gridded l .before .lay-grid .ensures) (l .before .list-with .ensures .1)
-    (still-long (still-long (s .pre .turns-long) (checked p .turns .given)) (l .turns2 .given)) (still-long (s .pre .path-long) (a .path .given))
-    (still-long (s .pre .pieces-long) (q .places .given)))
+    mark-requires
     grid-still
     (λ c. as-long _ _ (grid-still (c .before)))
     rings-still
     (λ c. as-long _ _ (rings-still (c .before)))
     lengths-still
     (λ c. as-long _ _ (lengths-still (c .before)))
-    (λ c κs.
-    let m : tie.After-turns3 = search in
-    let l = listed m in
-    let p = passed (gridded l) in
-    let s = entry (checked p) in
-    course-room (s .args .words .now) (s .args .corners .now) (lent-here s) (known-here p) (l .before .list-with .ensures .0) (gridded l .before .lay-grid .ensures)
-    (m .before .mark .ensures))
-    (λ c.
-    let r : tie.After-patch-all = search in let m = marked r in let l = listed m in m .turns3 .given ∙ l .turns2 .given ∙ checked (passed (gridded l)) .turns .given)
-    (λ c. let r : tie.After-patch-all = search in let m = placed r in m .before .before .path2 .given ∙ places-listed m .before .before .path .given)
-    (λ c. let r : tie.After-patch-all = search in let m = placed r in m .places2 .given ∙ places-listed m .places .given)
-    (λ c. let r : tie.After-patch-all = search in gridded (listed (marked r)) .grid .given)
-    (λ c. let r : tie.After-patch-all = search in states-listed (placed r) .before .before .before .before .rings .given)
-    (λ c. let r : tie.After-patch-all = search in states-listed (placed r) .before .before .lengths .given)
-    (λ c.
-    let n : tie.After-states3 = search in let m = states-marked (n .before) in n .states3 .given ∙ m .states2 .given ∙ states-listed
-    (m .before .before) .states .given)
+    patch-all-requires
+    (λ c. let m = marked (search) in let l = listed m in m .turns3 .given ∙ l .turns2 .given ∙ checked (passed (gridded l)) .turns .given)
+    (λ c. let m = placed (search) in m .before .before .path2 .given ∙ places-listed m .before .before .path .given)
+    (λ c. let m = placed (search) in m .places2 .given ∙ places-listed m .places .given)
+    (λ c. gridded (listed (marked (search))) .grid .given)
+    (λ c. lengths-listed (placed (search)) .before .before .rings .given)
+    (λ c. lengths-listed (placed (search)) .lengths .given)
+    (λ c. let n : tie.After-states3 = search in let r = n .before in n .states3 .given ∙ states-marked r .states2 .given ∙ states-listed (placed r) .states .given)
     (λ c. search needs)
     (λ c. search needs)
-    (λ c.
-    let r : tie.After-patch-all = search in
-    let m = marked r in
-    let l = listed m in
-    let p = passed (gridded l) in
-    let s = entry (checked p) in
-    done-is (s .args .words .now) (s .args .corners .now) (lent-here s) (known-here p) (l .before .list-with .ensures .0) (gridded l .before .lay-grid .ensures)
-    (m .before .mark .ensures) _ _ _ _ (r .patch-all .ensures)))
+    returns-2)

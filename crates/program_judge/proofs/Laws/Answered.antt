@@ -19,7 +19,8 @@ use Rattle.survey_rules.specs.Outcome.{Buffers, Outcome, needs, lent}
 use Rattle.rim_rules.specs.Rims.{rimList}
 use Rattle.fill_fates.specs.Course.{ringList}
 use Rattle.judge_rules.proofs.Theorems.{verdict-once}
-use Rattle.judge_surface.specs.Outcome.{JudgesCounted, JudgesIf, Judges}
+use Rattle.judge_answer.specs.declared.Judged.{Judged}
+use Rattle.judge_surface.specs.Outcome.{outcome, JudgesCounted, JudgesIf, Judges}
 use Rattle.judge_surface.proofs.Laws.Apart.{rings-apart}
 use Rattle.program_judge.specs.Hears.{AnswersCounted, AnswersIf, Answers}
 
@@ -33,16 +34,16 @@ module _ (words corners states set : List ℕ) where
     refused-or true r j = ap (λ (p : Outcome). p .answer) j
     refused-or false r j = counted (eqb (length (loops corners)) (length states)) j
 
-    pub answered : length words ≤ limits.words → length corners ≤ limits.corners
-        → limits.words ≤ length (b .grid) → limits.corners ≤ length (b .rings) → limits.triangles ≤ length (b .lengths)
-        → Judges words corners states set b o → Answers words corners states set (o .answer)
-    unfolding Answers
-    answered w c g r l j =
-        let e : refusal words corners (lent b) (needs words corners) ≡ sheetRefusal words corners =
-        buffers-pass words corners (lent b) (needs words corners)
-        (three-long (length (b .grid)) (length (b .rings)) (length (b .lengths)) (length words) (length corners) (length corners / 3) (omega arith) (omega arith) (omega arith)) in
-        refused-or (refusing (sheetRefusal words corners)) (sheetRefusal words corners)
-        (subst (λ (a : Answer). JudgesIf (refusing a) a words corners states set b o) e j)
+  pub answered : (b b′ : Buffers) (r : Judged) → Judges words corners states set b (outcome r b′) → length words ≤ limits.words → length corners ≤ limits.corners
+      → limits.words ≤ length (b .grid) → limits.corners ≤ length (b .rings) → limits.triangles ≤ length (b .lengths)
+      → Answers words corners states set (r .answer)
+  unfolding Answers
+  answered b b′ r j hw hc g ri l =
+      let e : refusal words corners (lent b) (needs words corners) ≡ sheetRefusal words corners =
+      buffers-pass words corners (lent b) (needs words corners)
+      (three-long (length (b .grid)) (length (b .rings)) (length (b .lengths)) (length words) (length corners) (length corners / 3) (omega arith) (omega arith) (omega arith)) in
+      refused-or b (outcome r b′) (refusing (sheetRefusal words corners)) (sheetRefusal words corners)
+      (subst (λ (a : Answer). JudgesIf (refusing a) a words corners states set b (outcome r b′)) e j)
 
   module _ (a b : Answer) where
     counted-once : (t : Bool) → refusing (sheetRefusal words corners) ≡ false → AnswersCounted t words corners states set a → AnswersCounted t words corners states set b → a ≡ b

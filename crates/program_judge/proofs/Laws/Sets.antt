@@ -1,7 +1,7 @@
 -- From what reading the text of a set leaves to what is answered on it: the fault's line where reading refuses, and the checker's answer
 -- on what was read where it does not.
 use mathlib.Core.Path.{_≡_, refl, sym, ap, _∙_}
-use mathlib.Core.Bool.{true, false, true≢false}
+use mathlib.Core.Bool.{Bool, true, false, true≢false}
 use mathlib.Core.List.{List, [], _∷_}
 use Prim.Native.Nat.{ℕ, _+_, _/_, _≤_}
 use native.Mathlib.Omega.{arith}
@@ -26,8 +26,8 @@ use Rattle.program_judge.specs.Workings.Taken.{HearsSet}
 abbrev readAll : List ℕ → List ℕ → List ℕ → List ℕ → SetOutcome
 readAll ss cs states corners = record { answer = Done; state-count = length ss; corner-count = length cs; states = over ss states; corners = over cs corners }
 
-module _ (words corners patches : List ℕ) (before : ℕ) (states set : List ℕ) (o : SetOutcome) (r : ReadsSet patches before states set o)
-    (hs : limits.states ≤ length states) (hc : limits.set-corners ≤ length set) where
+module _ {patches states set : List ℕ} {before : ℕ} {o : SetOutcome} (r : ReadsSet patches before states set o)
+    (hs : limits.states ≤ length states) (hc : limits.set-corners ≤ length set) {b : Bool} (d : b ≡ refusing (o .answer)) where
   whole : (ss : List ℕ) (us : List Three) → TextOf text.states text.triangles patches ss us → o ≡ readAll ss (flat us) states set
   unfolding deliver
   whole ss us t =
@@ -38,18 +38,18 @@ module _ (words corners patches : List ℕ) (before : ℕ) (states set : List �
   answer-of : (p : SetOutcome) → o ≡ p → o .answer ≡ p .answer
   answer-of p e = ap (λ (q : SetOutcome). q .answer) e
 
-  pub refused-hears : refusing (o .answer) ≡ true → before ≡ length words / 3 + length corners / 3 + 2 → HearsSet words corners patches (o .answer)
+  pub refused-hears : {words corners : List ℕ} → b ≡ true → before ≡ length words / 3 + length corners / 3 + 2 → HearsSet words corners patches (o .answer)
   refused-hears h e =
       record {
         of-set-fault = λ line f. answer-of _ (r .of-fault line f) ∙ ap (λ (n : ℕ). Line (n + line)) e;
-        of-set = λ ss us t. absurd (true≢false (sym h ∙ ap refusing (answer-of _ (whole ss us t))));
+        of-set = λ ss us t. absurd (true≢false (sym h ∙ d ∙ ap refusing (answer-of _ (whole ss us t))));
       }
 
-  pub judged-hears : (a : Answer) → refusing (o .answer) ≡ false → Answers words corners (take (o .state-count) (o .states)) (take (o .corner-count) (o .corners)) a
+  pub judged-hears : {words corners : List ℕ} {a : Answer} → b ≡ false → Answers words corners (take (o .state-count) (o .states)) (take (o .corner-count) (o .corners)) a
       → HearsSet words corners patches a
-  judged-hears a h k =
+  judged-hears h k =
       record {
-        of-set-fault = λ line f. absurd (true≢false (sym (ap refusing (answer-of _ (r .of-fault line f))) ∙ h));
+        of-set-fault = λ line f. absurd (true≢false (sym (ap refusing (answer-of _ (r .of-fault line f))) ∙ sym d ∙ h));
         of-set = λ ss us t.
             let e = whole ss us t in
             let s : take (o .state-count) (o .states) ≡ ss = ap (λ (q : SetOutcome). take (q .state-count) (q .states)) e ∙ start-of ss states (length ss) refl in

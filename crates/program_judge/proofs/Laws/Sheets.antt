@@ -5,6 +5,8 @@ use Prim.Native.Nat.{ℕ, _+_, _*_, _/_, _≤_}
 use native.Mathlib.Omega.{arith}
 use lib.ListN.{length, take}
 use lib.Seq.{length-take-le}
+use mir.Val.{Fits}
+use mir.Syntax.{w64}
 use Rattle.base_answers.specs.declared.Answer.{Answer}
 use Rattle.base_answers.specs.declared.Answer.the-variants.{Line}
 use Rattle.base_limits.specs.Limits as limits
@@ -37,16 +39,16 @@ wrong-hears scan words corners patches line e t =
     none ps ts h = whole-wrong (sym (h .0) ∙ e)
 
 -- a whole text of n points and m triangles
-module _ (scan : Scan) (words corners : List ℕ) (n m : ℕ) (e : scan ≡ Whole n m) where
-  module _ (t : Taken scan words corners) where
+module _ {scan : Scan} {n m : ℕ} (e : scan ≡ Whole n m) where
+  module _ {words corners : List ℕ} (t : Taken scan words corners) where
     here : Kept flat flat parse (t .text) n m words corners (t .words-before) (t .corners-before)
     here = kept flat flat parse (t .text) scan n m words corners (t .words-before) (t .corners-before) (t .scanned) e
 
-    pub points-few : n ≤ limits.points
-    points-few = deliver.few-points here
+    pub words-small : Fits w64 (3 * n)
+    words-small = omega (arith, deliver.few-points here)
 
-    pub triangles-few : m ≤ limits.triangles
-    triangles-few = deliver.few-triangles here
+    pub corners-small : Fits w64 (3 * m)
+    corners-small = omega (arith, deliver.few-triangles here)
 
     -- the buffers hold all of them
     pub words-within : 3 * n ≤ length words
@@ -62,15 +64,15 @@ module _ (scan : Scan) (words corners : List ℕ) (n m : ℕ) (e : scan ≡ Whol
     corners-cut = sym (length-take-le (3 * m) corners corners-within)
 
     pub cut-few : (length (take (3 * n) words) ≤ limits.words) × (length (take (3 * m) corners) ≤ limits.corners)
-    cut-few = (omega (arith, words-cut, points-few), omega (arith, corners-cut, triangles-few))
+    cut-few = (omega (arith, words-cut, deliver.few-points here), omega (arith, corners-cut, deliver.few-triangles here))
 
   -- as many lines as are counted
   lines-counted : (ps ts : List Three) → length (flat ps) / 3 + length (flat ts) / 3 + 2 ≡ length (lines points triangles ps ts)
   lines-counted ps ts = omega (arith, flat-length ps, flat-length ts, lines-length points triangles ps ts)
 
-  pub whole-hears : (patches : List ℕ) (a : Answer) → HearsSet (take (3 * n) words) (take (3 * m) corners) patches a → HearsTaken scan words corners patches a
+  pub whole-hears : (words corners patches : List ℕ) (a : Answer) → HearsSet (take (3 * n) words) (take (3 * m) corners) patches a → HearsTaken scan words corners patches a
   unfolding HearsTaken Scanned
-  whole-hears patches a h t =
+  whole-hears words corners patches a h t =
       record {
         of-fault = λ l f. absurd (whole-wrong (sym e ∙ rw (fault-only f) at (t .scanned)));
         of-set-fault = λ ps ts x l f.

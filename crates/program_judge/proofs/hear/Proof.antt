@@ -1,7 +1,6 @@
 -- `hear` tells the wrong line, or hands on what was taken in.
-use native.Mathlib.Omega.{arith}
 use borrow.Author.Needs.{needs}
-use Rattle.program_judge.proofs.Laws.Sheets.{wrong-hears, points-few, triangles-few, words-cut, corners-cut, cut-few, whole-hears}
+use Rattle.program_judge.proofs.Laws.Sheets.{wrong-hears, words-small, corners-small, words-cut, corners-cut, cut-few, whole-hears}
 use Rattle.program_judge.proofs.hear.Statement.{statement}
 use Rattle.program_judge.proofs.hear.Tie as tie
 
@@ -11,10 +10,10 @@ hear-spec =
     (tie.spec
     (λ c. search needs)
     (λ c. search needs)
-    (λ c. let start : tie.Start = search in omega (arith, points-few _ _ _ _ _ (c .before .sheet2 .given .1) (start .pre)))
-    (λ c. let start : tie.Start = search in omega (arith, triangles-few _ _ _ _ _ (c .before .sheet2 .given .1) (start .pre)))
+    (λ c. search words-small)
+    (λ c. search corners-small)
     (λ c. search words-cut)
     (λ c. search corners-cut)
-    (λ c κs. let after-sheet2 : tie.After-sheet2 = search in let start : tie.Start = search in cut-few _ _ _ _ _ (after-sheet2 .sheet2 .given .1) (start .pre))
+    (λ c κs. let w : tie.After-sheet2 = search in let s : tie.Start = search in cut-few (w .sheet2 .given .1) (s .pre))
     (λ c. search wrong-hears)
     (λ c. search whole-hears))

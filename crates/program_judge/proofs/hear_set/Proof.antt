@@ -1,21 +1,29 @@
 -- `hear_set` counts the sheet's lines, and judges no more than was read of the set.
-use mathlib.Core.Path.{refl, sym, _∙_}
+use mathlib.Core.Path.{refl}
 use lib.Dec.{lit≤}
-use lib.Seq.{length-take-le}
 use borrow.Author.Needs.{needs}
-use Rattle.text_read_set.proofs.Laws.Within.{read-set-within}
+use Rattle.surface_rules.proofs.Laws.Lists.{as-long}
+use Rattle.text_read_set.specs.Outcome.{setOutcome}
+use Rattle.text_read_set.proofs.Laws.Within.{Within, read-set-within}
 use Rattle.program_judge.proofs.Laws.Sets.{refused-hears, judged-hears}
 use Rattle.program_judge.proofs.hear_set.Statement.{statement}
 use Rattle.program_judge.proofs.hear_set.Tie as tie
 
-abbrev to-after-read-set : tie.After-refuses → tie.After-read-set
-to-after-read-set p = search
+-- where the set was read, and where that was found refused or not
+abbrev Read : Type 0
+Read = tie.After-read-set
 
-abbrev to-after-refuses : tie.After-judge → tie.After-refuses
-to-after-refuses p = search
+abbrev read : tie.After-refuses → Read
+read f = search
 
-abbrev to-else1 : tie.After-judge → tie.Else1
-to-else1 p = search
+within : (k : Read) → Within (setOutcome (k .read-set .result) (k .read-set .last .1 .1 .0) (k .read-set .last .1 .1 .1 .0))
+within k = read-set-within _ _ _ _ _ (k .read-set .ensures)
+
+returns-2 : tie.Need-returns-2
+returns-2 c =
+    let f : tie.After-refuses = search in
+    let o : tie.Else1 = search in
+    judged-hears (read f .read-set .ensures) (lit≤ tt) (lit≤ tt) (f .refuses .ensures) (o .if1 .left) (c .judge .ensures)
 
 pub hear-set-spec : {M : Type 1} → statement M
 hear-set-spec =
@@ -28,20 +36,10 @@ hear-set-spec =
     (λ c. search needs)
     (λ c κs. search needs)
     (λ c κs. search needs)
-    (λ c.
-    let after-refuses : tie.After-refuses = search in
-    refused-hears _ _ _ _ _ _ _ (to-after-read-set after-refuses .read-set .ensures) (lit≤ tt) (lit≤ tt) (sym (c .before .refuses .ensures) ∙ c .if1 .taken)
-    refl)
-    (λ c. let after-refuses : tie.After-refuses = search in read-set-within _ _ _ _ _ (to-after-read-set after-refuses .read-set .ensures) .states-in)
-    (λ c.
-    let after-refuses : tie.After-refuses = search in
-    sym (length-take-le _ _ (read-set-within _ _ _ _ _ (to-after-read-set after-refuses .read-set .ensures) .states-in)))
-    (λ c. let after-refuses : tie.After-refuses = search in read-set-within _ _ _ _ _ (to-after-read-set after-refuses .read-set .ensures) .corners-in)
-    (λ c.
-    let after-refuses : tie.After-refuses = search in
-    sym (length-take-le _ _ (read-set-within _ _ _ _ _ (to-after-read-set after-refuses .read-set .ensures) .corners-in)))
+    (λ c. let f : tie.After-refuses = search in refused-hears (read f .read-set .ensures) (lit≤ tt) (lit≤ tt) (f .refuses .ensures) (c .if1 .taken) refl)
+    (λ c. within (search) .states-in)
+    (λ c. as-long _ _ (within (search) .states-in))
+    (λ c. within (search) .corners-in)
+    (λ c. as-long _ _ (within (search) .corners-in))
     (λ c κs. search needs)
-    (λ c.
-    let after-refuses = to-after-refuses c in
-    judged-hears _ _ _ _ _ _ _ (to-after-read-set after-refuses .read-set .ensures) (lit≤ tt) (lit≤ tt) _
-    (sym (after-refuses .refuses .ensures) ∙ (to-else1 c) .if1 .left) (c .judge .ensures)))
+    returns-2)

@@ -5,7 +5,7 @@ use mathlib.Core.Logic.{_⊎_, inl, inr}
 use Prim.Native.Nat.{ℕ, zero, suc, _+_, _-_, _*_, _/_, _%_, _^_, _<_, _≤_}
 use native.Mathlib.Nat.{pow-succ', one-le-pow, mod-lt, div-div-eq-div-mul}
 use native.Mathlib.Omega.{arith}
-use lib.ListN.{length, take, drop, set, length-set, length-append}
+use lib.ListN.{length, take, drop, getD, set, length-set, length-append}
 use lib.Seq.{take-set-le, drop-set-lt, drop-cons, getD-set-same}
 use mir.Val.{Fits}
 use mir.Syntax.{w16, w64}
@@ -15,8 +15,9 @@ use Rattle.surface_rules.proofs.Laws.Laid.{laid-none}
 use Rattle.text_digits.specs.Numeral.{byteOf, size, sizeIn, places, decimal}
 use Rattle.text_digits.proofs.Laws.Digit.{lt-or-ge, byte-ten, size-one}
 use Rattle.text_digits.proofs.Laws.Sizes.{size-below}
-use Rattle.text_digits.proofs.Laws.Exactly.{length-places}
+use Rattle.text_digits.proofs.Laws.Exactly.{length-places, ended-length}
 use Rattle.text_digits.proofs.Laws.Lay.{lay-byte}
+use Rattle.program_lines.specs.Lines.{PutAt}
 use Rattle.text_figures.proofs.Laws.Parts.{part-div, part-mod}
 
 -- more steps than are needed change nothing
@@ -53,6 +54,10 @@ size-word n h = size-below 19 n (omega arith)
 
 pub size-short : (n : ℕ) → Fits w16 n → size n ≤ 5
 size-short n h = size-below 4 n (omega arith)
+
+-- a number of two bytes is one of eight
+pub widened : (l : List ℕ) (i : ℕ) → ((k : ℕ) → Fits w16 (getD l k 0)) → Fits w64 (getD l i 0)
+widened l i h = omega (arith, h i)
 
 -- the digits are all but the last, and the last
 places-last : (k n : ℕ) → n < 10 ^ suc k → places 10 (suc k) n ≡ places 10 k (n / 10) ++ (byteOf (n % 10) ∷ [])
@@ -111,7 +116,10 @@ digits-end at (suc k) v text whole h q = absurd (omega arith)
 
 -- a number and the byte that ends it
 pub ended-put : (at n k e : ℕ) (text middle : List ℕ) → at + size n + 1 ≤ length text → k ≡ size n → middle ≡ laid at (places 10 k n) text
-    → (set middle (at + k) e ≡ laid at (decimal n ++ (e ∷ [])) text) × (at + k + 1 ≡ at + size n + 1)
+    → PutAt at (decimal n ++ (e ∷ [])) text (at + k + 1) (set middle (at + k) e)
 ended-put at n k e text middle h z q =
     let m : middle ≡ laid at (decimal n) text = q ∙ ap (λ (j : ℕ). laid at (places 10 j n) text) z in
-    (lay-byte at (at + k) e (decimal n) text middle (omega (arith, length-decimal n)) (omega (arith, length-decimal n)) m, omega arith)
+    record {
+      put = lay-byte at (at + k) e (decimal n) text middle (omega (arith, length-decimal n)) (omega (arith, length-decimal n)) m;
+      behind = omega (arith, ended-length n e);
+    }

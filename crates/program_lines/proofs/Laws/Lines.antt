@@ -8,10 +8,10 @@ use lib.Seq.{drop-cons}
 use Rattle.surface_rules.specs.Buffers.{laid}
 use Rattle.text_digits.specs.Numeral.{size, decimal}
 use Rattle.text_digits.proofs.Laws.Exactly.{ended-length}
-use Rattle.text_digits.proofs.Laws.Laying.{Laying, laying-begins, laying-room, laying-more}
+use Rattle.text_digits.proofs.Laws.Laying.{Laying, laying-begins, laying-room, laying-more, laying-last, laying-left, laying-ends}
 use Rattle.text_rules.specs.Text.{feed}
 use Rattle.text_sheet.specs.Sheet.{comma}
-use Rattle.program_lines.specs.Lines.{joined, line}
+use Rattle.program_lines.specs.Lines.{joined, line, PutAt}
 
 -- the number that comes first, with the byte that ends it
 pub joined-next : (a b : ℕ) (l : List ℕ) → joined (a ∷ b ∷ l) ≡ (decimal a ++ (comma ∷ [])) ++ joined (b ∷ l)
@@ -51,26 +51,62 @@ module _ (key : List ℕ) (a : ℕ) where
 pub line-begins : (key l before : List ℕ) (at : ℕ) → at + length (line key l) ≤ length before → at + length key ≤ length before
 line-begins key l before at h = omega (arith, line-length key l)
 
--- the key is put
-pub key-put : (key l before : List ℕ) (at : ℕ) {after : List ℕ} {next : ℕ} → at + length (line key l) ≤ length before → after ≡ laid at key before → next ≡ at + length key → Laying (line key l) at before (joined l) next after
+-- these numbers are left of a line that is put
+pub record Lining (whole : List ℕ) (at : ℕ) (before numbers : List ℕ) (place : ℕ) (out : List ℕ) : Type 0 where
+  pub laying : Laying whole at before (joined numbers) place out
+
+pub key-put : (key : List ℕ) {l before after : List ℕ} {at next : ℕ} → at + length (line key l) ≤ length before → after ≡ laid at key before → next ≡ at + length key
+    → Lining (line key l) at before l next after
 unfolding line
-key-put key l before at h q n = laying-more (laying-begins (line key l) before at h) key (joined l) refl q n
+key-put key {l} {before} {after} {at} h q n = record { laying = laying-more (laying-begins (line key l) before at h) key (joined l) refl q n }
 
--- a number that is not the last
-module _ {whole before out : List ℕ} {at place : ℕ} (a b : ℕ) (l : List ℕ) (g : Laying whole at before (joined (a ∷ b ∷ l)) place out) where
-  pub next-room : place + size a + 1 ≤ length out
-  next-room = omega (arith, laying-room g (decimal a ++ (comma ∷ [])) (joined (b ∷ l)) (joined-next a b l), ended-length a comma)
+ended : {whole before rest out : List ℕ} {at place : ℕ} → Laying whole at before rest place out → rest ≡ [] → PutAt at whole before place out
+ended g e = let h = laying-ends g e in record { put = h .0; behind = h .1 }
 
-  pub next-put : {after : List ℕ} {next : ℕ} → after ≡ laid place (decimal a ++ (comma ∷ [])) out → next ≡ place + size a + 1 → Laying whole at before (joined (b ∷ l)) next after
-  next-put q n = laying-more g (decimal a ++ (comma ∷ [])) (joined (b ∷ l)) (joined-next a b l) q (omega (arith, n, ended-length a comma))
+module _ {whole before out : List ℕ} {at place a : ℕ} where
+  number-fits : {l : List ℕ} → Lining whole at before (a ∷ l) place out → place + size a + 1 ≤ length out
+  number-fits {l = []} g = omega (arith, g .laying .same, g .laying .room, g .laying .reach, last-length a)
+  number-fits {l = b ∷ l} g = omega (arith, g .laying .same, g .laying .room, g .laying .reach, next-length a b l)
 
--- and the last
-module _ {whole before out : List ℕ} {at place : ℕ} (a : ℕ) (g : Laying whole at before (joined (a ∷ [])) place out) where
-  pub last-room : place + size a + 1 ≤ length out
-  last-room = omega (arith, laying-room g (decimal a ++ (feed ∷ [])) (joined []) (joined-last a), ended-length a feed)
+  next-put : {b next : ℕ} {l after : List ℕ} → Lining whole at before (a ∷ b ∷ l) place out → PutAt place (decimal a ++ (comma ∷ [])) out next after
+      → Lining whole at before (b ∷ l) next after
+  next-put {b} {l = l} g q = record { laying = laying-more (g .laying) (decimal a ++ (comma ∷ [])) (joined (b ∷ l)) (joined-next a b l) (q .put) (q .behind) }
 
-  pub last-put : {after : List ℕ} {next : ℕ} → after ≡ laid place (decimal a ++ (feed ∷ [])) out → next ≡ place + size a + 1 → Laying whole at before (joined []) next after
-  last-put q n = laying-more g (decimal a ++ (feed ∷ [])) (joined []) (joined-last a) q (omega (arith, n, ended-length a feed))
+  last-put : {next : ℕ} {after : List ℕ} → Lining whole at before (a ∷ []) place out → PutAt place (decimal a ++ (feed ∷ [])) out next after → PutAt at whole before next after
+  last-put g q = ended (laying-more (g .laying) (decimal a ++ (feed ∷ [])) (joined []) (joined-last a) (q .put) (q .behind)) joined-none
+
+-- lines of one number, of two and of three, number by number behind the key
+module _ (key out one : List ℕ) (at a : ℕ) where
+  abbrev Room : List ℕ → Type 0
+  Room l = at + length (line key (a ∷ l)) ≤ length out
+
+  pub first-room : (l : List ℕ) → Room l → one ≡ laid at key out → at + length key + size a + 1 ≤ length one
+  first-room l h p = number-fits (key-put key {l = a ∷ l} h p refl)
+
+  pub one-put : {r : ℕ} {after : List ℕ} → Room [] → one ≡ laid at key out → PutAt (at + length key) (decimal a ++ (feed ∷ [])) one r after
+      → PutAt at (line key (a ∷ [])) out r after
+  one-put h p q = last-put (key-put key h p refl) q
+
+  module _ (b i : ℕ) (two : List ℕ) where
+    pub second : (l : List ℕ) → Room (b ∷ l) → one ≡ laid at key out → PutAt (at + length key) (decimal a ++ (comma ∷ [])) one i two
+        → Lining (line key (a ∷ b ∷ l)) at out (b ∷ l) i two
+    second l h p q = next-put (key-put key {l = a ∷ b ∷ l} h p refl) q
+
+    pub second-room : (l : List ℕ) → Room (b ∷ l) → one ≡ laid at key out → PutAt (at + length key) (decimal a ++ (comma ∷ [])) one i two
+        → i + size b + 1 ≤ length two
+    second-room l h p q = number-fits (second l h p q)
+
+    pub two-put : {r : ℕ} {after : List ℕ} → Room (b ∷ []) → one ≡ laid at key out → PutAt (at + length key) (decimal a ++ (comma ∷ [])) one i two
+        → PutAt i (decimal b ++ (feed ∷ [])) two r after → PutAt at (line key (a ∷ b ∷ [])) out r after
+    two-put h p q s = last-put (second [] h p q) s
+
+pub third-room : {whole before two three l : List ℕ} {at b c i j : ℕ} → Lining whole at before (b ∷ c ∷ l) i two → PutAt i (decimal b ++ (comma ∷ [])) two j three
+    → j + size c + 1 ≤ length three
+third-room g q = number-fits (next-put g q)
+
+pub three-put : {whole before two three after : List ℕ} {at b c i j r : ℕ} → Lining whole at before (b ∷ c ∷ []) i two → PutAt i (decimal b ++ (comma ∷ [])) two j three
+    → PutAt j (decimal c ++ (feed ∷ [])) three r after → PutAt at whole before r after
+three-put g q t = last-put (next-put g q) t
 
 -- numbers of a list, one by one
 module _ (l : List ℕ) (i : ℕ) where
@@ -99,12 +135,19 @@ module _ (l : List ℕ) (i : ℕ) where
   joined-at h (by-comma m q) = rw q (at-next m)
   joined-at h (by-feed m q) = rw q (at-last h m)
 
-module _ {whole before out l : List ℕ} {at place i : ℕ} (g : Laying whole at before (joined (drop i l)) place out) (h : i < length l) (e : ℕ) (k : Ends l i e) where
+module _ {whole before out l : List ℕ} {at place i : ℕ} (g : Lining whole at before (drop i l) place out) (h : i < length l) {e : ℕ} (k : Ends l i e) where
   pub number-room : place + size (getD l i 0) + 1 ≤ length out
-  number-room = omega (arith, laying-room g (decimal (getD l i 0) ++ (e ∷ [])) (joined (drop (i + 1) l)) (joined-at l i h k), ended-length (getD l i 0) e)
+  number-room = omega (arith, laying-room (g .laying) (decimal (getD l i 0) ++ (e ∷ [])) (joined (drop (i + 1) l)) (joined-at l i h k), ended-length (getD l i 0) e)
 
-  pub number-put : {after : List ℕ} {next : ℕ} → after ≡ laid place (decimal (getD l i 0) ++ (e ∷ [])) out → next ≡ place + size (getD l i 0) + 1 → Laying whole at before (joined (drop (i + 1) l)) next after
-  number-put q n = laying-more g (decimal (getD l i 0) ++ (e ∷ [])) (joined (drop (i + 1) l)) (joined-at l i h k) q (omega (arith, n, ended-length (getD l i 0) e))
+  pub number-put : {after : List ℕ} {next : ℕ} → PutAt place (decimal (getD l i 0) ++ (e ∷ [])) out next after → Lining whole at before (drop (i + 1) l) next after
+  number-put q = record { laying = laying-more (g .laying) (decimal (getD l i 0) ++ (e ∷ [])) (joined (drop (i + 1) l)) (joined-at l i h k) (q .put) (q .behind) }
 
-pub joined-over : (l : List ℕ) (i : ℕ) → length l ≤ i → joined (drop i l) ≡ []
-joined-over l i h = ap joined (drop-of-length-le l h) ∙ joined-none
+-- all numbers of a line, as a whole of their own, and put to the end
+pub lining-left : {whole l before out : List ℕ} {at place : ℕ} → Lining whole at before l place out → Lining (joined l) place out l place out
+lining-left g = record { laying = laying-left (g .laying) }
+
+pub lining-ends : {whole before middle out l : List ℕ} {at from place : ℕ} (i : ℕ) → Lining whole at before l from middle → Lining (joined l) from middle (drop i l) place out
+    → length l ≤ i → PutAt at whole before place out
+lining-ends {l = l} i f g h =
+    let e = laying-ends (g .laying) (ap joined (drop-of-length-le l h) ∙ joined-none) in
+    ended (laying-last (f .laying) (e .0) (e .1)) refl

@@ -1,11 +1,10 @@
 -- The lines of one loop: the line `loop=`, the ring, and the patch.
-use mathlib.Core.Path.{_≡_, refl}
+use mathlib.Core.Path.{refl}
 use mathlib.Core.List.{List, [], _∷_, _++_}
 use Prim.Native.Nat.{ℕ, _+_, _≤_}
 use lib.ListN.{length}
-use Rattle.surface_rules.specs.Buffers.{laid}
 use Rattle.text_digits.proofs.Laws.Laying.{Laying, laying-begins, laying-room, laying-more, laying-last, laying-left, laying-ends}
-use Rattle.program_lines.specs.Lines.{line, loop=, ring=}
+use Rattle.program_lines.specs.Lines.{line, loop=, ring=, PutAt}
 use Rattle.program_lines.specs.Listing.{loopLines, patchLines}
 use Rattle.program_lines.specs.Workings.Telling.{shown}
 
@@ -17,20 +16,19 @@ module _ (ring : List ℕ) (state weight : ℕ) (patch out : List ℕ) (at : ℕ
   pub counts-room : at + length (line loop= (length ring ∷ state ∷ weight ∷ [])) ≤ length out
   counts-room = laying-room begins (line loop= (length ring ∷ state ∷ weight ∷ [])) (line ring= ring ++ patchLines patch) refl
 
-  module _ {i : ℕ} {one : List ℕ} (p : one ≡ laid at (line loop= (length ring ∷ state ∷ weight ∷ [])) out) (q : i ≡ at + length (line loop= (length ring ∷ state ∷ weight ∷ []))) where
+  module _ {i : ℕ} {one : List ℕ} (p : PutAt at (line loop= (length ring ∷ state ∷ weight ∷ [])) out i one) where
     counted : Laying (loopLines (shown ring state weight patch)) at out (line ring= ring ++ patchLines patch) i one
-    counted = laying-more begins (line loop= (length ring ∷ state ∷ weight ∷ [])) (line ring= ring ++ patchLines patch) refl p q
+    counted = laying-more begins (line loop= (length ring ∷ state ∷ weight ∷ [])) (line ring= ring ++ patchLines patch) refl (p .put) (p .behind)
 
     pub ring-room : i + length (line ring= ring) ≤ length one
     ring-room = laying-room counted (line ring= ring) (patchLines patch) refl
 
-    module _ {j : ℕ} {two : List ℕ} (s : two ≡ laid i (line ring= ring) one) (t : j ≡ i + length (line ring= ring)) where
+    module _ {j : ℕ} {two : List ℕ} (s : PutAt i (line ring= ring) one j two) where
       ringed : Laying (loopLines (shown ring state weight patch)) at out (patchLines patch) j two
-      ringed = laying-more counted (line ring= ring) (patchLines patch) refl s t
+      ringed = laying-more counted (line ring= ring) (patchLines patch) refl (s .put) (s .behind)
 
       pub patch-fits : j + length (patchLines patch) ≤ length two
       patch-fits = laying-left ringed .room
 
-      pub patch-last : {k : ℕ} {three : List ℕ} → three ≡ laid j (patchLines patch) two → k ≡ j + length (patchLines patch)
-          → (three ≡ laid at (loopLines (shown ring state weight patch)) out) × (k ≡ at + length (loopLines (shown ring state weight patch)))
-      patch-last u v = laying-ends (laying-last ringed u v) refl
+      pub patch-last : {k : ℕ} {three : List ℕ} → PutAt j (patchLines patch) two k three → PutAt at (loopLines (shown ring state weight patch)) out k three
+      patch-last u = let e = laying-ends (laying-last ringed (u .put) (u .behind)) refl in record { put = e .0; behind = e .1 }

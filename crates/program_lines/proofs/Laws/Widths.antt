@@ -11,6 +11,7 @@ use mir.Val as val
 use mir.Syntax.{w16, w64}
 use borrow.Author.Tests.{eqb-true}
 use Rattle.base_limits.specs.Limits as limits
+use Rattle.base_limits.specs.States as stated
 use Rattle.text_digits.specs.Numeral.{size}
 use Rattle.program_lines.specs.Lines.{line, joined, loop=, ring=, patch=}
 use Rattle.program_lines.specs.Listing.{Shown, patchLines, loopLines}
@@ -51,9 +52,9 @@ patch-wide (a ∷ b ∷ c ∷ l) h =
     omega (arith, length-append (line patch= (a ∷ b ∷ c ∷ [])) (patchLines l), three-length patch= a b c, short-head a (b ∷ c ∷ l) h, short-head b (c ∷ l) i, short-head c l j, patch-wide l (short-tail c l j))
 
 share-few : (s : Shown) → Fits s → 8 * length (s .patch) ≤ 24 * limits.longest
-share-few s f = go (eqb (s .state) 1) refl
+share-few s f = go (eqb (s .state) stated.patched) refl
   where
-    go : (t : Bool) → eqb (s .state) 1 ≡ t → 8 * length (s .patch) ≤ 24 * limits.longest
+    go : (t : Bool) → eqb (s .state) stated.patched ≡ t → 8 * length (s .patch) ≤ 24 * limits.longest
     go true e = let z : length (s .patch) ≡ 3 * (length (s .ring) - 2) = f .share ∙ rw e in omega (arith, f .patched (eqb-true _ _ e))
     go false e = let z : length (s .patch) ≡ 0 = f .share ∙ rw e in omega arith
 

@@ -1,119 +1,68 @@
 -- `put_next`: the parts of the buffers that are handed on are the next loop's.
+use Prim.Native.Nat.{_+_, _≤_}
 use native.Mathlib.Omega.{arith}
+use lib.ListN.{length}
 use borrow.Author.Needs.{needs}
-use Rattle.program_lines.specs.Workings.Telling.{TellsNext}
-use Rattle.program_lines.proofs.Laws.Nexts.{within-lengths, within-states, within-weights, two-edges, ring-within, patch-within, next-wide, next-tells}
+use Rattle.program_lines.specs.Listing.{loopLines}
+use Rattle.program_lines.specs.Workings.Telling.{Inventory, inventory}
+use Rattle.program_lines.proofs.Laws.Widths.{widest}
+use Rattle.program_lines.proofs.Laws.Nexts.{Typed, NextPlace, handed, next-place, patch-in, next-wide, next-tells}
 use Rattle.program_lines.proofs.put_next.Statement.{statement}
 use Rattle.program_lines.proofs.put_next.Tie as tie
 
-returns : tie.Need-returns
-unfolding TellsNext
-returns c = ((λ room. next-tells (c .before .before .before .before .before .before .before .before .before .before .before .before .before .before .before .before .args .rings .now) (c .before .before .before .before .before .before .before .before .before .before .before .before .before .before .before .before .args .lengths .now) (c .before .before .before .before .before .before .before .before .before .before .before .before .before .before .before .before .args .states .now) (c .before .before .before .before .before .before .before .before .before .before .before .before .before .before .before .before .args .weights .now) (c .before .before .before .before .before .before .before .before .before .before .before .before .before .before .before .before .args .patches .now) (c .before .before .before .before .before .before .before .before .before .before .before .before .before .before .before .before .args .progress) room (c .before .before .before .before .before .before .before .corners-of .result) (c .before .before .before .before .before .before .before .corners-of .ensures) _ _ _ (c .before .before .put-loop .ensures .0) (c .before .before .put-loop .ensures .1)), omega (arith, next-wide (c .before .before .before .before .before .before .before .before .before .before .before .before .before .before .before .before .args .rings .now) (c .before .before .before .before .before .before .before .before .before .before .before .before .before .before .before .before .args .lengths .now) (c .before .before .before .before .before .before .before .before .before .before .before .before .before .before .before .before .args .states .now) (c .before .before .before .before .before .before .before .before .before .before .before .before .before .before .before .before .args .weights .now) (c .before .before .before .before .before .before .before .before .before .before .before .before .before .before .before .before .args .patches .now) (c .before .before .before .before .before .before .before .before .before .before .before .before .before .before .before .before .args .progress) (c .before .before .before .before .before .before .before .before .before .before .before .before .before .before .before .before .pre .1) (c .before .before .before .before .before .before .before .corners-of .result) (c .before .before .before .before .before .before .before .corners-of .ensures) (c .before .before .before .before .before .before .before .before .before .before .before .before .before .before .shared-slice-known .given) (c .before .before .before .before .before .before .before .before .before .before .shared-slice-known5 .given) (c .before .before .before .before .before .before .before .before .before .before .before .before .shared-slice-known3 .given) (c .before .before .before .before .before .before .before .before .before .before .before .shared-slice-known4 .given), c .before .before .put-loop .ensures .1))
+-- where the corners of the patch were counted, and where the lines were put
+abbrev Counted : Type 0
+Counted = tie.After-corners-of
 
-abbrev to-start : tie.After-corners-of → tie.Start
-to-start p = search
+abbrev Put : Type 0
+Put = tie.After-put-loop
 
-abbrev to-after-shared-slice-known : tie.After-corners-of → tie.After-shared-slice-known
-to-after-shared-slice-known p = search
+abbrev entry : Counted → tie.Start
+entry k = search
 
-abbrev to-after-shared-slice-known5 : tie.After-corners-of → tie.After-shared-slice-known5
-to-after-shared-slice-known5 p = search
+abbrev counted : Put → Counted
+counted u = search
 
-abbrev to-after-shared-slice-known3 : tie.After-corners-of → tie.After-shared-slice-known3
-to-after-shared-slice-known3 p = search
+-- what stands in the buffers, and where the next loop stands there
+abbrev lent : tie.Start → Inventory
+lent s = inventory (s .args .rings .now) (s .args .lengths .now) (s .args .states .now) (s .args .weights .now) (s .args .patches .now)
 
-abbrev to-after-shared-slice-known4 : tie.After-corners-of → tie.After-shared-slice-known4
-to-after-shared-slice-known4 p = search
+here : (s : tie.Start) → NextPlace (lent s) (s .args .progress)
+here s = next-place (s .pre .1)
 
-abbrev to-after-corners-of : tie.After-put-loop → tie.After-corners-of
-to-after-corners-of p = search
+share-in : (k : Counted) → entry k .args .progress .corners + k .corners-of .result ≤ length (entry k .args .patches .now)
+share-in k = patch-in (entry k .pre .1) (k .corners-of .ensures)
+
+wide : (k : Counted) → length (loopLines (handed (lent (entry k)) (entry k .args .progress) (k .corners-of .result))) ≤ widest
+wide k =
+    let typed : Typed (lent (entry k)) = record { rings-short = search; states-short = search; weights-long = search; patches-short = search } in
+    next-wide (entry k .pre .1) (k .corners-of .ensures) typed
 
 pub put-next-spec : {M : Type 1} → statement M
 put-next-spec =
     tie.close
     (tie.spec
-    (λ c. let start : tie.Start = search in omega (arith, within-lengths _ _ _ _ _ _ (start .pre .1)))
-    (λ c. search within-lengths)
-    (λ c.
-    let after-shared-slice-known2 : tie.After-shared-slice-known2 = search in let start : tie.Start = search in
-    omega (arith, after-shared-slice-known2 .shared-slice-known2 .given (start .args .progress .loops)))
-    (λ c. let start : tie.Start = search in omega (arith, within-states _ _ _ _ _ _ (start .pre .1)))
-    (λ c. search within-states)
-    (λ c κs.
-    let start : tie.Start = search in let after-shared-slice-known2 : tie.After-shared-slice-known2 = search in
-    (two-edges _ _ _ _ _ _ (start .pre .1), omega (arith, after-shared-slice-known2 .shared-slice-known2 .given (start .args .progress .loops))))
-    (λ c. let after-corners-of : tie.After-corners-of = search in omega (arith, ring-within _ _ _ _ _ _ (to-start after-corners-of .pre .1)))
-    (λ c. let after-corners-of : tie.After-corners-of = search in omega (arith, ring-within _ _ _ _ _ _ (to-start after-corners-of .pre .1)))
+    (λ c. omega (arith, here (search)))
+    (λ c. here (search) .in-lengths)
+    (λ c. omega (arith, here (search)))
+    (λ c. omega (arith, here (search)))
+    (λ c. here (search) .in-states)
+    (λ c κs. let h = here (search) in (omega (arith, h), omega (arith, h)))
+    (λ c. let k : Counted = search in omega (arith, here (entry k)))
+    (λ c. let k : Counted = search in omega (arith, here (entry k)))
     (λ c. omega arith)
-    (λ c. let after-corners-of : tie.After-corners-of = search in omega (arith, ring-within _ _ _ _ _ _ (to-start after-corners-of .pre .1)))
-    (λ c. let after-corners-of : tie.After-corners-of = search in omega (arith, ring-within _ _ _ _ _ _ (to-start after-corners-of .pre .1)))
-    (λ c.
-    let after-corners-of : tie.After-corners-of = search in let start = to-start after-corners-of in
-    omega (
-      arith,
-      within-weights (start .args .rings .now) (start .args .lengths .now) (start .args .states .now) (start .args .weights .now) (start .args .patches .now)
-          (start .args .progress) (start .pre .1),
-    ))
-    (λ c. search within-weights)
-    (λ c.
-    let after-corners-of : tie.After-corners-of = search in let start = to-start after-corners-of in
-    omega (
-      arith,
-      patch-within (start .args .rings .now) (start .args .lengths .now) (start .args .states .now) (start .args .weights .now) (start .args .patches .now)
-          (start .args .progress) (start .pre .1) (after-corners-of .corners-of .result) (after-corners-of .corners-of .ensures),
-    ))
-    (λ c.
-    let after-corners-of : tie.After-corners-of = search in let start = to-start after-corners-of in
-    omega (
-      arith,
-      patch-within (start .args .rings .now) (start .args .lengths .now) (start .args .states .now) (start .args .weights .now) (start .args .patches .now)
-          (start .args .progress) (start .pre .1) (after-corners-of .corners-of .result) (after-corners-of .corners-of .ensures),
-    ))
+    (λ c. let k : Counted = search in omega (arith, here (entry k)))
+    (λ c. let k : Counted = search in omega (arith, here (entry k)))
+    (λ c. let k : Counted = search in omega (arith, here (entry k), entry k .good))
+    (λ c. let k : Counted = search in here (entry k) .in-weights)
+    (λ c. omega (arith, share-in (search)))
+    (λ c. omega (arith, share-in (search)))
     (λ c. omega arith)
-    (λ c.
-    let after-corners-of : tie.After-corners-of = search in
-    omega
-    (arith, patch-within _ _ _ _ _ _ (to-start after-corners-of .pre .1) (after-corners-of .corners-of .result) (after-corners-of .corners-of .ensures)))
-    (λ c.
-    let after-corners-of : tie.After-corners-of = search in
-    omega
-    (arith, patch-within _ _ _ _ _ _ (to-start after-corners-of .pre .1) (after-corners-of .corners-of .result) (after-corners-of .corners-of .ensures)))
-    (λ c κs.
-    let after-corners-of : tie.After-corners-of = search in let start = to-start after-corners-of in
-    omega (
-      arith,
-      next-wide _ _ _ _ _ _ (start .pre .1) (after-corners-of .corners-of .result) (after-corners-of .corners-of .ensures)
-          (to-after-shared-slice-known after-corners-of .shared-slice-known .given) (to-after-shared-slice-known5 after-corners-of .shared-slice-known5 .given)
-          (to-after-shared-slice-known3 after-corners-of .shared-slice-known3 .given) (to-after-shared-slice-known4 after-corners-of .shared-slice-known4 .given),
-      start .pre .0,
-    ))
-    (λ c.
-    let after-put-loop : tie.After-put-loop = search in
-    let start = to-start (to-after-corners-of after-put-loop) in omega (
-      arith,
-      within-lengths (start .args .rings .now) (start .args .lengths .now) (start .args .states .now) (start .args .weights .now) (start .args .patches .now)
-          (start .args .progress) (start .pre .1),
-    ))
-    (λ c.
-    let after-put-loop : tie.After-put-loop = search in
-    let start = to-start (to-after-corners-of after-put-loop) in omega (
-      arith,
-      ring-within (start .args .rings .now) (start .args .lengths .now) (start .args .states .now) (start .args .weights .now) (start .args .patches .now)
-          (start .args .progress) (start .pre .1),
-    ))
-    (λ c.
-    omega (
-      arith,
-      patch-within
-          (c .before .before .before .before .before .before .before .before .before .before .before .before .before .before .before .before .args .rings .now)
-          (c .before .before .before .before .before .before .before .before .before .before .before .before .before .before .before .before .args .lengths .now)
-          (c .before .before .before .before .before .before .before .before .before .before .before .before .before .before .before .before .args .states .now)
-          (c .before .before .before .before .before .before .before .before .before .before .before .before .before .before .before .before .args .weights .now)
-          (c .before .before .before .before .before .before .before .before .before .before .before .before .before .before .before .before .args .patches .now)
-          (c .before .before .before .before .before .before .before .before .before .before .before .before .before .before .before .before .args .progress)
-          (c .before .before .before .before .before .before .before .before .before .before .before .before .before .before .before .before .pre .1)
-          (c .before .before .before .before .before .before .before .corners-of .result)
-          (c .before .before .before .before .before .before .before .corners-of .ensures),
-    ))
+    (λ c. omega (arith, share-in (search)))
+    (λ c. omega (arith, share-in (search)))
+    (λ c κs. let k : Counted = search in omega (arith, wide k, entry k .pre .0))
+    (λ c. let u : Put = search in let s = entry (counted u) in omega (arith, here s, s .good))
+    (λ c. let u : Put = search in let s = entry (counted u) in omega (arith, here s, s .good))
+    (λ c. let u : Put = search in let k = counted u in omega (arith, share-in k, entry k .good))
     (λ c. search needs)
-    returns)
+    (λ c. let u : Put = search in let k = counted u in (next-tells (k .corners-of .ensures) (u .put-loop .ensures), omega (arith, wide k, u .put-loop .ensures))))

@@ -6,9 +6,6 @@ use Rattle.program_lines.proofs.Laws.Digits.{ended-put}
 use Rattle.program_lines.proofs.put_number.Statement.{statement}
 use Rattle.program_lines.proofs.put_number.Tie as tie
 
-abbrev to-after-size-of : tie.After-put-digits → tie.After-size-of
-to-after-size-of p = search
-
 pub put-number-spec : {M : Type 1} → statement M
 put-number-spec =
     tie.close
@@ -20,6 +17,4 @@ put-number-spec =
     (λ c. search needs)
     (λ c. search needs)
     (λ c. search needs)
-    (λ c.
-    let after-put-digits : tie.After-put-digits = search in
-    ended-put _ _ _ _ _ _ (omega arith) (to-after-size-of after-put-digits .size-of .ensures) (after-put-digits .put-digits .ensures)))
+    (λ c. search (ended-put, arith)))

@@ -1,33 +1,51 @@
 -- `put_ring`: the vertices left, laid over the present buffer, give all of them; the key stands before.
 use mathlib.Core.Logic.{⊎-elim}
 use mathlib.Core.Path.{refl}
-use Prim.Native.Nat.{_≤_, _-_}
+use Prim.Native.Nat.{_≤_, _+_, _-_}
 use native.Mathlib.Omega.{arith}
 use lib.ListN.{length, drop}
 use borrow.Author.Needs.{needs}
-use Rattle.text_digits.proofs.Laws.Laying.{Laying, laying-left, laying-last, laying-ends}
-use Rattle.program_lines.specs.Lines.{joined, ring=}
-use Rattle.program_lines.proofs.Laws.Lines.{by-comma, by-feed, joined-over, line-begins, key-put, number-room, number-put}
+use Rattle.program_lines.specs.Lines.{joined, line, ring=}
+use Rattle.program_lines.proofs.Laws.Digits.{widened}
+use Rattle.program_lines.proofs.Laws.Lines.{Lining, Ends, by-comma, by-feed, line-begins, key-put, lining-left, number-room, number-put, lining-ends}
 use Rattle.program_lines.proofs.put_ring.Statement.{statement}
 use Rattle.program_lines.proofs.put_ring.Tie as tie
 
 abbrev Inv-loop : tie.InvT-loop
-Inv-loop out₀ at ring place₀ i₀ out place i = (i ≤ length ring) × Laying (joined ring) place₀ out₀ (joined (drop i ring)) place out
+Inv-loop out₀ at ring place₀ i₀ out place i = (i ≤ length ring) × Lining (joined ring) place₀ out₀ (drop i ring) place out
 
 abbrev μ-loop : tie.MeasureT-loop
 μ-loop out₀ at ring place₀ i₀ out place i = length ring - i
 
-abbrev to-start : tie.After-put-bytes Inv-loop μ-loop → tie.Start Inv-loop μ-loop
-to-start p = search
+-- the key was put
+keyed : (k : tie.After-put-bytes Inv-loop μ-loop) → let s : tie.Start Inv-loop μ-loop = search in
+    Lining (line ring= (s .args .ring .now)) (s .args .at) (s .args .out .now) (s .args .ring .now) (s .args .at + 5) (k .put-bytes .last .0)
+keyed k = let s : tie.Start Inv-loop μ-loop = search in key-put ring= (s .pre) (k .put-bytes .ensures) refl
 
-abbrev to-at-loop : tie.After-put-number Inv-loop μ-loop → tie.At-loop Inv-loop μ-loop
-to-at-loop p = search
+-- where a turn begins, where the byte that ends its vertex was chosen, and what lies behind each
+abbrev Turn : Type 0
+Turn = tie.In-loop Inv-loop μ-loop
 
-abbrev to-turn : tie.After-put-number Inv-loop μ-loop → tie.In-loop Inv-loop μ-loop
-to-turn p = search
+abbrev Chosen : Type 0
+Chosen = tie.Joined1 Inv-loop μ-loop
 
-abbrev to-joined1 : tie.After-put-number Inv-loop μ-loop → tie.Joined1 Inv-loop μ-loop
-to-joined1 p = search
+abbrev entry : Turn → tie.Start Inv-loop μ-loop
+entry t = search
+
+abbrev turn : Chosen → Turn
+turn j = search
+
+ends : (j : Chosen) → Ends (entry (turn j) .args .ring .now) (turn j .before .loop .i) (j .if1 .end)
+ends j = ⊎-elim (λ w. by-comma (w .0 .taken) (w .1)) (λ w. by-feed (w .0 .left) (w .1)) (j .if1 .came)
+
+loop-again : tie.Need-loop-again Inv-loop μ-loop
+loop-again c =
+    let u : tie.After-put-number Inv-loop μ-loop = search in
+    let j : Chosen = search in
+    let t = turn j in (search needs, number-put (t .before .loop .inv .1) (t .loop-test .taken) (ends j) (u .put-number .ensures))
+
+returns : tie.Need-returns Inv-loop μ-loop
+returns c = lining-ends (c .before .loop .i) (keyed (search)) (c .before .loop .inv .1) (c .loop-test .left)
 
 pub put-ring-spec : {M : Type 1} → statement M
 put-ring-spec =
@@ -36,29 +54,14 @@ put-ring-spec =
     (λ c. search needs)
     (λ c κs. search line-begins)
     (λ c. search needs)
-    (λ c.
-    let after-put-bytes : tie.After-put-bytes Inv-loop μ-loop = search in
-    (omega arith, laying-left (key-put ring= _ _ _ (to-start after-put-bytes .pre) (after-put-bytes .put-bytes .ensures) refl)))
+    (λ c. (omega arith, lining-left (keyed (search))))
     (λ c. search needs)
     (λ c. search needs)
     (λ c. search needs)
-    (λ c. let at-loop : tie.At-loop Inv-loop μ-loop = search in omega (arith, c .shared-slice-known2 .given (at-loop .loop .i)))
-    (λ c κs.
-    let at-loop : tie.At-loop Inv-loop μ-loop = search in let turn : tie.In-loop Inv-loop μ-loop = search in
-    let joined1 : tie.Joined1 Inv-loop μ-loop = search in
-    number-room (at-loop .loop .inv .1) (turn .loop-test .taken) (joined1 .if1 .end)
-    (⊎-elim (λ w. by-comma (w .0 .taken) (w .1)) (λ w. by-feed (w .0 .left) (w .1)) (joined1 .if1 .came)))
+    (λ c. search widened)
+    (λ c κs. let j : Chosen = search in let t = turn j in number-room (t .before .loop .inv .1) (t .loop-test .taken) (ends j))
     (λ c. search needs)
     (λ c. search needs)
-    (λ c.
-    let after-put-number : tie.After-put-number Inv-loop μ-loop = search in let joined1 = to-joined1 after-put-number in (
-      search needs,
-      number-put (to-at-loop after-put-number .loop .inv .1) (to-turn after-put-number .loop-test .taken) (joined1 .if1 .end)
-          (⊎-elim (λ w. by-comma (w .0 .taken) (w .1)) (λ w. by-feed (w .0 .left) (w .1)) (joined1 .if1 .came)) (after-put-number .put-number .ensures .0)
-          (after-put-number .put-number .ensures .1),
-    ))
+    loop-again
     (λ c. search needs)
-    (λ c.
-    let after-put-bytes : tie.After-put-bytes Inv-loop μ-loop = search in
-    let e = laying-ends (c .before .loop .inv .1) (joined-over _ (c .before .loop .i) (c .loop-test .left)) in laying-ends
-    (laying-last (key-put ring= _ _ _ (to-start after-put-bytes .pre) (after-put-bytes .put-bytes .ensures) refl) (e .0) (e .1)) refl))
+    returns)

@@ -1,20 +1,8 @@
 -- `put_two`: the key, and the numbers one by one.
-use mathlib.Core.Path.{refl}
-use mathlib.Core.List.{[], _∷_}
 use borrow.Author.Needs.{needs}
-use Rattle.text_digits.proofs.Laws.Laying.{laying-ends}
-use Rattle.program_lines.proofs.Laws.Lines.{joined-none, line-begins, key-put, next-room, next-put, last-room, last-put}
+use Rattle.program_lines.proofs.Laws.Lines.{line-begins, first-room, second-room, two-put}
 use Rattle.program_lines.proofs.put_two.Statement.{statement}
 use Rattle.program_lines.proofs.put_two.Tie as tie
-
-abbrev to-start : tie.After-put-bytes → tie.Start
-to-start p = search
-
-abbrev to-after-put-bytes : tie.After-put-number → tie.After-put-bytes
-to-after-put-bytes p = search
-
-abbrev to-after-put-number : tie.After-put-number2 → tie.After-put-number
-to-after-put-number p = search
 
 pub put-two-spec : {M : Type 1} → statement M
 put-two-spec =
@@ -22,21 +10,7 @@ put-two-spec =
     (tie.spec
     (λ c κs. search line-begins)
     (λ c. search needs)
-    (λ c κs.
-    let after-put-bytes : tie.After-put-bytes = search in
-    next-room _ _ [] (key-put _ (_ ∷ _ ∷ []) _ _ (to-start after-put-bytes .pre) (after-put-bytes .put-bytes .ensures) refl))
-    (λ c κs.
-    let after-put-number : tie.After-put-number = search in let after-put-bytes = to-after-put-bytes after-put-number in
-    last-room _
-    (next-put _ _ [] (key-put _ (_ ∷ _ ∷ []) _ _ (to-start after-put-bytes .pre) (after-put-bytes .put-bytes .ensures) refl)
-    (after-put-number .put-number .ensures .0) (after-put-number .put-number .ensures .1)))
+    (λ c κs. search first-room)
+    (λ c κs. search second-room)
     (λ c. search needs)
-    (λ c.
-    let after-put-number2 : tie.After-put-number2 = search in let after-put-number = to-after-put-number after-put-number2 in
-    let after-put-bytes = to-after-put-bytes after-put-number in
-    laying-ends
-    (last-put _
-    (next-put _ _ [] (key-put _ (_ ∷ _ ∷ []) _ _ (to-start after-put-bytes .pre) (after-put-bytes .put-bytes .ensures) refl)
-    (after-put-number .put-number .ensures .0) (after-put-number .put-number .ensures .1))
-    (after-put-number2 .put-number2 .ensures .0) (after-put-number2 .put-number2 .ensures .1))
-    joined-none))
+    (λ c. search two-put))

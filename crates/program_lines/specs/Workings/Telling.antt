@@ -1,4 +1,4 @@
--- How the code that lists goes from loop to loop. It serves that code: no promise needs it.
+-- How a listing goes from loop to loop.
 use mathlib.Core.Path.{_≡_}
 use mathlib.Core.Bool.{cond}
 use mathlib.Core.List.{List, [], map, flatten}
@@ -11,13 +11,24 @@ use Rattle.surface_rules.specs.Buffers.{laid}
 use Rattle.program_lines.specs.Listing.{Shown, loopLines}
 use Rattle.program_lines.specs.declared.Progress.{Progress}
 
--- what stands in the buffers: the loops one after the other
-pub record Lying (loops : List Shown) (rings lengths states weights patches : List ℕ) : Type 0 where
-  pub rings-are : rings ≡ flatten (map (λ (s : Shown). s .ring) loops)
-  pub lengths-are : lengths ≡ map (λ (s : Shown). length (s .ring)) loops
-  pub states-are : states ≡ map (λ (s : Shown). s .state) loops
-  pub weights-are : weights ≡ map (λ (s : Shown). s .weight) loops
-  pub patches-are : patches ≡ flatten (map (λ (s : Shown). s .patch) loops)
+-- what stands in the buffers: the vertices of the rings and how many each has, the states, the weights, and the corners of the patches
+pub record Inventory : Type 0 where
+  pub rings : List ℕ
+  pub lengths : List ℕ
+  pub states : List ℕ
+  pub weights : List ℕ
+  pub patches : List ℕ
+
+abbrev pub inventory : List ℕ → List ℕ → List ℕ → List ℕ → List ℕ → Inventory
+inventory rings lengths states weights patches = record { rings = rings; lengths = lengths; states = states; weights = weights; patches = patches }
+
+-- which are the loops, one after the other
+pub record Lying (loops : List Shown) (w : Inventory) : Type 0 where
+  pub rings-are : w .rings ≡ flatten (map (λ (s : Shown). s .ring) loops)
+  pub lengths-are : w .lengths ≡ map (λ (s : Shown). length (s .ring)) loops
+  pub states-are : w .states ≡ map (λ (s : Shown). s .state) loops
+  pub weights-are : w .weights ≡ map (λ (s : Shown). s .weight) loops
+  pub patches-are : w .patches ≡ flatten (map (λ (s : Shown). s .patch) loops)
 
 -- a loop whose lines are no wider than there is room for: a patched one is not long and its patch has its share of corners, and any
 -- other has none
@@ -43,9 +54,9 @@ abbrev pub next : List Shown → Progress → Shown
 next loops m = getD loops (m .loops) nothing
 
 -- there is room for the next loop's lines
-pub record NextRoom (rings lengths states weights patches : List ℕ) (m : Progress) : Type 0 where
+pub record NextRoom (w : Inventory) (m : Progress) : Type 0 where
   pub loops : List Shown
-  pub lying : Lying loops rings lengths states weights patches
+  pub lying : Lying loops w
   pub told : Told loops m
   pub more : m .loops < length loops
   pub fits : Fits (next loops m)
@@ -58,6 +69,5 @@ pub record Tells (loops : List Shown) (m r : Progress) (before after : List ℕ)
   pub tells : Told loops r
 
 -- whichever loops they are that stand in the buffers and of which the first were told
-unfoldable pub TellsNext : List ℕ → List ℕ → List ℕ → List ℕ → List ℕ → Progress → Progress → List ℕ → List ℕ → Type 0
-TellsNext rings lengths states weights patches m r before after =
-    (room : NextRoom rings lengths states weights patches m) → Tells (room .loops) m r before after
+pub record TellsNext (w : Inventory) (m r : Progress) (before after : List ℕ) : Type 0 where
+  pub tells : (room : NextRoom w m) → Tells (room .loops) m r before after

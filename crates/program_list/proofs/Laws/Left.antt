@@ -5,13 +5,12 @@ use mathlib.Core.Logic.{inl, inr}
 use mathlib.Core.List.{List, [], _∷_, map, flatten}
 use Prim.Native.Nat.{ℕ, _<_, _≤_}
 use native.Mathlib.Omega.{arith}
-use lib.ListN.{length, take, getD, length-map, List·getD-map}
+use lib.ListN.{length, getD, length-map, List·getD-map}
 use Rattle.base_answers.specs.Numbers.{refusing}
 use Rattle.base_answers.specs.declared.Answer.{Answer}
 use Rattle.base_answers.specs.declared.Answer.the-variants.{Line}
 use Rattle.base_limits.specs.Limits as limits
 use Rattle.surface_rules.specs.Edges.{Sound, startOf}
-use Rattle.surface_rules.specs.Buffers.{over}
 use Rattle.surface_rules.specs.Refusals.{refusal}
 use Rattle.surface_rules.specs.Threes.{flat}
 use Rattle.surface_rules.proofs.Laws.Sound.{Passed, passed, passed-sound}
@@ -32,7 +31,7 @@ use Rattle.text_sheet.specs.Sheet.{points, triangles}
 use Rattle.text_sheet.proofs.Laws.Texts.{text-or-fault}
 use Rattle.program_lines.specs.Workings.Telling.{Lying}
 use Rattle.program_list.specs.Lists.{Lists, loopsOf}
-use Rattle.program_list.specs.Workings.Printed.{LoopsIn}
+use Rattle.program_list.specs.Workings.Printed.{used, LoopsIn}
 use Rattle.program_list.proofs.Laws.Shows.{loops-many, rings-shown, lengths-shown, states-shown, weights-shown, patches-shown, loops-fit}
 
 -- the buffers are long enough for the counts, and what is used of them can be listed
@@ -92,12 +91,7 @@ module _ (words corners : List ℕ) (b : Buffers) where
     rings-few : length (flatten (ringList corners)) ≤ limits.corners
     rings-few = omega (arith, vertices-in-all corners sound, vertices-few corners sound)
 
-    left-lying : Lying (loopsOf (gridOf words) (ringList corners) fates)
-        (take (length (ringsOf corners (loops corners))) (over (ringsOf corners (loops corners)) (b .rings)))
-        (take (length (loops corners)) (over (map length (loops corners)) (b .lengths)))
-        (take (length (loops corners)) (over (statesOf fates) (b .states)))
-        (take (length (loops corners)) (over (weightsOf (gridOf words) (ringList corners) fates) (b .weights)))
-        (take (length (laidBy (ringList corners) fates)) (over (laidBy (ringList corners) fates) (b .patches)))
+    left-lying : Lying (loopsOf (gridOf words) (ringList corners) fates) (used (done words corners fates b))
     unfolding ringsOf
     left-lying =
         record {
@@ -146,8 +140,8 @@ module _ (words corners : List ℕ) (b : Buffers) where
       go false r (fates, course, e) = subst LeftListed (sym e) (course-listed fates r course)
 
 -- so of every text
-pub lists-listed : (bytes : List ℕ) (b : Buffers) (o : Outcome) → Lists bytes b o → LeftListed o
-lists-listed bytes b o l = go (text-or-fault bytes)
+pub lists-listed : {bytes : List ℕ} {b : Buffers} {o : Outcome} → Lists bytes b o → LeftListed o
+lists-listed {bytes} {b} {o} l = go (text-or-fault bytes)
   where
     go : Known points triangles bytes → LeftListed o
     go (inl t) = patches-listed (flat (t .0)) (flat (t .1)) b o (l .of-text (t .0) (t .1) (t .2))

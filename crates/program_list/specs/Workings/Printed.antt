@@ -7,6 +7,7 @@ use Rattle.base_limits.specs.Limits as limits
 use Rattle.patch_surface.specs.Outcome.{Buffers, Outcome}
 use Rattle.program_lines.specs.Lines.{answerLine}
 use Rattle.program_lines.specs.Listing.{listing}
+use Rattle.program_lines.specs.Workings.Telling.{Inventory, inventory}
 use Rattle.program_roll.specs.Workings.Listed.{Listed}
 use Rattle.program_list.specs.Lists.{Prints}
 
@@ -18,11 +19,15 @@ pub record Full (b : Buffers) : Type 0 where
   pub weights-full : limits.triangles ≤ length (b .weights)
   pub patches-full : limits.set-corners ≤ length (b .patches)
 
--- loops stand in what is used of the buffers
+-- what is used of the buffers
+abbrev pub used : Outcome → Inventory
+used o =
+    inventory (take (o .vertices) (o .left .rings)) (take (o .loops) (o .left .lengths)) (take (o .loops) (o .left .states))
+    (take (o .loops) (o .left .weights)) (take (o .corners) (o .left .patches))
+
+-- loops stand in it
 abbrev pub LoopsIn : Outcome → Type 0
-LoopsIn o =
-    Listed (take (o .vertices) (o .left .rings)) (take (o .loops) (o .left .lengths)) (take (o .loops) (o .left .states)) (take (o .loops) (o .left .weights))
-    (take (o .corners) (o .left .patches)) (o .loops)
+LoopsIn o = Listed (used o) (o .loops)
 
 -- the answer of an outcome that refuses; or the listing of the loops
 abbrev pub Printed : Bool → List ℕ → Outcome → Type 0

@@ -9,14 +9,16 @@ use lib.ListN.{length, take}
 use Rattle.base_answers.specs.declared.Answer.{Answer}
 use Rattle.program_lines.specs.declared.Progress.{Progress}
 use Rattle.program_lines.specs.Listing.{Shown}
+use Rattle.program_lines.specs.Workings.Telling.{Inventory}
 use Rattle.program_roll.specs.Workings.Listed.{Listed}
 use Rattle.program_roll.specs.Sections.{between}
 use Rattle.program_roll.specs.Workings.Roll.{Begins, Going, Fills, FillsOn}
 use Rattle.program_roll.proofs.Laws.Between.{between-none}
 
 -- where a loop is left and there is room for it, it is told
-pub goes-on : (most : ℕ) (loops : List Shown) (m r : Progress) (before after : List ℕ) → Fills most loops m r before after → m .loops < length loops → m .bytes + most ≤ length before → m .loops < r .loops
-goes-on most loops m r before after p h room = ⊎-elim (λ (e : m .loops ≡ r .loops). absurd (stands e)) (λ (l : m .loops < r .loops). l) (eq-or-lt-of-le (p .puts .from))
+pub goes-on : {most : ℕ} {loops : List Shown} {m r : Progress} {before after : List ℕ} → Fills most loops m r before after
+    → m .loops < length loops → m .bytes + most ≤ length before → m .loops < r .loops
+goes-on {loops = loops} {m = m} {r = r} p h room = ⊎-elim (λ (e : m .loops ≡ r .loops). absurd (stands e)) (λ (l : m .loops < r .loops). l) (eq-or-lt-of-le (p .puts .from))
   where
     stands : m .loops ≡ r .loops → ⊥
     stands e =
@@ -27,10 +29,10 @@ goes-on most loops m r before after p h room = ⊎-elim (λ (e : m .loops ≡ r 
 abbrev pub emptied : Progress → Progress
 emptied m = record { loops = m .loops; vertices = m .vertices; corners = m .corners; bytes = 0 }
 
-module _ (rings lengths states weights patches : List ℕ) (count : ℕ) where
-  pub going-begins : (a : Answer) (loops : ℕ) (r : Progress) (before after : List ℕ) → Listed rings lengths states weights patches count → Begins a loops r before after → Going rings lengths states weights patches count r
+module _ {w : Inventory} {count : ℕ} where
+  pub going-begins : {a : Answer} {loops : ℕ} {r : Progress} {before after : List ℕ} → Listed w count → Begins a loops r before after → Going w count r
   unfolding flatten
-  going-begins a loops r before after l b =
+  going-begins l b =
       record {
         listed = l;
         told = record {
@@ -40,22 +42,18 @@ module _ (rings lengths states weights patches : List ℕ) (count : ℕ) where
         upto = omega (arith, b .no-loops);
       }
 
-  pub going-emptied : (m : Progress) → Going rings lengths states weights patches count m → Going rings lengths states weights patches count (emptied m)
-  going-emptied m g = record { listed = g .listed; told = record { vertices-are = g .told .vertices-are; corners-are = g .told .corners-are }; upto = g .upto }
+  pub going-emptied : {m : Progress} → Going w count m → Going w count (emptied m)
+  going-emptied g = record { listed = g .listed; told = record { vertices-are = g .told .vertices-are; corners-are = g .told .corners-are }; upto = g .upto }
 
-  module _ (most : ℕ) (m r : Progress) (before after : List ℕ) (g : Going rings lengths states weights patches count m) (f : FillsOn most rings lengths states weights patches count m r before after) where
-    pub going-on : Going rings lengths states weights patches count r
-    unfolding FillsOn
-    going-on = record { listed = g .listed; told = f g .puts .tells; upto = omega (arith, f g .puts .upto, g .listed .many) }
+  module _ {most : ℕ} {m r : Progress} {before after : List ℕ} (g : Going w count m) (f : FillsOn most w count m r before after) where
+    pub going-on : Going w count r
+    going-on = record { listed = g .listed; told = f .fills g .puts .tells; upto = omega (arith, f .fills g .puts .upto, g .listed .many) }
 
     pub going-within : r .bytes ≤ length before
-    unfolding FillsOn
-    going-within = f g .puts .within
+    going-within = f .fills g .puts .within
 
     pub going-from : m .loops ≤ r .loops
-    unfolding FillsOn
-    going-from = f g .puts .from
+    going-from = f .fills g .puts .from
 
     pub going-further : m .loops < count → m .bytes + most ≤ length before → m .loops < r .loops
-    unfolding FillsOn
-    going-further h = goes-on most (g .listed .loops) m r before after (f g) (omega (arith, h, g .listed .many))
+    going-further h = goes-on (f .fills g) (omega (arith, h, g .listed .many))

@@ -7,7 +7,7 @@ use Rattle.base_answers.specs.declared.Answer.{Answer}
 use Rattle.surface_rules.specs.Buffers.{over, laid}
 use Rattle.program_lines.specs.declared.Progress.{Progress}
 use Rattle.program_lines.specs.Listing.{Shown}
-use Rattle.program_lines.specs.Workings.Telling.{Told}
+use Rattle.program_lines.specs.Workings.Telling.{Inventory, Told}
 use Rattle.program_roll.specs.Sections.{head, between}
 use Rattle.program_roll.specs.Workings.Listed.{Listed}
 
@@ -20,8 +20,8 @@ pub record Begins (a : Answer) (loops : ℕ) (r : Progress) (before after : List
   pub no-corners : r .corners ≡ 0
 
 -- so many loops stand in the buffers, and the first were told
-pub record Going (rings lengths states weights patches : List ℕ) (count : ℕ) (m : Progress) : Type 0 where
-  pub listed : Listed rings lengths states weights patches count
+pub record Going (w : Inventory) (count : ℕ) (m : Progress) : Type 0 where
+  pub listed : Listed w count
   pub told : Told (listed .loops) m
   pub upto : m .loops ≤ count
 
@@ -42,6 +42,5 @@ pub record Fills (most : ℕ) (loops : List Shown) (m r : Progress) (before afte
   pub full : r .loops < length loops → length before < r .bytes + most
 
 -- whichever loops they are that stand in the buffers and of which the first were told
-unfoldable pub FillsOn : ℕ → List ℕ → List ℕ → List ℕ → List ℕ → List ℕ → ℕ → Progress → Progress → List ℕ → List ℕ → Type 0
-FillsOn most rings lengths states weights patches count m r before after =
-    (g : Going rings lengths states weights patches count m) → Fills most (g .listed .loops) m r before after
+pub record FillsOn (most : ℕ) (w : Inventory) (count : ℕ) (m r : Progress) (before after : List ℕ) : Type 0 where
+  pub fills : (g : Going w count m) → Fills most (g .listed .loops) m r before after

@@ -18,6 +18,7 @@ use Rattle.loop_rules.specs.Loops.{loops, ring}
 use Rattle.loop_rules.proofs.Theorems.{three-or-more, one-loop, loops-third}
 use Rattle.loop_cut.specs.Listing.{firstOf}
 use Rattle.fill_fates.specs.Course.{ringList}
+use Rattle.fill_scratch.specs.Workings.Rings.{rimMark}
 use Rattle.fill_scratch.proofs.Laws.Reading.{as-many}
 use Rattle.rim_pieces.specs.Pieces.{triangleCount}
 use Rattle.rim_pieces.specs.Computed.{numbersBelow, pieceOf}
@@ -72,11 +73,11 @@ module _ {grid : List ℤ} {corners rings lengths turns path places marks : List
   alone : length lengths ≡ 1 → isRim grid corners 0 ≡ true
   alone e = alone-rim grid corners 0 (λ m h x. omega (arith, many-loops))
 
-  pub mark-one : length lengths ≡ 1 → Marked grid corners marks (set marks 0 4)
+  pub mark-one : length lengths ≡ 1 → Marked grid corners marks (set marks 0 rimMark)
   unfolding numbersBelow
   mark-one e =
-      ap (λ (x : List ℕ). set x 0 4) (sym (over-none marks))
-      ∙ over-snoc [] marks 4 0 0 refl (mark-in e)
+      ap (λ (x : List ℕ). set x 0 rimMark) (sym (over-none marks))
+      ∙ over-snoc [] marks rimMark 0 0 refl (mark-in e)
       ∙ ap (λ (b : Bool). over (markOf b ∷ []) marks) (sym (alone e))
       ∙ ap (λ (n : ℕ). over (map markOf (map (isRim grid corners) (numbersBelow n))) marks) (sym e ∙ many-loops)
 

@@ -19,12 +19,12 @@ pub record Measured (grid : List ℤ) (rings lengths runs₀ : List ℕ) (l r : 
   pub told : (input : List ℕ) (rs : List (List ℕ)) → Loops grid input rs rings lengths → (j : ℕ) → j < l → (getD runs₀ j 0 ≡ 0 → ⊥) → getD runs j 0 ≡ ringRun grid (getD rs j [])
   pub later : (j : ℕ) → l ≤ j → getD runs j 0 ≡ getD runs₀ j 0
 
-module _ (grid : List ℤ) (rings lengths runs₀ : List ℕ) (room : MeasureRoom grid rings lengths runs₀) where
+module _ {grid : List ℤ} {rings lengths runs₀ : List ℕ} (room : MeasureRoom grid rings lengths runs₀) where
   pub measured-begins : Measured grid rings lengths runs₀ 0 0 runs₀
   unfolding flatten
   measured-begins = record { kept = refl; read = λ input rs s. refl; told = λ input rs s j h f. absurd (omega arith); later = λ j h. refl }
 
-  module _ (l r : ℕ) (runs : List ℕ) (m : Measured grid rings lengths runs₀ l r runs) where
+  module _ {l r : ℕ} {runs : List ℕ} (m : Measured grid rings lengths runs₀ l r runs) where
     pub measured-ends : length lengths ≤ l → Measures grid rings lengths runs₀ runs
     measured-ends h = record { told = λ input rs s j k f. m .told input rs s j (let a = as-many grid input rs rings lengths s in omega (arith, a)) f }
 
@@ -72,8 +72,8 @@ module _ (grid : List ℤ) (rings lengths runs₀ : List ℕ) (room : MeasureRoo
         later = λ j k. m .later j (omega arith);
       }
 
-      pub measured-more : (run : ℕ) → run ≡ ringRun grid part → Measured grid rings lengths runs₀ (l + 1) (r + getD lengths l 0) (set runs l run)
-      measured-more run e = record {
+      pub measured-more : {run : ℕ} → run ≡ ringRun grid part → Measured grid rings lengths runs₀ (l + 1) (r + getD lengths l 0) (set runs l run)
+      measured-more {run} e = record {
         kept = length-set runs l run ∙ m .kept;
         read = read-more;
         told = λ input rs s j k f. ⊎-elim

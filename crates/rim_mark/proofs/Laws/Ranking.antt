@@ -6,7 +6,6 @@ use Prim.Native.Nat.{ℕ, _+_, _/_, _≤_, _<_}
 use native.Mathlib.Omega.{arith}
 use lib.ListN.{length, getD, set, length-set}
 use lib.Seq.{getD-set-same, getD-set-other}
-use Rattle.base_limits.specs.Limits as limits
 use Rattle.surface_rules.proofs.Laws.Tests.{eq-or-not}
 use Rattle.rim_pieces.specs.Workings.Flooding.{none}
 use Rattle.rim_mark.specs.Workings.Ranking.{HouseRoom, Houses, First, RankRoom, Ranks}
@@ -17,11 +16,11 @@ pub record Housed (firsts pieces : List ℕ) (many l : ℕ) (homes : List ℕ) :
   pub kept : length homes ≡ many
   pub told : (j : ℕ) → j < l → getD homes j 0 ≡ getD pieces (getD firsts j 0 / 3) 0
 
-module _ (firsts pieces : List ℕ) (n : ℕ) (homes₀ : List ℕ) (room : HouseRoom firsts pieces n homes₀) where
+module _ {firsts pieces : List ℕ} {n : ℕ} {homes₀ : List ℕ} (room : HouseRoom firsts pieces n homes₀) where
   pub housed-begins : Housed firsts pieces (length homes₀) 0 homes₀
   housed-begins = record { kept = refl; told = λ j h. absurd (omega arith) }
 
-  module _ (l : ℕ) (homes : List ℕ) (m : Housed firsts pieces (length homes₀) l homes) where
+  module _ {l : ℕ} {homes : List ℕ} (m : Housed firsts pieces (length homes₀) l homes) where
     pub housed-ends : n ≤ l → Houses firsts pieces n homes
     housed-ends h = record { told = λ j k. m .told j (omega arith) }
 
@@ -48,11 +47,11 @@ pub record Ranked (homes runs : List ℕ) (n many l : ℕ) (best : List ℕ) : T
   pub kept : length best ≡ many
   pub stands : (j : ℕ) → j < n → Stands homes runs l (getD homes j 0) (getD best (getD homes j 0) 0)
 
-module _ (homes runs : List ℕ) (n : ℕ) (best₀ : List ℕ) (room : RankRoom homes runs n best₀) where
+module _ {homes runs : List ℕ} {n : ℕ} {best₀ : List ℕ} (room : RankRoom homes runs n best₀) where
   pub ranked-begins : Ranked homes runs n (length best₀) 0 best₀
   ranked-begins = record { kept = refl; stands = λ j h. inl (room .clear j h, λ m k e. absurd (omega arith)) }
 
-  module _ (l : ℕ) (best : List ℕ) (m : Ranked homes runs n (length best₀) l best) where
+  module _ {l : ℕ} {best : List ℕ} (m : Ranked homes runs n (length best₀) l best) where
     -- in the end a loop stands for each piece
     pub ranked-ends : n ≤ l → l ≤ n → Ranks homes runs n best
     ranked-ends h k = record {

@@ -6,7 +6,6 @@ use Prim.Native.Nat.{ℕ, _+_, _≤_, _<_}
 use native.Mathlib.Omega.{arith}
 use lib.ListN.{length, getD, set, length-set}
 use lib.Seq.{getD-set-same, getD-set-other}
-use Rattle.base_limits.specs.Limits as limits
 use Rattle.surface_rules.proofs.Laws.Tests.{eq-or-not}
 use Rattle.rim_pieces.specs.Workings.Flooding.{none}
 use Rattle.rim_mark.specs.Workings.Ranking.{RankRoom, Rivals}

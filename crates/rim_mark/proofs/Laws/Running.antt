@@ -14,7 +14,7 @@ use Rattle.surface_rules.proofs.Laws.Lists.{map-at}
 use Rattle.loop_rules.specs.Loops.{loops, ring}
 use Rattle.loop_rules.proofs.Laws.Linked.{Closed, closed-next}
 use Rattle.loop_rules.proofs.Theorems.{three-or-more, loop-closes}
-use Rattle.cover_weight.specs.Weight.{strideOf}
+use Rattle.cover_weight.specs.Weight.{strideOf, Names}
 use Rattle.cover_weight.proofs.Laws.Strides.{longestStride, stride-most}
 use Rattle.rim_rules.specs.Rims.{loopAt, stride, runOf, runAt}
 use Rattle.rim_mark.specs.Workings.Running.{sumBelow, strideAt, closingStride, ringRun, RingRoom}
@@ -42,7 +42,18 @@ sum-most f h (suc n) = omega (arith, sum-most f h n, h n)
 unfoldable pub upTo : List ℤ → List ℕ → ℕ → ℕ
 upTo grid ring i = closingStride grid ring + sumBelow (strideAt grid ring) i
 
-module _ (grid : List ℤ) (ring : List ℕ) (room : RingRoom grid ring) where
+pub record Running (grid : List ℤ) (ring : List ℕ) (i run : ℕ) : Type 0 where
+  pub within : i ≤ length ring - 1
+  pub sum : run ≡ upTo grid ring i
+
+module _ {grid : List ℤ} {ring : List ℕ} (room : RingRoom grid ring) where
+  -- the points whose strides are taken
+  pub first-named : Names grid (getD ring 0 0)
+  first-named = room .named 0 (room .some)
+
+  pub last-named : Names grid (getD ring (length ring - 1) 0)
+  last-named = room .named (length ring - 1) (let s = room .some in omega arith)
+
   up-most : (i : ℕ) → i < limits.corners → upTo grid ring i ≤ longestStride * limits.corners
   unfolding upTo
   up-most i h =
@@ -50,24 +61,38 @@ module _ (grid : List ℤ) (ring : List ℕ) (room : RingRoom grid ring) where
       let b = stride-most grid (room .coordinates) (getD ring (length ring - 1) 0) (getD ring 0 0) in
       omega (arith, a, b)
 
-  pub up-begins : {r : ℕ} → r ≡ closingStride grid ring → r ≡ upTo grid ring 0
+  pub running-begins : {r : ℕ} → r ≡ closingStride grid ring → Running grid ring 0 r
   unfolding upTo sumBelow
-  up-begins e = omega (arith, e)
+  running-begins e = record { within = omega arith; sum = omega (arith, e) }
 
-  module _ (i r s : ℕ) (h : i < length ring - 1) (e : r ≡ upTo grid ring i) (f : s ≡ strideOf grid (getD ring i 0) (getD ring (i + 1) 0)) where
-    pub up-more : r + s ≡ upTo grid ring (i + 1)
-    unfolding upTo sumBelow
-    up-more = let z : upTo grid ring (i + 1) ≡ upTo grid ring (suc i) = ap (upTo grid ring) (add-one i) in let y : s ≡ strideAt grid ring i = f ∙ ap (λ (k : ℕ). strideOf grid (getD ring i 0) (getD ring k 0)) (add-one i) in omega (arith, z, y, e)
+  module _ {i r : ℕ} (a : Running grid ring i r) where
+    module _ (h : i < length ring - 1) where
+      pub here-named : Names grid (getD ring i 0)
+      here-named = room .named i (omega arith)
 
-    pub up-fits : Fits w64 (r + s)
-    up-fits = let few = room .few in record { fits = omega (arith, up-more, up-most (i + 1) (omega arith)) }
+      pub next-named : Names grid (getD ring (i + 1) 0)
+      next-named = room .named (i + 1) (omega arith)
 
-  pub run-fits : (i r : ℕ) → i ≤ length ring - 1 → r ≡ upTo grid ring i → Fits w32 r
-  run-fits i r h e = let few = room .few in let some = room .some in record { fits = omega (arith, up-most i (omega arith)) }
+      module _ {s : ℕ} (f : s ≡ strideOf grid (getD ring i 0) (getD ring (i + 1) 0)) where
+        up-more : r + s ≡ upTo grid ring (i + 1)
+        unfolding upTo sumBelow
+        up-more =
+            let z : upTo grid ring (i + 1) ≡ upTo grid ring (suc i) = ap (upTo grid ring) (add-one i) in
+            let y : s ≡ strideAt grid ring i = f ∙ ap (λ (k : ℕ). strideOf grid (getD ring i 0) (getD ring k 0)) (add-one i) in
+            omega (arith, z, y, a .sum)
 
-  pub run-is : (i r : ℕ) → i ≤ length ring - 1 → length ring - 1 ≤ i → r ≡ upTo grid ring i → r ≡ ringRun grid ring
-  unfolding upTo ringRun
-  run-is i r h g e = let q : i ≡ length ring - 1 = omega arith in e ∙ ap (upTo grid ring) q
+        pub running-fits : Fits w64 (r + s)
+        running-fits = let few = room .few in record { fits = omega (arith, up-more, up-most (i + 1) (omega arith)) }
+
+        pub running-more : Running grid ring (i + 1) (r + s)
+        running-more = record { within = omega arith; sum = up-more }
+
+    pub run-fits : Fits w32 r
+    run-fits = let few = room .few in let some = room .some in let h = a .within in record { fits = omega (arith, a .sum, up-most i (omega arith)) }
+
+    pub run-is : length ring - 1 ≤ i → r ≡ ringRun grid ring
+    unfolding upTo ringRun
+    run-is g = let h = a .within in let q : i ≡ length ring - 1 = omega arith in a .sum ∙ ap (upTo grid ring) q
 
 -- ---- what the ring says of the loop
 

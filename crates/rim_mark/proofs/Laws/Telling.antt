@@ -8,6 +8,7 @@ use lib.ListN.{length, getD, set, length-set, length-map}
 use borrow.Author.Tests.{eq-eqb, ne-eqb}
 use Rattle.surface_rules.specs.Buffers.{over}
 use Rattle.surface_rules.proofs.Laws.Over.{over-none, over-snoc}
+use Rattle.fill_scratch.specs.Workings.Rings.{rimMark}
 use Rattle.rim_pieces.specs.Computed.{numbersBelow}
 use Rattle.rim_pieces.proofs.Laws.Uniting.{numbers-length}
 use Rattle.rim_mark.specs.Workings.Ranking.{toldMark, toldMarks, TellRoom}
@@ -25,12 +26,12 @@ pub record Told (homes best marks₀ : List ℕ) (n l : ℕ) (marks : List ℕ) 
   pub kept : length marks ≡ length marks₀
   pub told : marks ≡ over (toldMarks homes best l) marks₀
 
-module _ (homes best : List ℕ) (n : ℕ) (marks₀ : List ℕ) (room : TellRoom homes best n marks₀) where
+module _ {homes best : List ℕ} {n : ℕ} {marks₀ : List ℕ} (room : TellRoom homes best n marks₀) where
   pub told-begins : Told homes best marks₀ n 0 marks₀
   unfolding toldMarks numbersBelow
   told-begins = record { within = omega arith; kept = refl; told = sym (over-none marks₀) }
 
-  module _ (l : ℕ) (marks : List ℕ) (m : Told homes best marks₀ n l marks) where
+  module _ {l : ℕ} {marks : List ℕ} (m : Told homes best marks₀ n l marks) where
     pub told-ends : n ≤ l → marks ≡ over (toldMarks homes best n) marks₀
     told-ends h = let w = m .within in m .told ∙ ap (λ (k : ℕ). over (toldMarks homes best k) marks₀) (let z : l ≡ n = omega arith in z)
 
@@ -38,18 +39,19 @@ module _ (homes best : List ℕ) (n : ℕ) (marks₀ : List ℕ) (room : TellRoo
       pub mark-in : l < length marks
       mark-in = let a = room .marks-long in let b = m .kept in omega arith
 
-      told-more : (v : ℕ) → v ≡ toldMark homes best l → Told homes best marks₀ n (l + 1) (set marks l v)
-      told-more v e = record {
+      told-more : {v : ℕ} {marks′ : List ℕ} → v ≡ toldMark homes best l → marks′ ≡ set marks l v → Told homes best marks₀ n (l + 1) marks′
+      told-more {v} e q = record {
         within = omega arith;
-        kept = length-set marks l v ∙ m .kept;
+        kept = ap length q ∙ length-set marks l v ∙ m .kept;
         told =
-            ap₂ (λ (x : List ℕ) (y : ℕ). set x l y) (m .told) e
+            q
+            ∙ ap₂ (λ (x : List ℕ) (y : ℕ). set x l y) (m .told) e
             ∙ over-snoc (toldMarks homes best l) marks₀ (toldMark homes best l) 0 l (told-length homes best l) (let a = room .marks-long in omega arith)
             ∙ ap (λ (x : List ℕ). over x marks₀) (sym (told-next homes best l));
       }
 
-      pub told-rim : getD best (getD homes l 0) 0 ≡ l → Told homes best marks₀ n (l + 1) (set marks l 4)
-      told-rim e = told-more 4 (rw (eq-eqb _ _ e))
+      pub told-rim : {marks′ : List ℕ} → getD best (getD homes l 0) 0 ≡ l → marks′ ≡ set marks l rimMark → Told homes best marks₀ n (l + 1) marks′
+      told-rim e q = told-more (rw (eq-eqb _ _ e)) q
 
-      pub told-other : (getD best (getD homes l 0) 0 ≡ l → ⊥) → Told homes best marks₀ n (l + 1) (set marks l 0)
-      told-other e = told-more 0 (rw (ne-eqb _ _ e))
+      pub told-other : {marks′ : List ℕ} → (getD best (getD homes l 0) 0 ≡ l → ⊥) → marks′ ≡ set marks l 0 → Told homes best marks₀ n (l + 1) marks′
+      told-other e q = told-more (rw (ne-eqb _ _ e)) q

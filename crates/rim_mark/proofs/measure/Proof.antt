@@ -22,7 +22,7 @@ abbrev entry : Turn → tie.Start Inv-loop μ-loop
 entry t = search
 
 here : (t : Turn) → RingPlace (entry t .args .rings .now) (entry t .args .lengths .now) (t .before .loop .l) (t .before .loop .r)
-here t = places _ _ _ _ (entry t .pre) _ _ _ (t .before .loop .inv) (t .loop-test .taken)
+here t = places (entry t .pre) (t .before .loop .inv) (t .loop-test .taken)
 
 pub measure-spec : {M : Type 1} → statement M
 measure-spec =
@@ -37,7 +37,7 @@ measure-spec =
     (λ c. let t : Turn = search in search (run-in, t .before .loop .inv, entry t .pre, t .loop-test))
     (λ c. search needs)
     (λ c. search needs)
-    (λ c. let t : Turn = search in measured-skips _ _ _ _ (entry t .pre) _ _ _ (t .before .loop .inv) (t .loop-test .taken) (c .if1 .taken))
+    (λ c. let t : Turn = search in measured-skips (entry t .pre) (t .before .loop .inv) (t .loop-test .taken) (c .if1 .taken))
     (λ c. omega (arith, here (search)))
     (λ c. search needs)
     (λ c. search needs)

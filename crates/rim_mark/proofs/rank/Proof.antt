@@ -41,17 +41,14 @@ rank-spec =
     (λ c.
     let t : Turn = search in
     let o : tie.Then1 Inv-loop μ-loop = search in
-    (omega arith, ranked-stays _ _ _ _ (entry t .pre) _ _ (t .before .loop .inv .1) (t .loop-test .taken) (o .if1 .taken) (c .if2 .taken)))
+    (omega arith, ranked-stays (entry t .pre) (t .before .loop .inv .1) (t .loop-test .taken) (o .if1 .taken) (c .if2 .taken)))
     (λ c. let t : Turn = search in let p = entry t .pre .few in omega arith)
     (λ c. let t : Turn = search in omega (arith, c .before .before .shared-slice-known .given (t .before .loop .l)))
     (λ c. let t : Turn = search in search (place-in, t .before .loop .inv .1, entry t .pre, t .loop-test))
     (λ c. search needs)
     (λ c. search needs)
     (λ c.
-    let t : Turn = search in (
-      omega arith,
-      ranked-takes _ _ _ _ (entry t .pre) _ _ (t .before .loop .inv .1) (t .loop-test .taken)
-          (⊎-elim (λ w. inr (w .0 .taken, w .3 .left)) (λ w. inl (w .left)) (c .if1 .came)),
-    ))
+    let t : Turn = search in
+    (omega arith, ranked-takes (entry t .pre) (t .before .loop .inv .1) (t .loop-test .taken) (⊎-elim (λ w. inr (w .0 .taken, w .3 .left)) (λ w. inl (w .left)) (c .if1 .came))))
     (λ c. c .before .loop .inv .1 .kept)
     (λ c. search (ranked-ends, c .before .loop .inv .0, c .before .loop .inv .1, c .before .before .pre, c .loop-test)))

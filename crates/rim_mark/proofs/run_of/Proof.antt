@@ -1,14 +1,13 @@
 -- `run_of` adds the closing stride and then one after the other.
-use mathlib.Core.Path.{_≡_}
-use Prim.Native.Nat.{_+_, _-_, _≤_}
+use Prim.Native.Nat.{_-_}
 use lib.ListN.{length}
 use native.Mathlib.Omega.{arith}
-use Rattle.rim_mark.proofs.Laws.Running.{upTo, up-begins, up-fits, up-more, run-fits, run-is}
+use Rattle.rim_mark.proofs.Laws.Running.{Running, first-named, last-named, running-begins, here-named, next-named, running-fits, running-more, run-fits, run-is}
 use Rattle.rim_mark.proofs.run_of.Statement.{statement}
 use Rattle.rim_mark.proofs.run_of.Tie as tie
 
 abbrev Inv-loop : tie.InvT-loop
-Inv-loop grid ring last run₀ i₀ run i = (i ≤ length ring - 1) × (run ≡ upTo grid ring i)
+Inv-loop grid ring last run₀ i₀ run i = Running grid ring i run
 
 abbrev μ-loop : tie.MeasureT-loop
 μ-loop grid ring last run₀ i₀ run i = length ring - 1 - i
@@ -30,22 +29,25 @@ run-of-spec =
     (λ c. let s : Entry = search in omega (arith, s .pre .some))
     (λ c. let s : Entry = search in omega (arith, s .pre .some, s .pre .few))
     (λ c. let s : Entry = search in omega (arith, s .pre .some))
-    (λ c. let s : Entry = search in omega (arith, c .shared-slice-known2 .given (length (s .args .ring .now) - 1)))
+    (λ c. let s : Entry = search in omega (arith, last-named (s .pre)))
     (λ c. let s : Entry = search in omega (arith, s .pre .some))
-    (λ c. omega (arith, c .shared-slice-known3 .given 0))
-    (λ c κs. let s : Entry = search in let p = s .pre .some in (s .pre .coordinates, s .pre .named _ (omega arith), s .pre .named _ (omega arith)))
-    (λ c. let s : Entry = search in (omega arith, up-begins _ _ (s .pre) (c .stride .ensures)))
+    (λ c. let s : Entry = search in omega (arith, first-named (s .pre)))
+    (λ c κs. let s : Entry = search in (s .pre .coordinates, last-named (s .pre), first-named (s .pre)))
+    (λ c. let s : Entry = search in running-begins (s .pre) (c .stride .ensures))
     (λ c. let t : Turn = search in omega (arith, entry t .pre .few))
     (λ c. omega arith)
-    (λ c. omega (arith, c .shared-slice-known4 .given (c .before .before .loop .i)))
+    (λ c. let t : Turn = search in omega (arith, here-named (entry t .pre) (t .before .loop .inv) (t .loop-test .taken)))
     (λ c. omega arith)
     (λ c. let t : Turn = search in omega (arith, entry t .pre .few))
     (λ c. omega arith)
-    (λ c. let t : Turn = search in omega (arith, c .shared-slice-known5 .given (t .before .loop .i + 1)))
-    (λ c κs. let t : Turn = search in let s = entry t in (s .pre .coordinates, s .pre .named _ (omega arith), s .pre .named _ (omega arith)))
-    (λ c. let t : Turn = search in up-fits _ _ (entry t .pre) _ _ _ (t .loop-test .taken) (t .before .loop .inv .1) (c .stride2 .ensures))
+    (λ c. let t : Turn = search in omega (arith, next-named (entry t .pre) (t .before .loop .inv) (t .loop-test .taken)))
+    (λ c κs.
+    let t : Turn = search in
+    let s = entry t in
+    (s .pre .coordinates, here-named (s .pre) (t .before .loop .inv) (t .loop-test .taken), next-named (s .pre) (t .before .loop .inv) (t .loop-test .taken)))
+    (λ c. let t : Turn = search in running-fits (entry t .pre) (t .before .loop .inv) (t .loop-test .taken) (c .stride2 .ensures))
     (λ c. omega arith)
     (λ c. omega arith)
-    (λ c. let t : Turn = search in (omega arith, up-more _ _ (entry t .pre) _ _ _ (t .loop-test .taken) (t .before .loop .inv .1) (c .stride2 .ensures)))
-    (λ c. let s : Entry = search in run-fits _ _ (s .pre) _ _ (c .before .loop .inv .0) (c .before .loop .inv .1))
-    (λ c. let s : Entry = search in run-is _ _ (s .pre) _ _ (c .before .loop .inv .0) (c .loop-test .left) (c .before .loop .inv .1)))
+    (λ c. let t : Turn = search in running-more (entry t .pre) (t .before .loop .inv) (t .loop-test .taken) (c .stride2 .ensures))
+    (λ c. let s : Entry = search in run-fits (s .pre) (c .before .loop .inv))
+    (λ c. let s : Entry = search in run-is (s .pre) (c .before .loop .inv) (c .loop-test .left)))

@@ -3,12 +3,13 @@ use borrow.Author.Needs.{needs}
 use Prim.Native.Nat.{_-_}
 use lib.ListN.{length}
 use native.Mathlib.Omega.{arith}
+use Rattle.rim_pieces.specs.Workings.Flooding.{flooded}
 use Rattle.rim_pieces.proofs.Laws.Floods.{Numbering, numbering-begins, small, triangle-in, numbering-passes, queue-in, spread-room, numbering-more, numbering-ends}
 use Rattle.rim_pieces.proofs.number.Statement.{statement}
 use Rattle.rim_pieces.proofs.number.Tie as tie
 
 abbrev Inv-loop : tie.InvT-loop
-Inv-loop corners turns queue₀ pieces₀ triangles p₀ count₀ t₀ queue pieces p count t = Numbering corners t p queue count pieces (length queue₀) (length pieces₀)
+Inv-loop corners turns queue₀ pieces₀ triangles p₀ count₀ t₀ queue pieces p count t = Numbering corners t p (flooded queue count pieces) (length queue₀) (length pieces₀)
 
 abbrev μ-loop : tie.MeasureT-loop
 μ-loop corners turns queue₀ pieces₀ triangles p₀ count₀ t₀ queue pieces p count t = triangles - t
@@ -49,4 +50,4 @@ number-spec =
     (λ c. search needs)
     (λ c. search needs)
     (λ c. search needs)
-    (λ c. search numbering-ends))
+    (λ c. let s : tie.Start Inv-loop μ-loop = search in numbering-ends (s .pre) (c .before .loop .inv) (c .loop-test .left)))

@@ -3,12 +3,13 @@ use borrow.Author.Needs.{needs}
 use Prim.Native.Nat.{_-_, _≤_}
 use lib.ListN.{length}
 use native.Mathlib.Omega.{arith}
+use Rattle.rim_pieces.specs.Workings.Flooding.{flooded}
 use Rattle.rim_pieces.proofs.Laws.Floods.{Spreading, spreading-begins, end-in, queued-few, around-room, spreading-more, spreading-ends}
 use Rattle.rim_pieces.proofs.spread.Statement.{statement}
 use Rattle.rim_pieces.proofs.spread.Tie as tie
 
 abbrev Inv-loop : tie.InvT-loop
-Inv-loop turns from p queue₀ count pieces₀ done₀ end₀ queue pieces done end = Spreading turns from p queue₀ count pieces₀ queue done end pieces
+Inv-loop turns from p queue₀ count pieces₀ done₀ end₀ queue pieces done end = Spreading turns from p (flooded queue₀ count pieces₀) done (flooded queue end pieces)
 
 abbrev μ-loop : tie.MeasureT-loop
 μ-loop turns from p queue₀ count pieces₀ done₀ end₀ queue pieces done end = length queue - done

@@ -6,7 +6,7 @@ use mathlib.Core.Logic.{⊎-elim}
 use Prim.Native.Nat.{ℕ, _+_, _<_, _≤_}
 use native.Mathlib.Omega.{arith}
 use lib.ListN.{length, getD, set}
-use borrow.Author.Tests.{not-true}
+use borrow.Author.Tests.{not-true, not-false}
 use Rattle.base_limits.specs.Limits as limits
 use Rattle.surface_rules.specs.declared.Found.the-variants as found
 use Rattle.surface_rules.specs.Smallest.{least}
@@ -35,7 +35,7 @@ twin-below : (corners : List ℕ) (u v n e : ℕ) → Meets corners u v n (Twin 
 unfolding Meets
 twin-below corners u v n e m = m .0
 
-module _ (size : ℕ) (corners : List ℕ) (h f u v : ℕ) (heads links ends table : List ℕ) (room : PairRoom size corners h f u v heads links ends table) (b : ℕ) (hb : b ≡ bucketOf size u v) where
+module _ {size : ℕ} {corners : List ℕ} {h f u v : ℕ} {heads links ends table : List ℕ} (room : PairRoom size corners h f u v heads links ends table) {b : ℕ} (hb : b ≡ bucketOf size u v) where
   pub bucket-inside : b < length heads
   bucket-inside = let s : bucketOf size u v < size = bucket-small size u v (room .going .chained .some) in let l : length heads ≡ size = room .going .chained .heads-long in omega arith
 
@@ -91,14 +91,17 @@ module _ (size : ℕ) (corners : List ℕ) (h f u v : ℕ) (heads links ends tab
         below : (g : ℕ) → met ≡ Twin g → g < getD heads b 0
         below g q = twin-below corners u v (getD heads b 0) g (subst (Meets corners u v (getD heads b 0)) q meets)
 
-    module _ (done : Bool) (left : List ℕ) (d : TurnDone met h f table done left) where
+    module _ {done : Bool} {left : List ℕ} (d : TurnDone met h f table done left) where
       answer-is : done ≡ not (repeats corners h)
       answer-is = d .answer ∙ ap not (met-repeats corners table h (room .going .room) (room .going .fresh) (room .going .turns) (room .edge) met sees)
 
-      pub pair-stops : done ≡ false → (heads′ links′ ends′ table′ : List ℕ) → PairDone size corners h false heads′ links′ ends′ table′
-      pair-stops q heads′ links′ ends′ table′ = record { answer = sym q ∙ answer-is; going = λ e. absurd (true≢false (sym e)) }
+      pub pair-stops : {heads′ links′ ends′ table′ : List ℕ} → not done ≡ true → PairDone size corners h false heads′ links′ ends′ table′
+      pair-stops q = record { answer = sym (not-true _ q) ∙ answer-is; going = λ e. absurd (true≢false (sym e)) }
 
-      module _ (q : done ≡ true) where
+      module _ (went : not done ≡ false) where
+        q : done ≡ true
+        q = not-false _ went
+
         not-refused : refused met table ≡ false
         not-refused = not-true _ (sym (d .answer) ∙ q)
 

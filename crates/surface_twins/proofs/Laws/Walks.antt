@@ -15,32 +15,35 @@ use Rattle.surface_twins.proofs.Laws.Tops.{top-le}
 use Rattle.surface_twins.proofs.Laws.Buckets.{Apart, apart-from, head-home, head-rest}
 
 -- the walk is at g, numbered from 1
-pub record Walking (size : ℕ) (corners : List ℕ) (last u v g : ℕ) : Type 0 where
+pub record Walking (corners links ends : List ℕ) (last u v g : ℕ) : Type 0 where
+  pub room : MeetRoom corners links ends last u v
   pub within : g ≤ last
-  pub here : 0 < g → home size corners (g - 1) ≡ bucketOf size u v
+  pub here : 0 < g → home (room .size) corners (g - 1) ≡ bucketOf (room .size) u v
   pub passed : (k : ℕ) → g ≤ k → k < last → Apart corners u v k
 
-module _ (corners links ends : List ℕ) (last u v : ℕ) (room : MeetRoom corners links ends last u v) where
-  abbrev size : ℕ
-  size = room .size
+-- e is a half-edge that is chained, and so is the one before it in its bucket
+pub record Standing (corners links ends : List ℕ) (e : ℕ) : Type 0 where
+  pub corner-in : e < length corners
+  pub link-in : e < length links
+  pub end-in : e < length ends
+  pub next-in : getD links e 0 < length corners
 
-  pub walk-begins : Walking size corners last u v last
-  walk-begins = record { within = omega arith; here = room .here; passed = λ k l m. absurd (omega arith) }
+module _ {corners links ends : List ℕ} {last u v : ℕ} where
+  pub walk-begins : MeetRoom corners links ends last u v → Walking corners links ends last u v last
+  walk-begins room = record { room = room; within = omega arith; here = room .here; passed = λ k l m. absurd (omega arith) }
 
-  module _ (g : ℕ) (w : Walking size corners last u v g) where
+  module _ {g : ℕ} (w : Walking corners links ends last u v g) where
+    abbrev room : MeetRoom corners links ends last u v
+    room = w .room
+
+    abbrev size : ℕ
+    size = room .size
+
     pub walk-ends : g ≤ 0 → Meets corners u v last Nothing
     unfolding Meets
     walk-ends l k m = w .passed k (omega arith) m
 
     module _ (more : 0 < g) where
-      pub walk-inside : (g - 1 < length corners) × (g - 1 < length links) × (g - 1 < length ends)
-      walk-inside =
-          let b : g ≤ last = w .within in
-          let i : last ≤ length corners = room .inside in
-          let l : length corners ≤ length links = room .links-long in
-          let m : length corners ≤ length ends = room .ends-long in
-          (omega arith, omega arith, omega arith)
-
       end-is : getD ends (g - 1) 0 ≡ endOf corners (g - 1)
       unfolding Ended
       end-is = let b : g ≤ last = w .within in room .ended (g - 1) (omega arith)
@@ -60,11 +63,21 @@ module _ (corners links ends : List ℕ) (last u v : ℕ) (room : MeetRoom corne
       pub walk-less : getD links (g - 1) 0 < g
       walk-less = let m : top (inBucket size corners (bucketOf size u v)) (g - 1) ≤ g - 1 = top-le (inBucket size corners (bucketOf size u v)) (g - 1) in let e = link-is in omega arith
 
-      pub walk-more : (getD corners (g - 1) 0 ≡ v → getD ends (g - 1) 0 ≡ u → ⊥) → (getD corners (g - 1) 0 ≡ u → getD ends (g - 1) 0 ≡ v → ⊥) → Walking size corners last u v (getD links (g - 1) 0)
+      pub walk-inside : Standing corners links ends (g - 1)
+      walk-inside =
+          let b : g ≤ last = w .within in
+          let i : last ≤ length corners = room .inside in
+          let l : length corners ≤ length links = room .links-long in
+          let m : length corners ≤ length ends = room .ends-long in
+          record { corner-in = omega arith; link-in = omega arith; end-in = omega arith; next-in = let n = walk-less in omega arith }
+
+      pub walk-more : (getD corners (g - 1) 0 ≡ v → getD ends (g - 1) 0 ≡ u → ⊥) → (getD corners (g - 1) 0 ≡ u → getD ends (g - 1) 0 ≡ v → ⊥)
+          → Walking corners links ends last u v (getD links (g - 1) 0)
       walk-more a c =
           let b : g ≤ last = w .within in
           let l : getD links (g - 1) 0 < g = walk-less in
           record {
+            room = room;
             within = omega arith;
             here = head-home size corners (bucketOf size u v) (g - 1) (getD links (g - 1) 0) link-is;
             passed =

@@ -1,6 +1,6 @@
 -- From the checks and the listing to what a survey answers and leaves.
-use mathlib.Core.Path.{_≡_}
-use mathlib.Core.Bool.{true}
+use mathlib.Core.Path.{_≡_, sym, _∙_}
+use mathlib.Core.Bool.{Bool, true, false}
 use mathlib.Core.List.{List, []}
 use Prim.Native.Nat.{ℕ}
 use lib.IntN.{ℤ}
@@ -18,7 +18,7 @@ use Rattle.survey_grid.specs.Grid.{gridOf}
 use Rattle.check_surface.specs.Workings.Checks.{Checked}
 use Rattle.survey_rules.specs.Outcome.{Buffers, outcome, buffers, needs, lent, surveyOf}
 use Rattle.survey_rules.specs.declared.Surveyed.{Surveyed}
-use Rattle.survey_rules.proofs.Laws.Known.{Known}
+use Rattle.survey_rules.proofs.Laws.Known.{Known, known, lentWith, needsWith}
 
 -- a refusal as the code makes it
 abbrev pub Refuses : Surveyed → Answer → Type 0
@@ -26,21 +26,28 @@ Refuses r a = (r .answer ≡ a) × (r .loops ≡ 0) × (r .vertices ≡ 0)
 
 module _ (words corners : List ℕ) (b : Buffers) where
   -- what the table says decides
-  decided : (r : Surveyed) (a : Answer) → Refuses r a → refusal words corners (lent b) (needs words corners) ≡ a → refusing a ≡ true → outcome r b ≡ surveyOf words corners b
+  decided : (r : Surveyed) {a : Answer} → Refuses r a → refusal words corners (lent b) (needs words corners) ≡ a → refusing a ≡ true → outcome r b ≡ surveyOf words corners b
   unfolding surveyOf
-  decided r a h e t = rw (e, t) (λ i. record { answer = h .0 i; loops = h .1 i; vertices = h .2 i; left = b })
+  decided r h e t = rw (e, t) (λ i. record { answer = h .0 i; loops = h .1 i; vertices = h .2 i; left = b })
 
-  pub counts-refuse : (r : Surveyed) (a : Answer) → Refuses r a → a ≡ countRefusal (length words) (length corners) → refusing a ≡ true → outcome r b ≡ surveyOf words corners b
-  counts-refuse r a h e t = decided r a h (count-decides words corners (lent b) (needs words corners) a e t) t
+  module _ (r : Surveyed) {a : Answer} {t : Bool} (h : Refuses r a) (d : t ≡ refusing a) (e : t ≡ true) where
+    pub counts-refuse : a ≡ countRefusal (length words) (length corners) → outcome r b ≡ surveyOf words corners b
+    counts-refuse k = decided r h (count-decides words corners (lent b) (needs words corners) a k (sym d ∙ e)) (sym d ∙ e)
 
-  pub content-refuse : countRefusal (length words) (length corners) ≡ Done → (r : Surveyed) (a : Answer) (table : List ℕ) → Refuses r a → Checked words corners (lent b) (needs words corners) a table → refusing a ≡ true
-      → outcome r b ≡ surveyOf words corners b
-  content-refuse c r a table h k t = decided r a h (content-decides words corners (lent b) (needs words corners) c a (k .said)) t
+    pub content-refuse : countRefusal (length words) (length corners) ≡ Done → {table : List ℕ} → Checked words corners (lent b) (needs words corners) a table
+        → outcome r b ≡ surveyOf words corners b
+    content-refuse c k = decided r h (content-decides words corners (lent b) (needs words corners) c a (k .said)) (sym d ∙ e)
 
-  pub done-is : {table : List ℕ} → Known words corners table (b .grid) (b .rings) (b .lengths) [] []
-      → (at : Listed) (firsts rings′ lengths′ firsts′ : List ℕ) (grid′ : List ℤ) → ListsLoops corners (loops corners) (b .rings) (b .lengths) firsts at rings′ lengths′ firsts′ → grid′ ≡ over (gridOf words) (b .grid)
-      → outcome (record { answer = Done; loops = at .loops; vertices = at .vertices }) (buffers grid′ rings′ lengths′) ≡ surveyOf words corners b
+module _ {words corners table : List ℕ} {grid : List ℤ} {rings lengths : List ℕ} where
+  -- what is known once nothing is refused
+  pub passed-known : {a : Answer} {t : Bool} → countRefusal (length words) (length corners) ≡ Done → Checked words corners (lentWith grid rings lengths []) (needsWith words corners []) a table
+      → t ≡ refusing a → t ≡ false → Known words corners table grid rings lengths [] []
+  passed-known {a} c k d e = known words corners table grid rings lengths [] [] a c k (sym d ∙ e)
+
+  pub done-is : Known words corners table grid rings lengths [] [] → {at : Listed} {firsts rings′ lengths′ firsts′ : List ℕ} {grid′ : List ℤ}
+      → ListsLoops corners (loops corners) rings lengths firsts at rings′ lengths′ firsts′ → grid′ ≡ over (gridOf words) grid
+      → outcome (record { answer = Done; loops = at .loops; vertices = at .vertices }) (buffers grid′ rings′ lengths′) ≡ surveyOf words corners (buffers grid rings lengths)
   unfolding surveyOf
-  done-is k at firsts rings′ lengths′ firsts′ grid′ ls e =
+  done-is k ls e =
       rw (k .none-refused)
       (λ t. record { answer = Done; loops = ls .count t; vertices = ls .vertices t; left = record { grid = e t; rings = ls .all-rings t; lengths = ls .all-lengths t } })

@@ -26,9 +26,5 @@ key-at-spec =
     (λ c. search needs)
     (λ c. search needs)
     (λ c. search needs)
-    (λ c.
-    let turn : tie.In-loop Inv-loop μ-loop = search in
-    let else1 : tie.Else1 Inv-loop μ-loop = search in
-    let at-loop : tie.At-loop Inv-loop μ-loop = search in
-    (search needs, key-more _ _ _ _ _ (turn .loop-test .taken) (else1 .if1 .left) (c .if2 .left) (at-loop .loop .inv .1)))
+    (λ c. search (key-more, needs))
     (λ c. search key-end))

@@ -5,7 +5,7 @@ use Prim.Native.Nat.{ℕ, _+_, _*_, _/_, _%_, _<_, _≤_}
 use native.Mathlib.Omega.{arith}
 use lib.ListN.{length, set}
 use Rattle.surface_rules.specs.Buffers.{laid}
-use Rattle.text_digits.specs.Numeral.{byteOf, places, decimal}
+use Rattle.text_digits.specs.Numeral.{size, byteOf, places, decimal}
 use Rattle.text_digits.proofs.Laws.Digit.{byte-small, byte-ten, size-one}
 use Rattle.text_digits.proofs.Laws.Sizes.{size-two, size-three, size-four}
 use Rattle.text_digits.proofs.Laws.Lay.{lay-byte}
@@ -88,6 +88,10 @@ pub four-made : (n : ℕ) → n < 10000 → 48 + n / 1000 + 256 * (48 + n / 100 
 unfolding fourOf four
 four-made n h = rw (byte-ten (n / 1000) (omega arith), byte-ten (n / 100 % 10) (omega arith), byte-ten (n / 10 % 10) (omega arith), byte-ten (n % 10) (omega arith))
 
+-- four bytes of a number, the lowest first
+abbrev pub fourth : ℕ → List ℕ
+fourth f = f % 256 ∷ f / 256 % 256 ∷ f / 65536 % 256 ∷ f / 16777216 ∷ []
+
 module _ (n f : ℕ) (small : n < 10000) (is : f ≡ fourOf n) where
   pub f-first : f % 256 ≡ byteOf (n / 1000)
   unfolding fourOf
@@ -108,25 +112,32 @@ module _ (n f : ℕ) (small : n < 10000) (is : f ≡ fourOf n) where
   f-most : f < 4294967296
   f-most = omega (arith, f-last, digit-byte (n % 10) (omega arith))
 
-  module _ (at e : ℕ) (text : List ℕ) (byte : e < 256) where
-    pub put-one : n < 10 → at + 2 ≤ length text → set (set text at (f / 16777216)) (at + 1) e ≡ laid at (decimal n ++ (e ∷ [])) text
-    put-one h l = rw f-last (lay-pair at (byteOf (n % 10)) e text l ∙ ap (λ (r : List ℕ). laid at (r ++ (e ∷ [])) text) (sym (dec-one n h)))
+-- a number that has so many digits, and the byte that ends it
+module _ (n f at e : ℕ) (text : List ℕ) (is : f ≡ fourOf n) (byte : e < 256) (room : at + size n + 1 ≤ length text) where
+  ended : {a b : List ℕ} → a ≡ b → laid at (a ++ (e ∷ [])) text ≡ laid at (b ++ (e ∷ [])) text
+  ended = ap (λ (r : List ℕ). laid at (r ++ (e ∷ [])) text)
 
-    pub put-two : 10 ≤ n → n < 100 → at + 3 ≤ length text → set (set (set text at (f / 65536 % 256)) (at + 1) (f / 16777216)) (at + 2) e ≡ laid at (decimal n ++ (e ∷ [])) text
-    put-two h m l =
-        rw (f-third, f-last)
-        (lay-byte at (at + 2) e (byteOf (n / 10 % 10) ∷ byteOf (n % 10) ∷ []) text (set (set text at (byteOf (n / 10 % 10))) (at + 1) (byteOf (n % 10))) (omega arith) refl (lay-pair at (byteOf (n / 10 % 10)) (byteOf (n % 10)) text (omega arith))
-        ∙ ap (λ (r : List ℕ). laid at (r ++ (e ∷ [])) text) (sym (dec-two n h m)))
+  pub put-one : n < 10 → set (set text at (f / 16777216)) (at + 1) e ≡ laid at (decimal n ++ (e ∷ [])) text
+  put-one h = rw (f-last n f (omega arith) is) (lay-pair at (byteOf (n % 10)) e text (omega (arith, size-one n h)) ∙ ended (sym (dec-one n h)))
 
-    pub put-three : (g : ℕ) (after : List ℕ) → g ≡ f / 256 + 16777216 * e → 100 ≤ n → n < 1000 → after ≡ laid at (g % 256 ∷ g / 256 % 256 ∷ g / 65536 % 256 ∷ g / 16777216 ∷ []) text → after ≡ laid at (decimal n ++ (e ∷ [])) text
-    put-three g after z h m k =
-        let i : g % 256 ≡ byteOf (n / 100 % 10) = omega (arith, f-second, f-most) in
-        let j : g / 256 % 256 ≡ byteOf (n / 10 % 10) = omega (arith, f-third, f-most) in
-        let p : g / 65536 % 256 ≡ byteOf (n % 10) = omega (arith, f-last, f-most) in
-        let q : g / 16777216 ≡ e = omega (arith, f-most) in
-        k ∙ rw (i, j, p, q) (ap (λ (r : List ℕ). laid at (r ++ (e ∷ [])) text) (sym (dec-three n h m)))
+  pub put-two : 10 ≤ n → n < 100 → set (set (set text at (f / 65536 % 256)) (at + 1) (f / 16777216)) (at + 2) e ≡ laid at (decimal n ++ (e ∷ [])) text
+  put-two h m =
+      let l : at + 3 ≤ length text = omega (arith, size-two n h m) in
+      rw (f-third n f (omega arith) is, f-last n f (omega arith) is)
+      (lay-byte at (at + 2) e (byteOf (n / 10 % 10) ∷ byteOf (n % 10) ∷ []) text (set (set text at (byteOf (n / 10 % 10))) (at + 1) (byteOf (n % 10))) (omega arith) refl (lay-pair at (byteOf (n / 10 % 10)) (byteOf (n % 10)) text (omega arith))
+      ∙ ended (sym (dec-two n h m)))
 
-    pub put-four-ended : (middle : List ℕ) → 1000 ≤ n → at + 5 ≤ length text → middle ≡ laid at (f % 256 ∷ f / 256 % 256 ∷ f / 65536 % 256 ∷ f / 16777216 ∷ []) text → set middle (at + 4) e ≡ laid at (decimal n ++ (e ∷ [])) text
-    put-four-ended middle h l k =
-        lay-byte at (at + 4) e (f % 256 ∷ f / 256 % 256 ∷ f / 65536 % 256 ∷ f / 16777216 ∷ []) text middle (omega arith) refl k
-        ∙ rw (f-first, f-second, f-third, f-last) (ap (λ (r : List ℕ). laid at (r ++ (e ∷ [])) text) (sym (dec-four n h small)))
+  pub put-three : (after : List ℕ) → 100 ≤ n → n < 1000 → after ≡ laid at (fourth (f / 256 + 16777216 * e)) text → after ≡ laid at (decimal n ++ (e ∷ [])) text
+  put-three after h m k =
+      let s : n < 10000 = omega arith in
+      let z : f < 4294967296 = f-most n f s is in
+      let i : (f / 256 + 16777216 * e) % 256 ≡ byteOf (n / 100 % 10) = omega (arith, f-second n f s is) in
+      let j : (f / 256 + 16777216 * e) / 256 % 256 ≡ byteOf (n / 10 % 10) = omega (arith, f-third n f s is) in
+      let p : (f / 256 + 16777216 * e) / 65536 % 256 ≡ byteOf (n % 10) = omega (arith, f-last n f s is) in
+      let q : (f / 256 + 16777216 * e) / 16777216 ≡ e = omega arith in
+      k ∙ rw (i, j, p, q) (ended (sym (dec-three n h m)))
+
+  pub put-four-ended : (middle : List ℕ) → 1000 ≤ n → n < 10000 → middle ≡ laid at (fourth f) text → set middle (at + 4) e ≡ laid at (decimal n ++ (e ∷ [])) text
+  put-four-ended middle h s k =
+      lay-byte at (at + 4) e (fourth f) text middle (omega (arith, size-four n h s)) refl k
+      ∙ rw (f-first n f s is, f-second n f s is, f-third n f s is, f-last n f s is) (ended (sym (dec-four n h s)))

@@ -1,5 +1,5 @@
 -- The table of bytes in two digits: one more byte is spelt, and four pairs are a word.
-use mathlib.Core.Path.{_≡_, refl, sym, ap, _∙_}
+use mathlib.Core.Path.{_≡_, refl, sym, ap, ap₂, _∙_}
 use mathlib.Core.List.{List, [], _∷_, _++_}
 use mathlib.Core.Logic.{_⊎_, inl, inr}
 use Prim.Native.Nat.{ℕ, _+_, _*_, _/_, _%_, _<_, _≤_}
@@ -12,6 +12,7 @@ use Rattle.surface_rules.proofs.Laws.Tests.{eq-or-not}
 use Rattle.surface_rules.proofs.Laws.Laid.{laid-none, laid-length}
 use Rattle.text_digits.specs.Numeral.{byteOf, places, hex}
 use Rattle.text_digits.proofs.Laws.Digit.{byte-small}
+use Rattle.text_digits.proofs.Laws.Exactly.{length-places}
 use Rattle.text_digits.proofs.Laws.Lay.{laid-cons, lay-two, lay-byte}
 use Rattle.text_figures.specs.Workings.Tables.{pairOf, Spelled, four}
 use Rattle.text_figures.proofs.Laws.Parts.{part-div, part-mod}
@@ -94,30 +95,45 @@ hex-is w =
 pub spell-end : (n m : ℕ) (pairs : List ℕ) → n ≡ m → Spelled n pairs → Spelled m pairs
 spell-end n m pairs e s = rw e at s
 
+-- the digits of a byte by a table
+abbrev pub pairAt : List ℕ → ℕ → List ℕ
+pairAt pairs b = getD pairs b 0 % 256 ∷ getD pairs b 0 / 256 ∷ []
+
+abbrev join : List ℕ → List ℕ → List ℕ
+join a b = a ++ b
+
 -- four pairs and the byte that ends them are a word
-module _ (at w e p q r s : ℕ) (text one two three four : List ℕ) (room : at + 9 ≤ length text) (word : w < 4294967296)
-    (a : p ≡ pairOf (w / 16777216)) (b : q ≡ pairOf (w / 65536 % 256)) (c : r ≡ pairOf (w / 256 % 256)) (d : s ≡ pairOf (w % 256))
-    (f : one ≡ laid at (p % 256 ∷ p / 256 ∷ []) text) (g : two ≡ laid (at + 2) (q % 256 ∷ q / 256 ∷ []) one)
-    (h : three ≡ laid (at + 4) (r % 256 ∷ r / 256 ∷ []) two) (i : four ≡ laid (at + 6) (s % 256 ∷ s / 256 ∷ []) three) where
-  are : p % 256 ∷ p / 256 ∷ q % 256 ∷ q / 256 ∷ r % 256 ∷ r / 256 ∷ s % 256 ∷ s / 256 ∷ [] ≡ hex w
+module _ {pairs : List ℕ} (spelled : Spelled 256 pairs) (at w e : ℕ) (text : List ℕ) {one two three four : List ℕ} (room : at + 9 ≤ length text) (word : w < 4294967296)
+    (f : one ≡ laid at (pairAt pairs (w / 16777216)) text) (g : two ≡ laid (at + 2) (pairAt pairs (w / 65536 % 256)) one)
+    (h : three ≡ laid (at + 4) (pairAt pairs (w / 256 % 256)) two) (i : four ≡ laid (at + 6) (pairAt pairs (w % 256)) three) where
+  abbrev a : List ℕ
+  a = pairAt pairs (w / 16777216)
+
+  abbrev b : List ℕ
+  b = pairAt pairs (w / 65536 % 256)
+
+  abbrev c : List ℕ
+  c = pairAt pairs (w / 256 % 256)
+
+  abbrev d : List ℕ
+  d = pairAt pairs (w % 256)
+
+  spelt : (x : ℕ) → x < 256 → pairAt pairs x ≡ byteOf (x / 16) ∷ byteOf (x % 16) ∷ []
+  spelt x l = rw (spelled .pair x l, pair-low x l, pair-high x l)
+
+  are : a ++ (b ++ (c ++ d)) ≡ hex w
   are =
-      rw (a, b, c, d, pair-low (w / 16777216) (omega arith), pair-high (w / 16777216) (omega arith), pair-low (w / 65536 % 256) (omega arith), pair-high (w / 65536 % 256) (omega arith), pair-low (w / 256 % 256) (omega arith), pair-high (w / 256 % 256) (omega arith), pair-low (w % 256) (omega arith), pair-high (w % 256) (omega arith))
-      (sym (hex-is w))
+      ap₂ join (spelt (w / 16777216) (omega arith)) (ap₂ join (spelt (w / 65536 % 256) (omega arith)) (ap₂ join (spelt (w / 256 % 256) (omega arith)) (spelt (w % 256) (omega arith))))
+      ∙ sym (hex-is w)
 
-  all : List ℕ
-  all = p % 256 ∷ p / 256 ∷ q % 256 ∷ q / 256 ∷ r % 256 ∷ r / 256 ∷ s % 256 ∷ s / 256 ∷ []
-
-  laid-all : four ≡ laid at all text
-  unfolding all
+  laid-all : four ≡ laid at (hex w) text
   laid-all =
-      let x : two ≡ laid at (p % 256 ∷ p / 256 ∷ q % 256 ∷ q / 256 ∷ []) text = lay-two at (at + 2) (p % 256 ∷ p / 256 ∷ []) (q % 256 ∷ q / 256 ∷ []) text one two (omega arith) refl f g in
-      let y : three ≡ laid at (p % 256 ∷ p / 256 ∷ q % 256 ∷ q / 256 ∷ r % 256 ∷ r / 256 ∷ []) text = lay-two at (at + 4) (p % 256 ∷ p / 256 ∷ q % 256 ∷ q / 256 ∷ []) (r % 256 ∷ r / 256 ∷ []) text two three (omega arith) refl x h in
-      lay-two at (at + 6) (p % 256 ∷ p / 256 ∷ q % 256 ∷ q / 256 ∷ r % 256 ∷ r / 256 ∷ []) (s % 256 ∷ s / 256 ∷ []) text three four (omega arith) refl y i
+      let x : two ≡ laid at (a ++ b) text = lay-two at (at + 2) a b text one two (omega arith) refl f g in
+      let y : three ≡ laid at ((a ++ b) ++ c) text = lay-two at (at + 4) (a ++ b) c text two three (omega arith) refl x h in
+      lay-two at (at + 6) ((a ++ b) ++ c) d text three four (omega arith) refl y i ∙ ap (λ (l : List ℕ). laid at l text) are
 
   pub lay-word : set four (at + 8) e ≡ laid at (hex w ++ (e ∷ [])) text
-  unfolding all
-  lay-word = lay-byte at (at + 8) e all text four (omega arith) refl laid-all ∙ ap (λ (l : List ℕ). laid at (l ++ (e ∷ [])) text) are
+  lay-word = lay-byte at (at + 8) e (hex w) text four (omega (arith, length-places 16 8 w)) (omega (arith, length-places 16 8 w)) laid-all
 
   pub word-length : length (set four (at + 8) e) ≡ length text
-  unfolding all
-  word-length = length-set four (at + 8) e ∙ ap length laid-all ∙ laid-length at text all (omega arith)
+  word-length = length-set four (at + 8) e ∙ ap length laid-all ∙ laid-length at text (hex w) (omega (arith, length-places 16 8 w))

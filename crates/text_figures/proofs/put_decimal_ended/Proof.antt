@@ -1,26 +1,38 @@
 -- `put_decimal_ended` lays the last digits of the four, as many as the number has.
-use mathlib.Core.Path.{refl}
+use mathlib.Core.Path.{_≡_}
+use Prim.Native.Nat.{_<_}
 use native.Mathlib.Omega.{arith}
 use borrow.Author.Needs.{needs}
+use Rattle.text_digits.specs.Numeral.{size}
 use Rattle.text_digits.proofs.Laws.Sizes.{size-three, size-four}
 use Rattle.text_figures.proofs.Laws.Fours.{put-three, put-four-ended}
 use Rattle.text_figures.proofs.put_decimal_ended.Statement.{statement}
 use Rattle.text_figures.proofs.put_decimal_ended.Tie as tie
 
-abbrev to-start : tie.After-put-four → tie.Start
-to-start p = search
+-- where the number has three digits, where it has four, and what lies behind
+abbrev Three : Type 0
+Three = tie.Then2
 
-abbrev to-else1 : tie.After-put-four → tie.Else1
-to-else1 p = search
+abbrev Four : Type 0
+Four = tie.Else2
 
-abbrev to-then2 : tie.After-put-four → tie.Then2
-to-then2 p = search
+abbrev entry : tie.Else1 → tie.Start
+entry o = search
 
-abbrev to-else2 : tie.After-put-four2 → tie.Else2
-to-else2 p = search
+abbrev third : tie.After-put-four → Three
+third p = search
 
-abbrev to-start-2 : tie.After-put-four2 → tie.Start
-to-start-2 p = search
+abbrev fourth : tie.After-put-four2 → Four
+fourth p = search
+
+byte : (s : tie.Start) → s .args .end < 256
+byte s = omega arith
+
+three : (t : Three) → 3 ≡ size (entry (t .before) .args .n)
+three t = size-three _ (t .before .if1 .left) (t .if2 .taken)
+
+four : (o : Four) → 4 ≡ size (entry (o .before) .args .n)
+four o = size-four _ (o .if2 .left) (entry (o .before) .pre .0)
 
 pub put-decimal-ended-spec : {M : Type 1} → statement M
 put-decimal-ended-spec =
@@ -31,29 +43,13 @@ put-decimal-ended-spec =
     (λ c. search needs)
     (λ c. search needs)
     (λ c. search needs)
-    (λ c κs. let else1 : tie.Else1 = search in omega (arith, size-three _ (else1 .if1 .left) (c .before .if2 .taken)))
+    (λ c κs. omega (arith, three (search)))
     (λ c. search needs)
     (λ c. search needs)
-    (λ c.
-    let after-put-four : tie.After-put-four = search in
-    let start = to-start after-put-four in
-    let else1 = to-else1 after-put-four in
-    let then2 = to-then2 after-put-four in (
-      put-three _ _ (start .pre .0) (start .pre .1) _ _ _ (omega arith) _ _ refl (else1 .if1 .left) (then2 .if2 .taken) (after-put-four .put-four .ensures),
-      omega (arith, size-three _ (else1 .if1 .left) (then2 .if2 .taken)),
-    ))
-    (λ c κs. let start : tie.Start = search in omega (arith, size-four _ (c .before .if2 .left) (start .pre .0)))
+    (λ c. let p : tie.After-put-four = search in let t = third p in let s = entry (t .before) in let b = byte s in (search (put-three, s .pre, b, t .before .if1, t .if2, p .put-four), omega (arith, three t)))
+    (λ c κs. omega (arith, four (search)))
     (λ c. search needs)
-    (λ c.
-    let after-put-four2 : tie.After-put-four2 = search in
-    omega (arith, size-four _ (to-else2 after-put-four2 .if2 .left) (to-start-2 after-put-four2 .pre .0)))
+    (λ c. omega (arith, four (fourth (search))))
     (λ c. search needs)
     (λ c. search needs)
-    (λ c.
-    let after-put-four2 : tie.After-put-four2 = search in
-    let start = to-start-2 after-put-four2 in
-    let else2 = to-else2 after-put-four2 in (
-      put-four-ended _ _ (start .pre .0) (start .pre .1) _ _ _ (omega arith) _ (else2 .if2 .left)
-          (omega (arith, size-four _ (else2 .if2 .left) (start .pre .0))) (after-put-four2 .put-four2 .ensures),
-      omega (arith, size-four _ (else2 .if2 .left) (start .pre .0)),
-    )))
+    (λ c. let p : tie.After-put-four2 = search in let o = fourth p in let s = entry (o .before) in let b = byte s in (search (put-four-ended, s .pre, b, o .if2, p .put-four2), omega (arith, four o))))

@@ -1,12 +1,24 @@
 -- `put_short` lays the last digit of the four, or the last two.
-use lib.ListN.{length-set}
+use mathlib.Core.Path.{_≡_}
+use Prim.Native.Nat.{_<_}
 use native.Mathlib.Omega.{arith}
+use lib.ListN.{length-set}
 use borrow.Author.Needs.{needs}
+use Rattle.text_digits.specs.Numeral.{size}
 use Rattle.text_digits.proofs.Laws.Sizes.{size-two}
 use Rattle.text_digits.proofs.Laws.Digit.{size-one}
 use Rattle.text_figures.proofs.Laws.Fours.{put-one, put-two}
 use Rattle.text_figures.proofs.put_short.Statement.{statement}
 use Rattle.text_figures.proofs.put_short.Tie as tie
+
+byte : (s : tie.Start) → s .args .end < 256
+byte s = omega arith
+
+one : (t : tie.Then1) → size (t .before .args .n) ≡ 1
+one t = size-one _ (t .if1 .taken)
+
+two : (o : tie.Else1) → 2 ≡ size (o .before .args .n)
+two o = size-two _ (o .if1 .left) (o .before .pre .0)
 
 pub put-short-spec : {M : Type 1} → statement M
 put-short-spec =
@@ -15,26 +27,17 @@ put-short-spec =
     (λ c. search needs)
     (λ c. search needs)
     (λ c. search needs)
-    (λ c. simp length-set (omega (arith, size-one (c .before .args .n) (c .if1 .taken))))
+    (λ c. simp length-set (omega (arith, one c)))
     (λ c. search needs)
     (λ c. search needs)
-    (λ c. (
-      put-one (c .before .args .n) (c .before .args .four) (omega arith) (c .before .pre .1) (c .before .args .at) (c .before .args .end)
-          (c .before .args .text .now) (omega arith) (c .if1 .taken) (omega (arith, size-one (c .before .args .n) (c .if1 .taken))),
-      omega (arith, size-one (c .before .args .n) (c .if1 .taken)),
-    ))
+    (λ c. let b = byte (c .before) in (search put-one, omega (arith, one c)))
     (λ c. search needs)
     (λ c. search needs)
     (λ c. search needs)
     (λ c. search needs)
-    (λ c. simp length-set (omega (arith, size-two (c .before .args .n) (c .if1 .left) (c .before .pre .0))))
+    (λ c. simp length-set (omega (arith, two c)))
     (λ c. search needs)
-    (λ c. simp length-set (omega (arith, size-two (c .before .args .n) (c .if1 .left) (c .before .pre .0))))
+    (λ c. simp length-set (omega (arith, two c)))
     (λ c. search needs)
     (λ c. search needs)
-    (λ c. (
-      put-two (c .before .args .n) (c .before .args .four) (omega arith) (c .before .pre .1) (c .before .args .at) (c .before .args .end)
-          (c .before .args .text .now) (omega arith) (c .if1 .left) (c .before .pre .0)
-          (omega (arith, size-two (c .before .args .n) (c .if1 .left) (c .before .pre .0))),
-      omega (arith, size-two (c .before .args .n) (c .if1 .left) (c .before .pre .0)),
-    )))
+    (λ c. let b = byte (c .before) in (search put-two, omega (arith, two c))))

@@ -4,52 +4,29 @@ use Rattle.text_hex.proofs.Laws.Marks.{hex-high, hex-low, hex-unended, 
 use Rattle.text_hex.proofs.hex_at.Statement.{statement}
 use Rattle.text_hex.proofs.hex_at.Tie as tie
 
-abbrev to-start : tie.After-half-at → tie.Start
-to-start p = search
+-- where both halves were read, and what lies behind
+abbrev Halves : Type 0
+Halves = tie.After-half-at2
 
-abbrev to-after-half-at : tie.After-half-at2 → tie.After-half-at
-to-after-half-at p = search
+abbrev first : Halves → tie.After-half-at
+first h = search
 
-abbrev to-start-2 : tie.After-half-at2 → tie.Start
-to-start-2 p = to-start (to-after-half-at p)
+abbrev entry : tie.After-half-at → tie.Start
+entry f = search
 
 pub hex-at-spec : {M : Type 1} → statement M
 hex-at-spec =
     tie.close
     (tie.spec
-    (λ c κs. let start : tie.Start = search in (search needs, start .pre .1))
+    (λ c κs. search needs)
     (λ c. search needs)
-    (λ c κs. (search needs, (to-start c) .pre .1))
-    (λ c.
-    let after-half-at2 : tie.After-half-at2 = search in (
-      hex-high _ _ _ _ _ (to-start-2 after-half-at2 .pre .0) (to-after-half-at after-half-at2 .half-at .ensures) (c .before .half-at2 .ensures)
-          (c .if1 .taken),
-      tt,
-    ))
-    (λ c.
-    let after-half-at2 : tie.After-half-at2 = search in (
-      hex-low _ _ _ _ _ (to-start-2 after-half-at2 .pre .0) (to-after-half-at after-half-at2 .half-at .ensures) (after-half-at2 .half-at2 .ensures)
-          (c .before .if1 .left) (c .if2 .taken),
-      tt,
-    ))
+    (λ c κs. let s = entry c in search (needs, s .pre))
+    (λ c. let h : Halves = search in let f = first h in search (hex-high, entry f .pre, f .half-at, h .half-at2))
+    (λ c. let h : Halves = search in let f = first h in search (hex-low, entry f .pre, f .half-at, h .half-at2))
     (λ c. search needs)
     (λ c. search needs)
-    (λ c.
-    let after-half-at2 : tie.After-half-at2 = search in
-    let else1 : tie.Else1 = search in
-    let else2 : tie.Else2 = search in (
-      hex-unended _ _ _ _ _ (to-start-2 after-half-at2 .pre .0) (to-after-half-at after-half-at2 .half-at .ensures) (after-half-at2 .half-at2 .ensures)
-          (else1 .if1 .left) (else2 .if2 .left) (c .if3 .taken),
-      tt,
-    ))
+    (λ c. let h : Halves = search in let f = first h in search (hex-unended, entry f .pre, f .half-at, h .half-at2))
     (λ c. search needs)
     (λ c. search needs)
     (λ c. search needs)
-    (λ c.
-    let after-half-at2 : tie.After-half-at2 = search in
-    let else1 : tie.Else1 = search in
-    let else2 : tie.Else2 = search in (
-      hex-done _ _ _ _ _ (to-start-2 after-half-at2 .pre .0) (to-after-half-at after-half-at2 .half-at .ensures) (after-half-at2 .half-at2 .ensures)
-          (else1 .if1 .left) (else2 .if2 .left) (c .if3 .left),
-      search needs,
-    )))
+    (λ c. let h : Halves = search in let f = first h in search (hex-done, needs, entry f .pre, f .half-at, h .half-at2)))

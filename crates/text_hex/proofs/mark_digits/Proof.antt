@@ -1,7 +1,7 @@
 -- `mark_digits`: after some turns the digits below d are marked.
-use mathlib.Core.Path.{refl, sym, _∙_}
-use lib.ListN.{length-set}
-use Prim.Native.Nat.{_≤_, _-_}
+use mathlib.Core.Path.{_≡_, refl, sym, _∙_}
+use lib.ListN.{length, length-set}
+use Prim.Native.Nat.{_<_, _≤_, _-_}
 use borrow.Author.Needs.{needs}
 use native.Mathlib.Omega.{arith}
 use Rattle.text_digits.proofs.Laws.Digit.{byte-small}
@@ -16,26 +16,32 @@ Inv-loop values₀ d₀ values d = (d ≤ 16) × Marked d values
 abbrev μ-loop : tie.MeasureT-loop
 μ-loop values₀ d₀ values d = 16 - d
 
-abbrev to-at-loop : tie.After-byte-of Inv-loop μ-loop → tie.At-loop Inv-loop μ-loop
-to-at-loop p = search
+abbrev Turn : Type 0
+Turn = tie.After-byte-of Inv-loop μ-loop
+
+abbrev at-loop : Turn → tie.At-loop Inv-loop μ-loop
+at-loop t = search
+
+here : (t : Turn) → (t .byte-of .result < 103) × (length (at-loop t .loop .values) ≡ 512)
+here t = (omega (arith, byte-small _ (t .before .loop-test .taken), t .byte-of .ensures), at-loop t .loop .inv .1 .long)
 
 pub mark-digits-spec : {M : Type 1} → statement M
 mark-digits-spec =
     tie.close
     (tie.spec Inv-loop μ-loop
-    (λ c. (search needs, c .before .pre))
+    (λ c. search needs)
     (λ c κs. search needs)
     (λ c. search needs)
     (λ c. search needs)
-    (λ c. omega (arith, byte-small _ (c .before .loop-test .taken), c .byte-of .ensures))
-    (λ c. omega (arith, byte-small _ (c .before .loop-test .taken), c .byte-of .ensures, (to-at-loop c) .loop .inv .1 .long))
+    (λ c. omega (arith, here c))
+    (λ c. omega (arith, here c))
     (λ c. search needs)
     (λ c. search needs)
-    (λ c. omega (arith, byte-small _ (c .before .loop-test .taken), c .byte-of .ensures))
-    (λ c. omega (arith, byte-small _ (c .before .loop-test .taken), c .byte-of .ensures))
-    (λ c. simp length-set (omega (arith, byte-small _ (c .before .loop-test .taken), c .byte-of .ensures, (to-at-loop c) .loop .inv .1 .long)))
+    (λ c. omega (arith, here c))
+    (λ c. omega (arith, here c))
+    (λ c. simp length-set (omega (arith, here c)))
     (λ c. search needs)
     (λ c. search needs)
-    (λ c. (search needs, mark-more _ _ _ _ _ (c .before .loop-test .taken) (c .byte-of .ensures) refl refl (to-at-loop c .loop .inv .1)))
-    (λ c. let start : tie.Start Inv-loop μ-loop = search in c .before .loop .inv .1 .long ∙ sym (start .pre .long))
+    (λ c. (search needs, mark-more (c .before .loop-test .taken) (c .byte-of .ensures) refl refl (at-loop c .loop .inv .1)))
+    (λ c. let s : tie.Start Inv-loop μ-loop = search in c .before .loop .inv .1 .long ∙ sym (s .pre .long))
     (λ c. search mark-end))

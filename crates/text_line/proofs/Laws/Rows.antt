@@ -1,5 +1,5 @@
 -- One line, written number by number: each part goes behind the last.
-use mathlib.Core.Path.{_≡_, ap, _∙_}
+use mathlib.Core.Path.{_≡_, refl, ap, _∙_}
 use mathlib.Core.List.{List, [], _∷_, _++_}
 use Prim.Native.Nat.{ℕ, _+_, _≤_}
 use native.Mathlib.Omega.{arith}
@@ -16,11 +16,11 @@ use Rattle.text_sheet.specs.Sheet.{comma, p=, t=, points, triangles}
 use Rattle.text_sheet.proofs.Laws.Sizes.{row-ended, triangle-size}
 
 -- a key and a count
-pub count-laid : (key : List ℕ) (n at k : ℕ) (text middle after : List ℕ) → at + length (count key n) ≤ length text → k ≡ at + length key
-    → middle ≡ laid at key text → after ≡ laid k (decimal n ++ (feed ∷ [])) middle → after ≡ laid at (count key n) text
+pub count-laid : (key : List ℕ) (n at : ℕ) (text middle after : List ℕ) → at + length (count key n) ≤ length text
+    → middle ≡ laid at key text → after ≡ laid (at + length key) (decimal n ++ (feed ∷ [])) middle → after ≡ laid at (count key n) text
 unfolding count
-count-laid key n at k text middle after h e f g =
-    lay-two at k key (decimal n ++ (feed ∷ [])) text middle after (omega (arith, length-append key (decimal n ++ (feed ∷ [])))) e f g
+count-laid key n at text middle after h f g =
+    lay-two at (at + length key) key (decimal n ++ (feed ∷ [])) text middle after (omega (arith, length-append key (decimal n ++ (feed ∷ [])))) refl f g
 
 -- four parts
 module _ (at k l m : ℕ) (a b c d : List ℕ) (text one two three four : List ℕ) (h : at + length a + length b + length c + length d ≤ length text)
@@ -52,6 +52,15 @@ point-laid i j n at text second third last h f g k =
     lay-parts at (at + 2) (at + 11) (at + 20) p= (hex i ++ (comma ∷ [])) (hex j ++ (comma ∷ [])) (hex n ++ (feed ∷ [])) text (set (set text at 112) (at + 1) 61) second third last
     (omega arith) (omega arith) (omega arith) (omega arith) (lay-pair at 112 61 text (omega arith)) f g k
     ∙ ap (λ (r : List ℕ). laid at r text) (row-ended p= hex (three i j n))
+
+-- how long a line `t=` is, and that its first two bytes change no length
+pub record RowRoom (i j n at : ℕ) (text : List ℕ) : Type 0 where
+  pub long : length (triangles .show (three i j n)) ≡ 5 + size i + size j + size n
+  pub one : length (set text at 116) ≡ length text
+  pub two : length (set (set text at 116) (at + 1) 61) ≡ length text
+
+pub row-room : {i j n at : ℕ} {text : List ℕ} → RowRoom i j n at text
+row-room {i} {j} {n} {at} {text} = record { long = triangle-size (three i j n); one = length-set text at 116; two = pair-length text at 116 61 }
 
 -- a line `t=`
 pub triangle-laid : (i j n at k l : ℕ) (text second third last : List ℕ) → at + length (triangles .show (three i j n)) ≤ length text → k ≡ at + 2 + size i + 1 → l ≡ k + size j + 1

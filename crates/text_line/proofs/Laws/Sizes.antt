@@ -25,24 +25,37 @@ use Rattle.text_line.specs.Workings.Means.{Counted, needed}
 abbrev pub Flag : ℕ → ℕ → ℕ → Type 0
 Flag t c a = ((t ≤ c) × (a ≡ 1)) ⊎ ((c < t) × (a ≡ 0))
 
-pub flag-most : {t c a : ℕ} → Flag t c a → a ≤ 1
+flag-most : {t c a : ℕ} → Flag t c a → a ≤ 1
 flag-most (inl w) = omega (arith, w .1)
 flag-most (inr w) = omega (arith, w .1)
 
-pub flags-size : (c a b d e : ℕ) → c < 100000 → Flag 10 c a → Flag 100 c b → Flag 1000 c d → Flag 10000 c e → 1 + a + b + d + e ≡ size c
-flags-size c a b d e h (inr f) (inr g) (inr i) (inr j) = omega (arith, size-one c (f .0), f .1, g .1, i .1, j .1)
-flags-size c a b d e h (inl f) (inr g) (inr i) (inr j) = omega (arith, size-two c (f .0) (g .0), f .1, g .1, i .1, j .1)
-flags-size c a b d e h (inl f) (inl g) (inr i) (inr j) = omega (arith, size-three c (g .0) (i .0), f .1, g .1, i .1, j .1)
-flags-size c a b d e h (inl f) (inl g) (inl i) (inr j) = omega (arith, size-four c (i .0) (j .0), f .1, g .1, i .1, j .1)
-flags-size c a b d e h (inl f) (inl g) (inl i) (inl j) = omega (arith, size-five c (j .0) h, f .1, g .1, i .1, j .1)
-flags-size c a b d e h (inr f) (inl g) i j = absurd (omega (arith, f .0, g .0))
-flags-size c a b d e h (inr f) (inr g) (inl i) j = absurd (omega (arith, f .0, i .0))
-flags-size c a b d e h (inr f) (inr g) (inr i) (inl j) = absurd (omega (arith, f .0, j .0))
-flags-size c a b d e h (inl f) (inr g) (inl i) j = absurd (omega (arith, g .0, i .0))
-flags-size c a b d e h (inl f) (inr g) (inr i) (inl j) = absurd (omega (arith, g .0, j .0))
-flags-size c a b d e h (inl f) (inl g) (inr i) (inl j) = absurd (omega (arith, i .0, j .0))
+-- for each power of ten
+pub record Flags (c a b d e : ℕ) : Type 0 where
+  pub tens : Flag 10 c a
+  pub hundreds : Flag 100 c b
+  pub thousands : Flag 1000 c d
+  pub last : Flag 10000 c e
 
-pub corner-fits : (c : ℕ) → Fits w16 c → c < 65536
+pub flags-most : {c a b d e : ℕ} → Flags c a b d e → (a ≤ 1) × (b ≤ 1) × (d ≤ 1) × (e ≤ 1)
+flags-most f = (flag-most (f .tens), flag-most (f .hundreds), flag-most (f .thousands), flag-most (f .last))
+
+pub flags-size : {c a b d e : ℕ} → c < 100000 → Flags c a b d e → 1 + a + b + d + e ≡ size c
+flags-size {c} {a} {b} {d} {e} h flags = go (flags .tens) (flags .hundreds) (flags .thousands) (flags .last)
+  where
+    go : Flag 10 c a → Flag 100 c b → Flag 1000 c d → Flag 10000 c e → 1 + a + b + d + e ≡ size c
+    go (inr f) (inr g) (inr i) (inr j) = omega (arith, size-one c (f .0), f .1, g .1, i .1, j .1)
+    go (inl f) (inr g) (inr i) (inr j) = omega (arith, size-two c (f .0) (g .0), f .1, g .1, i .1, j .1)
+    go (inl f) (inl g) (inr i) (inr j) = omega (arith, size-three c (g .0) (i .0), f .1, g .1, i .1, j .1)
+    go (inl f) (inl g) (inl i) (inr j) = omega (arith, size-four c (i .0) (j .0), f .1, g .1, i .1, j .1)
+    go (inl f) (inl g) (inl i) (inl j) = omega (arith, size-five c (j .0) h, f .1, g .1, i .1, j .1)
+    go (inr f) (inl g) i j = absurd (omega (arith, f .0, g .0))
+    go (inr f) (inr g) (inl i) j = absurd (omega (arith, f .0, i .0))
+    go (inr f) (inr g) (inr i) (inl j) = absurd (omega (arith, f .0, j .0))
+    go (inl f) (inr g) (inl i) j = absurd (omega (arith, g .0, i .0))
+    go (inl f) (inr g) (inr i) (inl j) = absurd (omega (arith, g .0, j .0))
+    go (inl f) (inl g) (inr i) (inl j) = absurd (omega (arith, i .0, j .0))
+
+corner-fits : (c : ℕ) → Fits w16 c → c < 65536
 corner-fits c f = omega (arith, f)
 
 -- ---- all corners
@@ -56,9 +69,9 @@ pub record Summed (corners : List ℕ) (i sum : ℕ) : Type 0 where
 pub sum-begins : (corners : List ℕ) → Summed corners 0 0
 sum-begins corners = record { within = omega arith; small = omega arith; rest = omega arith }
 
-module _ (corners : List ℕ) (i sum : ℕ) (s : Summed corners i sum) where
-  pub sum-more : (r : ℕ) → i < length corners → r ≡ size (getD corners i 0) → r ≤ 5 → Summed corners (i + 1) (sum + r)
-  sum-more r h e b =
+module _ {corners : List ℕ} {i sum : ℕ} (s : Summed corners i sum) where
+  pub sum-more : {r : ℕ} → i < length corners → r ≡ size (getD corners i 0) → r ≤ 5 → Summed corners (i + 1) (sum + r)
+  sum-more {r} h e b =
       let d : drop i corners ≡ getD corners i 0 ∷ drop (i + 1) corners = drop-cons corners i 0 h ∙ ap (λ (k : ℕ). getD corners i 0 ∷ drop k corners) (sym (add-one i)) in
       record {
         within = omega arith;
@@ -70,8 +83,8 @@ module _ (corners : List ℕ) (i sum : ℕ) (s : Summed corners i sum) where
   unfolding flatten
   sum-ends h = omega (arith, s .rest, ap (λ (l : List ℕ). length (digitsOf l)) (drop-of-length-le corners h))
 
-pub size-few : (r c : ℕ) → Fits w16 c → r ≡ size c → r ≤ 5
-size-few r c f e = omega (arith, e, size-most c (omega (arith, f)))
+pub size-few : {r c : ℕ} → Fits w16 c → r ≡ size c → r ≤ 5
+size-few {r} {c} f e = omega (arith, e, size-most c (omega (arith, f)))
 
 pub digits-few : (corners : List ℕ) → ((i : ℕ) → Fits w16 (getD corners i 0)) → length (digitsOf corners) ≤ 5 * length corners
 digits-few corners f = digits-most corners (λ i h. corner-fits (getD corners i 0) (f i))

@@ -1,5 +1,5 @@
 -- `corner_digits`: after some turns the digits of as many corners are summed.
-use Prim.Native.Nat.{_-_}
+use Prim.Native.Nat.{_-_, _≤_}
 use native.Mathlib.Omega.{arith}
 use lib.ListN.{length}
 use borrow.Author.Needs.{needs}
@@ -13,28 +13,27 @@ Inv-loop corners sum₀ i₀ sum i = Summed corners i sum
 abbrev μ-loop : tie.MeasureT-loop
 μ-loop corners sum₀ i₀ sum i = length corners - i
 
-abbrev to-at-loop : tie.After-corner-size Inv-loop μ-loop → tie.At-loop Inv-loop μ-loop
-to-at-loop p = search
+-- where the next corner's digits are counted, and what lies behind
+abbrev Next : Type 0
+Next = tie.After-corner-size Inv-loop μ-loop
 
-abbrev to-turn : tie.After-corner-size Inv-loop μ-loop → tie.In-loop Inv-loop μ-loop
-to-turn p = search
+abbrev turn : Next → tie.In-loop Inv-loop μ-loop
+turn n = search
+
+here : (n : Next) → n .corner-size .result ≤ 5
+here n = let k : tie.After-shared-slice-known Inv-loop μ-loop = search in size-few (k .shared-slice-known .given (turn n .before .loop .i)) (n .corner-size .ensures)
 
 pub corner-digits-spec : {M : Type 1} → statement M
 corner-digits-spec =
     tie.close
     (tie.spec Inv-loop μ-loop
-    (λ c. sum-begins (c .before .args .corners .now))
+    (λ c. search sum-begins)
     (λ c. search needs)
     (λ c. search needs)
     (λ c κs. search needs)
-    (λ c.
-    let at-loop = to-at-loop c in
-    omega (arith, at-loop .loop .inv .small, size-few _ _ (c .before .shared-slice-known2 .given (at-loop .loop .i)) (c .corner-size .ensures)))
+    (λ c. omega (arith, here c, turn c .before .loop .inv))
     (λ c. search needs)
     (λ c. search needs)
-    (λ c.
-    let at-loop = to-at-loop c in
-    sum-more _ _ _ (at-loop .loop .inv) _ (to-turn c .loop-test .taken) (c .corner-size .ensures)
-    (size-few _ _ (c .before .shared-slice-known2 .given (at-loop .loop .i)) (c .corner-size .ensures)))
+    (λ c. sum-more (turn c .before .loop .inv) (turn c .loop-test .taken) (c .corner-size .ensures) (here c))
     (λ c. search needs)
     (λ c. search sum-ends))

@@ -1,35 +1,39 @@
 -- `corner_size` adds one for each power of ten that the corner has reached.
 use mathlib.Core.Logic.{⊎-elim, inl, inr}
 use native.Mathlib.Omega.{arith}
-use Rattle.text_line.proofs.Laws.Sizes.{Flag, flag-most, flags-size}
+use Rattle.text_line.proofs.Laws.Sizes.{Flags, flags-most, flags-size}
 use Rattle.text_line.proofs.corner_size.Statement.{statement}
 use Rattle.text_line.proofs.corner_size.Tie as tie
 
+-- where all four are known
+abbrev All : Type 0
+All = tie.Joined4
+
+abbrev first : All → tie.Joined1
+first a = search
+
+abbrev second : All → tie.Joined2
+second a = search
+
+abbrev third : All → tie.Joined3
+third a = search
+
 -- what each `if` left in its number
-first : (j : tie.Joined1) → Flag 10 (j .before .args .c) (j .if1 .a)
-first j = ⊎-elim (λ w. inl (w .0 .taken, w .1)) (λ w. inr (w .0 .left, w .1)) (j .if1 .came)
-
-second : (j : tie.Joined2) → Flag 100 (j .before .before .args .c) (j .if2 .b)
-second j = ⊎-elim (λ w. inl (w .0 .taken, w .1)) (λ w. inr (w .0 .left, w .1)) (j .if2 .came)
-
-third : (j : tie.Joined3) → Flag 1000 (j .before .before .before .args .c) (j .if3 .d)
-third j = ⊎-elim (λ w. inl (w .0 .taken, w .1)) (λ w. inr (w .0 .left, w .1)) (j .if3 .came)
-
-fourth : (j : tie.Joined4) → Flag 10000 (j .before .before .before .before .args .c) (j .if4 .e)
-fourth j = ⊎-elim (λ w. inl (w .0 .taken, w .1)) (λ w. inr (w .0 .left, w .1)) (j .if4 .came)
+here : (a : All) → Flags (first a .before .args .c) (first a .if1 .a) (second a .if2 .b) (third a .if3 .d) (a .if4 .e)
+here a =
+    record {
+      tens = ⊎-elim (λ w. inl (w .0 .taken, w .1)) (λ w. inr (w .0 .left, w .1)) (first a .if1 .came);
+      hundreds = ⊎-elim (λ w. inl (w .0 .taken, w .1)) (λ w. inr (w .0 .left, w .1)) (second a .if2 .came);
+      thousands = ⊎-elim (λ w. inl (w .0 .taken, w .1)) (λ w. inr (w .0 .left, w .1)) (third a .if3 .came);
+      last = ⊎-elim (λ w. inl (w .0 .taken, w .1)) (λ w. inr (w .0 .left, w .1)) (a .if4 .came);
+    }
 
 pub corner-size-spec : {M : Type 1} → statement M
 corner-size-spec =
     tie.close
     (tie.spec
-    (λ c. let joined1 : tie.Joined1 = search in omega (arith, flag-most (first (joined1))))
-    (λ c. let joined1 : tie.Joined1 = search in let joined2 : tie.Joined2 = search in omega (arith, flag-most (first (joined1)), flag-most (second (joined2))))
-    (λ c.
-    let joined1 : tie.Joined1 = search in let joined2 : tie.Joined2 = search in let joined3 : tie.Joined3 = search in
-    omega (arith, flag-most (first (joined1)), flag-most (second (joined2)), flag-most (third (joined3))))
-    (λ c.
-    let joined1 : tie.Joined1 = search in let joined2 : tie.Joined2 = search in let joined3 : tie.Joined3 = search in let joined4 : tie.Joined4 = search in
-    omega (arith, flag-most (first (joined1)), flag-most (second (joined2)), flag-most (third (joined3)), flag-most (fourth (joined4))))
-    (λ c.
-    let joined1 : tie.Joined1 = search in let joined2 : tie.Joined2 = search in let joined3 : tie.Joined3 = search in let joined4 : tie.Joined4 = search in
-    flags-size _ _ _ _ _ (omega arith) (first (joined1)) (second (joined2)) (third (joined3)) (fourth (joined4))))
+    (λ c. omega (arith, flags-most (here (search))))
+    (λ c. omega (arith, flags-most (here (search))))
+    (λ c. omega (arith, flags-most (here (search))))
+    (λ c. omega (arith, flags-most (here (search))))
+    (λ c. flags-size (omega arith) (here (search))))

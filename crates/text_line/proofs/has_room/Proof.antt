@@ -7,8 +7,8 @@ use Rattle.text_line.proofs.Laws.Sizes.{room-for-longest}
 use Rattle.text_line.proofs.has_room.Statement.{statement}
 use Rattle.text_line.proofs.has_room.Tie as tie
 
-abbrev to-start : tie.After-text-bytes → tie.Start
-to-start p = search
+abbrev entry : tie.After-text-bytes → tie.Start
+entry p = search
 
 pub has-room-spec : {M : Type 1} → statement M
 has-room-spec =
@@ -20,4 +20,4 @@ has-room-spec =
     (λ c. search needs)
     (λ c. search room-for-longest)
     (λ c κs. search needs)
-    (λ c. ap (λ (k : ℕ). leb k (to-start c .args .room)) (c .text-bytes .ensures)))
+    (λ c. ap (λ (k : ℕ). leb k (entry c .args .room)) (c .text-bytes .ensures)))

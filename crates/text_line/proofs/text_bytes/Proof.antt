@@ -1,5 +1,5 @@
 -- `text_bytes` adds up what the counts, the lines and the corners' digits take; the sum is far below what a `usize` holds.
-use Prim.Native.Nat.{_/_}
+use Prim.Native.Nat.{_/_, _≤_}
 use native.Mathlib.Omega.{arith}
 use lib.ListN.{length}
 use borrow.Author.Needs.{needs}
@@ -8,17 +8,25 @@ use Rattle.text_line.proofs.Laws.Sizes.{digits-few, needed-sum}
 use Rattle.text_line.proofs.text_bytes.Statement.{statement}
 use Rattle.text_line.proofs.text_bytes.Tie as tie
 
-abbrev to-after-size-of : tie.After-size-of2 → tie.After-size-of
-to-after-size-of p = search
+abbrev entry : tie.After-size-of → tie.Start
+entry p = search
 
-abbrev to-start : tie.After-size-of → tie.Start
-to-start p = search
+abbrev sizes : tie.After-corner-digits → tie.After-size-of2
+sizes p = search
 
-abbrev to-after-size-of2 : tie.After-corner-digits → tie.After-size-of2
-to-after-size-of2 p = search
+-- the counts have few digits
+here : (p : tie.After-size-of2) → (p .before .size-of .result ≤ 5) × (p .size-of2 .result ≤ 5)
+here p =
+    let s = entry (p .before) in (
+      omega (arith, p .before .size-of .ensures, size-most (s .args .points) (omega (arith, s .pre))),
+      omega (arith, p .size-of2 .ensures, size-most (length (s .args .corners .now) / 3) (omega (arith, s .pre))),
+    )
 
-abbrev to-after-shared-slice-known : tie.After-size-of → tie.After-shared-slice-known
-to-after-shared-slice-known p = search
+add-last : tie.Need-add-result-4
+add-last c =
+    let p = sizes c in
+    let k : tie.After-shared-slice-known = search in
+    omega (arith, here p, c .corner-digits .ensures, digits-few (entry (p .before) .args .corners .now) (k .shared-slice-known .given), entry (p .before) .pre)
 
 pub text-bytes-spec : {M : Type 1} → statement M
 text-bytes-spec =
@@ -28,55 +36,12 @@ text-bytes-spec =
     (λ c κs. search needs)
     (λ c. search needs)
     (λ c κs. search needs)
-    (λ c.
-    let start = to-start (to-after-size-of c) in omega (
-      arith,
-      size-most (start .args .points) (omega (arith, start .pre .few-points)),
-      size-most (length (start .args .corners .now) / 3)
-          (omega (arith, start .pre .few-corners)),
-      c .before .size-of .ensures,
-      c .size-of2 .ensures,
-    ))
-    (λ c.
-    let start = to-start (to-after-size-of c) in omega (
-      arith,
-      size-most (start .args .points) (omega (arith, start .pre .few-points)),
-      size-most (length (start .args .corners .now) / 3)
-          (omega (arith, start .pre .few-corners)),
-      c .before .size-of .ensures,
-      c .size-of2 .ensures,
-    ))
+    (λ c. omega (arith, here c))
+    (λ c. omega (arith, here c))
     (λ c. search needs)
-    (λ c.
-    let start = to-start (to-after-size-of c) in omega (
-      arith,
-      size-most (start .args .points) (omega (arith, start .pre .few-points)),
-      size-most (length (start .args .corners .now) / 3)
-          (omega (arith, start .pre .few-corners)),
-      c .before .size-of .ensures,
-      c .size-of2 .ensures,
-    ))
+    (λ c. omega (arith, here c, entry (c .before) .pre))
     (λ c. search needs)
-    (λ c.
-    let start = to-start (to-after-size-of c) in omega (
-      arith,
-      size-most (start .args .points) (omega (arith, start .pre .few-points)),
-      size-most (length (start .args .corners .now) / 3)
-          (omega (arith, start .pre .few-corners)),
-      c .before .size-of .ensures,
-      c .size-of2 .ensures,
-    ))
+    (λ c. omega (arith, here c, entry (c .before) .pre))
     (λ c κs. search needs)
-    (λ c.
-    let after-size-of = to-after-size-of (to-after-size-of2 c) in let start = to-start after-size-of in omega (
-      arith,
-      size-most (start .args .points) (omega (arith, start .pre .few-points)),
-      size-most (length (start .args .corners .now) / 3)
-          (omega (arith, start .pre .few-corners)),
-      after-size-of .size-of .ensures,
-      c .before .size-of2 .ensures,
-      c .corner-digits .ensures,
-      digits-few
-          (start .args .corners .now) (to-after-shared-slice-known after-size-of .shared-slice-known .given),
-    ))
+    add-last
     (λ c. search needed-sum))

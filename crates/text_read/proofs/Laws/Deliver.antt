@@ -1,6 +1,6 @@
 -- Handing a sheet over, case by case, and that this is what reading promises.
 use mathlib.Core.Path.{_≡_, refl, sym, ap, ap₂, _∙_}
-use mathlib.Core.Bool.{true, false}
+use mathlib.Core.Bool.{Bool, true, false}
 use mathlib.Core.List.{List, [], _∷_}
 use Prim.Native.Nat.{ℕ, _*_, _/_, _≤_}
 use native.Mathlib.Omega.{arith}
@@ -20,8 +20,8 @@ use Rattle.surface_rules.proofs.Laws.Threes.{front-of, front-within}
 use Rattle.text_rules.specs.Workings.Parse.{Parsed, said, fault}
 use Rattle.text_rules.specs.Workings.Scanning.{Scanned}
 use Rattle.text_rules.specs.declared.Scan.{Scan}
-use Rattle.text_rules.specs.declared.Scan.the-variants.{Wrong}
-use Rattle.text_rules.proofs.Laws.Scanning.{wrong-parsed, Kept}
+use Rattle.text_rules.specs.declared.Scan.the-variants.{Whole, Wrong}
+use Rattle.text_rules.proofs.Laws.Scanning.{wrong-parsed, Kept, kept}
 use Rattle.text_sheet.specs.Workings.Parse.{parse}
 use Rattle.text_sheet.proofs.Laws.Texts.{parse-text, text-parse, fault-only}
 use Rattle.text_read.specs.Outcome.{ReadOutcome, readOutcome, notRead, deliver, Reads}
@@ -31,7 +31,7 @@ use Rattle.text_read.specs.declared.ReadSheet.{ReadSheet}
 abbrev pub Refused : ReadSheet → Answer → Type 0
 Refused r a = (r .answer ≡ a) × (r .words ≡ 0) × (r .corners ≡ 0)
 
-pub not-read : (r : ReadSheet) (a : Answer) (words corners : List ℕ) → Refused r a → readOutcome r words corners ≡ notRead a words corners
+not-read : (r : ReadSheet) (a : Answer) (words corners : List ℕ) → Refused r a → readOutcome r words corners ≡ notRead a words corners
 not-read r a words corners h = rw (h .0, h .1, h .2)
 
 module _ (ws cs words corners : List ℕ) where
@@ -47,26 +47,28 @@ module _ (ws cs words corners : List ℕ) where
   unfolding deliver needed
   done-is e = rw e
 
-  module _ (s : Answer) (e : s ≡ bufferRefusal (length words ∷ length corners ∷ []) (length ws ∷ length cs ∷ [])) where
-    pub short-handed : (r : ReadSheet) → refusing s ≡ true → Refused r s → readOutcome r words corners ≡ deliver ws cs words corners
+  -- `b` says whether s, the answer for the buffers, refuses
+  module _ {s : Answer} (e : s ≡ bufferRefusal (length words ∷ length corners ∷ []) (length ws ∷ length cs ∷ [])) {b : Bool} (is : b ≡ refusing s) where
+    pub short-handed : (r : ReadSheet) → b ≡ true → Refused r s → readOutcome r words corners ≡ deliver ws cs words corners
     unfolding needed
-    short-handed r h k =
+    short-handed r t k =
+        let h : refusing s ≡ true = sym is ∙ t in
         not-read r s words corners k
         ∙ sym (refuse-is s (ap (λ (x : Answer). thenCheck x (unnamedRefusal cs (length ws / 3))) (sym e) ∙ then-refused s (unnamedRefusal cs (length ws / 3)) h) h)
 
-    module _ (h : refusing s ≡ false) (p : ℕ) (d : length ws ≡ 3 * p) (f : Found) (m : f ≡ least (unnamed cs p) (length cs)) where
+    module _ (t : b ≡ false) (p : ℕ) (d : length ws ≡ 3 * p) {f : Found} (m : f ≡ least (unnamed cs p) (length cs)) where
       named : thenCheck needed (unnamedRefusal cs (length ws / 3)) ≡ refuseAt Unnamed f
       unfolding needed
       named =
           let q : length ws / 3 ≡ p = omega (arith, d) in
-          ap (λ (x : Answer). thenCheck x (unnamedRefusal cs (length ws / 3))) (sym e) ∙ then-next s (unnamedRefusal cs (length ws / 3)) h ∙ rw (q, ← m)
+          ap (λ (x : Answer). thenCheck x (unnamedRefusal cs (length ws / 3))) (sym e) ∙ then-next s (unnamedRefusal cs (length ws / 3)) (sym is ∙ t) ∙ rw (q, ← m)
 
       pub unnamed-handed : (i : ℕ) (r : ReadSheet) → f ≡ At i → Refused r (Unnamed i) → readOutcome r words corners ≡ deliver ws cs words corners
       unnamed-handed i r g k = not-read r (Unnamed i) words corners k ∙ sym (refuse-is (Unnamed i) (named ∙ ap (refuseAt Unnamed) g) refl)
 
-      pub all-handed : (words′ corners′ : List ℕ) → f ≡ Nothing → words′ ≡ over ws words → corners′ ≡ over cs corners
+      pub all-handed : {words′ corners′ : List ℕ} → f ≡ Nothing → words′ ≡ over ws words → corners′ ≡ over cs corners
           → readOutcome (record { answer = Done; words = length ws; corners = length cs }) words′ corners′ ≡ deliver ws cs words corners
-      all-handed words′ corners′ g a b = rw (a, b) (sym (done-is (named ∙ ap (refuseAt Unnamed) g)))
+      all-handed g a b = rw (a, b) (sym (done-is (named ∙ ap (refuseAt Unnamed) g)))
 
 -- what a reading of the text leaves
 unfoldable outcomeOf : List ℕ → List ℕ → Parsed Three Three → ReadOutcome
@@ -90,6 +92,9 @@ fault-promised text s l a b ws cs words corners r h e k =
     (not-read r (Line l) words corners k ∙ sym (ap (outcomeOf words corners) (wrong-parsed flat flat (parse text) s l a b ws cs h e)))
 
 -- a text that was taken in
+pub taken : {text : List ℕ} {s : Scan} {n t : ℕ} {a b ws cs : List ℕ} → Scanned flat flat (parse text) s a b ws cs → s ≡ Whole n t → Kept flat flat parse text n t a b ws cs
+taken {text} {s} {n} {t} {a} {b} {ws} {cs} = kept flat flat parse text s n t a b ws cs
+
 module _ {text : List ℕ} {n t : ℕ} {a b ws cs : List ℕ} (k : Kept flat flat parse text n t a b ws cs) where
   pub few-points : n ≤ limits.points
   few-points = omega (arith, k .first-count, text-parse (k .is) .says .first-few)

@@ -1,20 +1,26 @@
 -- `read_by` refuses at the line of the fault, or hands on the fronts of its scratch.
 use mathlib.Core.Path.{sym}
 use native.Mathlib.Omega.{arith}
-use lib.Seq.{length-take-le}
+use Prim.Native.Nat.{_≤_}
 use borrow.Author.Needs.{needs}
-use Rattle.surface_rules.specs.Threes.{flat}
-use Rattle.text_rules.proofs.Laws.Scanning.{kept}
-use Rattle.text_sheet.specs.Workings.Parse.{parse}
-use Rattle.text_read.proofs.Laws.Deliver.{fault-promised, few-points, few-triangles, words-in, corners-in, delivered}
+use Rattle.base_limits.specs.Limits as limits
+use Rattle.surface_rules.proofs.Laws.Lists.{as-long}
+use Rattle.text_read.proofs.Laws.Deliver.{taken, fault-promised, few-points, few-triangles, words-in, corners-in, delivered}
 use Rattle.text_read.proofs.read_by.Statement.{statement}
 use Rattle.text_read.proofs.read_by.Tie as tie
 
-abbrev to-after-take-in-2 : tie.After-hand-over → tie.After-take-in
-to-after-take-in-2 p = search
+-- where a whole text was taken in
+abbrev Whole : Type 0
+Whole = tie.After-points
 
-abbrev to-after-points : tie.After-hand-over → tie.After-points
-to-after-points p = search
+abbrev take : Whole → tie.After-take-in
+take w = search
+
+abbrev whole : tie.After-hand-over → Whole
+whole p = search
+
+few : (w : Whole) → (w .points .given .0 .0 ≤ limits.points) × (w .points .given .0 .1 .0 ≤ limits.triangles)
+few w = let k = taken (take w .take-in .ensures) (w .points .given .1) in (few-points k, few-triangles k)
 
 pub read-by-spec : {M : Type 1} → statement M
 read-by-spec =
@@ -24,33 +30,13 @@ read-by-spec =
     (λ c. search needs)
     (λ c κs. search needs)
     (λ c. search needs)
-    (λ c.
-    let after-take-in : tie.After-take-in = search in
-    omega (arith, few-points (kept flat flat parse _ _ _ _ _ _ _ _ (after-take-in .take-in .ensures) (c .before .points .given .1))))
-    (λ c.
-    let after-take-in : tie.After-take-in = search in
-    omega (arith, few-triangles (kept flat flat parse _ _ _ _ _ _ _ _ (after-take-in .take-in .ensures) (c .before .points .given .1))))
-    (λ c.
-    let after-take-in : tie.After-take-in = search in
-    (words-in (kept flat flat parse _ _ _ _ _ _ _ _ (after-take-in .take-in .ensures) (c .before .points .given .1))))
-    (λ c.
-    let after-take-in : tie.After-take-in = search in
-    let after-points : tie.After-points = search in
-    sym (length-take-le _ _ (words-in (kept flat flat parse _ _ _ _ _ _ _ _ (after-take-in .take-in .ensures) (after-points .points .given .1)))))
-    (λ c.
-    let after-take-in : tie.After-take-in = search in
-    let after-points : tie.After-points = search in
-    (corners-in (kept flat flat parse _ _ _ _ _ _ _ _ (after-take-in .take-in .ensures) (after-points .points .given .1))))
-    (λ c.
-    let after-take-in : tie.After-take-in = search in
-    let after-points : tie.After-points = search in
-    sym (length-take-le _ _ (corners-in (kept flat flat parse _ _ _ _ _ _ _ _ (after-take-in .take-in .ensures) (after-points .points .given .1)))))
-    (λ c κs.
-    let after-take-in : tie.After-take-in = search in
-    let after-points : tie.After-points = search in (
-      length-take-le _ _ (words-in (kept flat flat parse _ _ _ _ _ _ _ _ (after-take-in .take-in .ensures) (after-points .points .given .1))),
-      omega (arith, few-points (kept flat flat parse _ _ _ _ _ _ _ _ (after-take-in .take-in .ensures) (after-points .points .given .1))),
-    ))
+    (λ c. omega (arith, few (search)))
+    (λ c. omega (arith, few (search)))
+    (λ c. let w : Whole = search in words-in (taken (take w .take-in .ensures) (w .points .given .1)))
+    (λ c. let w : Whole = search in as-long _ _ (words-in (taken (take w .take-in .ensures) (w .points .given .1))))
+    (λ c. let w : Whole = search in corners-in (taken (take w .take-in .ensures) (w .points .given .1)))
+    (λ c. let w : Whole = search in as-long _ _ (corners-in (taken (take w .take-in .ensures) (w .points .given .1))))
+    (λ c κs. let w : Whole = search in (sym (as-long _ _ (words-in (taken (take w .take-in .ensures) (w .points .given .1)))), omega (arith, few w)))
     (λ c. search needs)
     (λ c. search needs)
     (λ c. search fault-promised)
@@ -58,8 +44,4 @@ read-by-spec =
     (λ c. search needs)
     (λ c. search needs)
     (λ c. search needs)
-    (λ c.
-    let after-hand-over : tie.After-hand-over = search in
-    delivered
-    (kept flat flat parse _ _ _ _ _ _ _ _ (to-after-take-in-2 after-hand-over .take-in .ensures) (to-after-points after-hand-over .points .given .1)) _ _ _
-    (after-hand-over .hand-over .ensures)))
+    (λ c. let h : tie.After-hand-over = search in let w = whole h in delivered (taken (take w .take-in .ensures) (w .points .given .1)) _ _ _ (h .hand-over .ensures)))

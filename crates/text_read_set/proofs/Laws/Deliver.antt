@@ -1,6 +1,6 @@
 -- Handing a set over, case by case, and that this is what reading promises.
 use mathlib.Core.Path.{_≡_, sym, ap, ap₂, _∙_}
-use mathlib.Core.Bool.{true, false}
+use mathlib.Core.Bool.{Bool, true, false}
 use mathlib.Core.List.{List, [], _∷_}
 use Prim.Native.Nat.{ℕ, _+_, _*_, _≤_}
 use native.Mathlib.Omega.{arith}
@@ -17,8 +17,8 @@ use Rattle.surface_rules.proofs.Laws.Threes.{front-of, front-within}
 use Rattle.text_rules.specs.Workings.Parse.{Parsed, said, fault}
 use Rattle.text_rules.specs.Workings.Scanning.{Scanned}
 use Rattle.text_rules.specs.declared.Scan.{Scan}
-use Rattle.text_rules.specs.declared.Scan.the-variants.{Wrong}
-use Rattle.text_rules.proofs.Laws.Scanning.{wrong-parsed, Kept}
+use Rattle.text_rules.specs.declared.Scan.the-variants.{Whole, Wrong}
+use Rattle.text_rules.proofs.Laws.Scanning.{wrong-parsed, Kept, kept}
 use Rattle.text_sheet.specs.Workings.Parse.{Room}
 use Rattle.text_read_set.specs.Outcome.{SetOutcome, setOutcome, notRead, deliver, ReadsSet}
 use Rattle.text_read_set.specs.Workings.Scanning.{parse, numbers}
@@ -29,18 +29,19 @@ use Rattle.text_read_set.proofs.Laws.Texts.{parse-text, text-parse, fau
 abbrev pub Refused : ReadSet → Answer → Type 0
 Refused r a = (r .answer ≡ a) × (r .states ≡ 0) × (r .corners ≡ 0)
 
-pub not-read : (r : ReadSet) (a : Answer) (states corners : List ℕ) → Refused r a → setOutcome r states corners ≡ notRead a states corners
+not-read : (r : ReadSet) (a : Answer) (states corners : List ℕ) → Refused r a → setOutcome r states corners ≡ notRead a states corners
 not-read r a states corners h = rw (h .0, h .1, h .2)
 
-module _ (ss cs states corners : List ℕ) (a : Answer) (e : a ≡ bufferRefusal (length states ∷ length corners ∷ []) (length ss ∷ length cs ∷ [])) where
-  pub short-handed : (r : ReadSet) → refusing a ≡ true → Refused r a → setOutcome r states corners ≡ deliver ss cs states corners
+-- `b` says whether a, the answer for the buffers, refuses
+module _ (ss cs states corners : List ℕ) {a : Answer} (e : a ≡ bufferRefusal (length states ∷ length corners ∷ []) (length ss ∷ length cs ∷ [])) {b : Bool} (is : b ≡ refusing a) where
+  pub short-handed : (r : ReadSet) → b ≡ true → Refused r a → setOutcome r states corners ≡ deliver ss cs states corners
   unfolding deliver
-  short-handed r h k = not-read r a states corners k ∙ rw (← e, h)
+  short-handed r h k = not-read r a states corners k ∙ rw (← e, ← is, h)
 
-  pub all-handed : (states′ corners′ : List ℕ) → refusing a ≡ false → states′ ≡ over ss states → corners′ ≡ over cs corners
+  pub all-handed : {states′ corners′ : List ℕ} → b ≡ false → states′ ≡ over ss states → corners′ ≡ over cs corners
       → setOutcome (record { answer = Done; states = length ss; corners = length cs }) states′ corners′ ≡ deliver ss cs states corners
   unfolding deliver
-  all-handed states′ corners′ h b c = rw (b, c, ← e, h)
+  all-handed h f g = rw (f, g, ← e, ← is, h)
 
 -- what a reading of the text leaves
 unfoldable outcomeOf : ℕ → List ℕ → List ℕ → Parsed ℕ Three → SetOutcome
@@ -76,6 +77,9 @@ module _ (text : List ℕ) (r : Scan) (l : ℕ) (a b ss cs : List ℕ) (h : Scan
       (not-read s (Line (before + l)) states corners k ∙ sym (ap (outcomeOf before states corners) faulty))
 
 -- a text that was taken in
+pub taken : {text : List ℕ} {s : Scan} {n t : ℕ} {a b ss cs : List ℕ} → Scanned numbers flat (parse text) s a b ss cs → s ≡ Whole n t → Kept numbers flat parse text n t a b ss cs
+taken {text} {s} {n} {t} {a} {b} {ss} {cs} = kept numbers flat parse text s n t a b ss cs
+
 module _ {text : List ℕ} {n t : ℕ} {a b ss cs : List ℕ} (k : Kept numbers flat parse text n t a b ss cs) where
   pub few-triangles : t ≤ limits.patches
   few-triangles = omega (arith, k .second-count, text-parse (k .is) .says .second-few)

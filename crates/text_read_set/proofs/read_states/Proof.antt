@@ -4,7 +4,7 @@ use Rattle.text_sheet.proofs.Laws.Going.{Going, by-ones, going-begins, going-mo
 use Rattle.text_read_set.specs.Workings.Scanning.{readState}
 use Rattle.text_read_set.proofs.Laws.Exactly.{state-takes, state-small}
 use lib.ListN.{length, drop}
-use Prim.Native.Nat.{_≤_, _-_}
+use Prim.Native.Nat.{_<_, _≤_, _-_}
 use borrow.Author.Needs.{needs}
 use native.Mathlib.Omega.{arith}
 use Rattle.text_read_set.proofs.read_states.Statement.{statement}
@@ -16,58 +16,48 @@ Inv-loop text at n states₀ i₀ place₀ states i place = Going by-ones readSt
 abbrev μ-loop : tie.MeasureT-loop
 μ-loop text at n states₀ i₀ place₀ states i place = n - i
 
-abbrev to-at-loop : tie.After-state-at Inv-loop μ-loop → tie.At-loop Inv-loop μ-loop
-to-at-loop p = search
+-- where a turn begins, where its line was read, and what lies behind
+abbrev Turn : Type 0
+Turn = tie.In-loop Inv-loop μ-loop
 
-abbrev to-turn : tie.After-state-at Inv-loop μ-loop → tie.In-loop Inv-loop μ-loop
-to-turn p = search
+abbrev Line : Type 0
+Line = tie.After-s Inv-loop μ-loop
 
-abbrev to-start : tie.After-state-at Inv-loop μ-loop → tie.Start Inv-loop μ-loop
-to-start p = search
+abbrev turn : tie.After-state-at Inv-loop μ-loop → Turn
+turn p = search
+
+abbrev entry : Turn → tie.Start Inv-loop μ-loop
+entry t = search
+
+here : (l : Line) → let w = turn (l .before .before) .before .loop in (w .i < length (w .states)) × (l .s .given .0 .0 < 10)
+here l =
+    let p = l .before .before in
+    let t = turn p in
+    (omega (arith, t .before .loop .inv .0 .same, entry t .pre .1, t .loop-test), state-small _ _ _ (number-is _ (p .state-at .ensures .0) (l .s .given .1)))
+
+loop-again : tie.Need-loop-again Inv-loop μ-loop
+loop-again c =
+    let l : Line = search in
+    let p = l .before .before in
+    let t = turn p in
+    let e = number-is _ (p .state-at .ensures .0) (l .s .given .1) in
+    (going-more (t .before .loop .inv .0) (t .loop-test .taken) (state-takes _ _ _ e) (omega (arith, here l)) e, number-by (p .state-at .ensures .1) (l .s .given .1))
 
 pub read-states-spec : {M : Type 1} → statement M
 read-states-spec =
     tie.close
     (tie.spec Inv-loop μ-loop
-    (λ c.
-    let start : tie.Start Inv-loop μ-loop = search in
-    (going-begins by-ones readState 4 _ (drop (start .args .at) (start .args .text .now)) _, start .pre .0))
+    (λ c. let s : tie.Start Inv-loop μ-loop = search in (going-begins by-ones, s .pre .0))
     (λ c κs. search needs)
     (λ c. search needs)
     (λ c. search needs)
     (λ c. search needs)
-    (λ c.
-    let after-state-at : tie.After-state-at Inv-loop μ-loop = search in
-    let at-loop = to-at-loop after-state-at in
-    let turn = to-turn after-state-at in (
-      going-stuck by-ones readState 4 _ _ _ _ _ _ (at-loop .loop .inv .0) (turn .loop-test .taken)
-          (number-not _ _ _ (after-state-at .state-at .ensures .0) (c .enum-told .given .1)) .0,
-      going-stuck by-ones readState 4 _ _ _ _ _ _ (at-loop .loop .inv .0) (turn .loop-test .taken)
-          (number-not _ _ _ (after-state-at .state-at .ensures .0) (c .enum-told .given .1)) .1,
-      tt,
-    ))
-    (λ c.
-    let after-state-at : tie.After-state-at Inv-loop μ-loop = search in
-    omega (arith, state-small _ _ _ (number-is _ _ _ _ _ (after-state-at .state-at .ensures .0) (c .before .s .given .1))))
+    (λ c. let p : tie.After-state-at Inv-loop μ-loop = search in let t = turn p in going-stuck (t .before .loop .inv .0) (t .loop-test .taken) (number-not _ (p .state-at .ensures .0) (c .enum-told .given .1)))
+    (λ c. omega (arith, here (search)))
     (λ c. search needs)
-    (λ c.
-    let after-state-at : tie.After-state-at Inv-loop μ-loop = search in
-    omega (arith, (to-at-loop after-state-at) .loop .inv .0 .same, (to-start after-state-at) .pre .1, (to-turn after-state-at) .loop-test .taken))
+    (λ c. omega (arith, here (search)))
     (λ c. search needs)
     (λ c. search needs)
-    (λ c.
-    let after-state-at : tie.After-state-at Inv-loop μ-loop = search in
-    let at-loop = to-at-loop after-state-at in
-    let turn = to-turn after-state-at in (
-      going-more by-ones readState 4 _ _ _ _ _ _ (at-loop .loop .inv .0) _ _ (turn .loop-test .taken)
-          (state-takes _ _ _ (number-is _ _ _ _ _ (after-state-at .state-at .ensures .0) (c .before .s .given .1)))
-          (omega (arith, at-loop .loop .inv .0 .same, (to-start after-state-at) .pre .1, turn .loop-test .taken))
-          (number-is _ _ _ _ _ (after-state-at .state-at .ensures .0) (c .before .s .given .1)),
-      number-by _ _ _ _ (after-state-at .state-at .ensures .1) (c .before .s .given .1),
-    ))
+    loop-again
     (λ c. search needs)
-    (λ c. (
-      going-ends by-ones readState 4 _ _ _ _ _ _ (c .before .loop .inv .0) (c .loop-test .left) .0,
-      going-ends by-ones readState 4 _ _ _ _ _ _ (c .before .loop .inv .0) (c .loop-test .left) .1,
-      c .before .loop .inv .1,
-    )))
+    (λ c. going-ends (c .before .loop .inv .0) (c .loop-test .left) (c .before .loop .inv .1)))

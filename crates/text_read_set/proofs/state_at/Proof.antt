@@ -1,14 +1,8 @@
 -- `state_at` reads a line `s=` as a count is read.
-use Rattle.text_sheet.proofs.Laws.Told.{past-is, past-not, count-not, count-is}
 use borrow.Author.Needs.{needs}
+use Rattle.text_sheet.proofs.Laws.Told.{count-not, count-is}
 use Rattle.text_read_set.proofs.state_at.Statement.{statement}
 use Rattle.text_read_set.proofs.state_at.Tie as tie
-
-abbrev to-after-key-at : tie.After-decimal-at → tie.After-key-at
-to-after-key-at p = search
-
-abbrev to-after-i : tie.After-decimal-at → tie.After-i
-to-after-i p = search
 
 pub state-at-spec : {M : Type 1} → statement M
 state-at-spec =
@@ -18,9 +12,6 @@ state-at-spec =
     (λ c κs. search needs)
     (λ c. search needs)
     (λ c. search needs)
-    (λ c. let after-key-at : tie.After-key-at = search in (count-not _ _ _ (past-not _ _ _ (after-key-at .key-at .ensures) (c .enum-told .given .1)), tt))
+    (λ c. search count-not)
     (λ c κs. search needs)
-    (λ c. (
-      count-is _ _ _ _ _ (past-is _ _ _ _ (to-after-key-at c .key-at .ensures) (to-after-i c .i .given .1)) (c .decimal-at .ensures .0),
-      c .decimal-at .ensures .1,
-    )))
+    (λ c. search count-is))

@@ -1,4 +1,4 @@
--- Reading the text of a patch set line by line. It serves the code that reads: no promise needs it.
+-- Reading the text of a patch set line by line.
 use mathlib.Core.List.{List}
 use Prim.Native.Nat.{ℕ}
 use Rattle.surface_rules.specs.Threes.{Three}

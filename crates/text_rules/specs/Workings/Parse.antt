@@ -1,4 +1,4 @@
--- Reading a text line by line. It serves the code that reads: no promise needs it.
+-- Reading a text line by line.
 use mathlib.Core.List.{List, [], _∷_}
 use Prim.Native.Nat.{ℕ, zero, suc, _+_}
 use lib.ListN.{length}

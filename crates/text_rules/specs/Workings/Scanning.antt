@@ -1,4 +1,4 @@
--- What taking a whole text in gives. It serves the code that reads: no promise needs it.
+-- What taking a whole text in gives.
 use mathlib.Core.Path.{_≡_}
 use mathlib.Core.List.{List}
 use Prim.Native.Nat.{ℕ}

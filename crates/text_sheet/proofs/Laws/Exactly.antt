@@ -142,5 +142,5 @@ module _ (bytes rest : List ℕ) (t : Three) where
   pub triangle-small : readTriangle bytes ≡ got t rest → Every (λ (c : ℕ). c < limits.points) t
   triangle-small h = triangle-exact .true-to bytes t rest h .0
 
-pub count-few : (key bytes : List ℕ) (most n : ℕ) (rest : List ℕ) → readCount key most bytes ≡ got n rest → n ≤ most
-count-few key bytes most n rest h = count-exact key most .true-to bytes n rest h .0
+pub count-few : (key bytes : List ℕ) {most n : ℕ} {rest : List ℕ} → readCount key most bytes ≡ got n rest → n ≤ most
+count-few key bytes {most} {n} {rest} h = count-exact key most .true-to bytes n rest h .0

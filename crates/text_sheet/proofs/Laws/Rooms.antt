@@ -1,6 +1,6 @@
 -- How much room reading needs: scratch for no more than a text's limits allow and its bytes can fill, and buffers that are long enough.
 use mathlib.Core.Path.{_≡_, sym, ap, _∙_}
-use mathlib.Core.Bool.{false}
+use mathlib.Core.Bool.{Bool, false}
 use mathlib.Core.List.{[], _∷_}
 use Prim.Native.Nat.{ℕ, _*_, _≤_}
 use native.Mathlib.Omega.{arith}
@@ -36,7 +36,7 @@ module _ (long : ℕ) where
   long-corners = λ k a b. omega arith
 
 -- where a check of two buffers refuses nothing, both are long enough
-pub two-fit : (a : Answer) (x y n m : ℕ) → a ≡ bufferRefusal (x ∷ y ∷ []) (n ∷ m ∷ []) → refusing a ≡ false → (n ≤ x) × (m ≤ y)
-two-fit a x y n m e h =
-    let d : bufferRefusal (x ∷ y ∷ []) (n ∷ m ∷ []) ≡ Done = done-of _ (buffer-passing (x ∷ y ∷ []) (n ∷ m ∷ [])) (ap refusing (sym e) ∙ h) in
+pub two-fit : {a : Answer} {x y n m : ℕ} {b : Bool} → a ≡ bufferRefusal (x ∷ y ∷ []) (n ∷ m ∷ []) → b ≡ refusing a → b ≡ false → (n ≤ x) × (m ≤ y)
+two-fit {x = x} {y = y} {n = n} {m = m} e i h =
+    let d : bufferRefusal (x ∷ y ∷ []) (n ∷ m ∷ []) ≡ Done = done-of _ (buffer-passing (x ∷ y ∷ []) (n ∷ m ∷ [])) (ap refusing (sym e) ∙ sym i ∙ h) in
     (buffers-long (x ∷ y ∷ []) (n ∷ m ∷ []) d 0 (omega arith), buffers-long (x ∷ y ∷ []) (n ∷ m ∷ []) d 1 (omega arith))

@@ -11,72 +11,75 @@ use Rattle.text_digits.specs.declared.Place.{Place}
 use Rattle.text_digits.specs.declared.Place.the-variants.{Past, Not}
 use Rattle.text_rules.specs.Text.{feed}
 use Rattle.text_rules.specs.Workings.Parse.{readCount, Outline, stops, leaves}
-use Rattle.text_sheet.specs.Workings.Parse.{readRow, seenRow, RowBy, PassBy, passed}
+use Rattle.text_sheet.specs.Workings.Parse.{readRow, seenRow, RowBy, passed}
 use Rattle.text_sheet.specs.declared.Pass.{Pass}
 use Rattle.text_sheet.specs.declared.Pass.the-variants.{Through, Stuck}
 use Rattle.text_sheet.specs.declared.Line.{Line}
 use Rattle.text_sheet.specs.declared.Line.the-variants.{Row, Bad}
 
 module _ (text : List ℕ) where
-  pub past-is : (r : Place) (x : Read (Unit {0})) (i : ℕ) → met text r ≡ x → r ≡ Past i → x ≡ got tt (drop i text)
-  past-is r x i h e = sym h ∙ ap (met text) e
+  pub past-is : {r : Place} {x : Read (Unit {0})} {i : ℕ} → met text r ≡ x → r ≡ Past i → x ≡ got tt (drop i text)
+  past-is h e = sym h ∙ ap (met text) e
 
-  pub past-not : (r : Place) (x : Read (Unit {0})) → met text r ≡ x → r ≡ Not → x ≡ wrong
-  past-not r x h e = sym h ∙ ap (met text) e
+  pub past-not : {r : Place} {x : Read (Unit {0})} → met text r ≡ x → r ≡ Not → x ≡ wrong
+  past-not h e = sym h ∙ ap (met text) e
 
-  pub number-is : (r : Number) (x : Read ℕ) (v i : ℕ) → seen text r ≡ x → r ≡ Is v i → x ≡ got v (drop i text)
-  number-is r x v i h e = sym h ∙ ap (seen text) e
+  pub number-is : {r : Number} {x : Read ℕ} {v i : ℕ} → seen text r ≡ x → r ≡ Is v i → x ≡ got v (drop i text)
+  number-is h e = sym h ∙ ap (seen text) e
 
-  pub number-not : (r : Number) (x : Read ℕ) → seen text r ≡ x → r ≡ Wrong → x ≡ wrong
-  number-not r x h e = sym h ∙ ap (seen text) e
+  pub number-not : {r : Number} {x : Read ℕ} → seen text r ≡ x → r ≡ Wrong → x ≡ wrong
+  number-not h e = sym h ∙ ap (seen text) e
 
-  pub row-is : (r : Line) (x : Read Three) (i j k next : ℕ) → seenRow text r ≡ x → r ≡ Row i j k next → x ≡ got (three i j k) (drop next text)
-  row-is r x i j k next h e = sym h ∙ ap (seenRow text) e
+  pub row-is : {r : Line} {x : Read Three} {i j k next : ℕ} → seenRow text r ≡ x → r ≡ Row i j k next → x ≡ got (three i j k) (drop next text)
+  row-is h e = sym h ∙ ap (seenRow text) e
 
-  pub row-not : (r : Line) (x : Read Three) → seenRow text r ≡ x → r ≡ Bad → x ≡ wrong
-  row-not r x h e = sym h ∙ ap (seenRow text) e
+  pub row-not : {r : Line} {x : Read Three} → seenRow text r ≡ x → r ≡ Bad → x ≡ wrong
+  row-not h e = sym h ∙ ap (seenRow text) e
 
-  pub pass-stuck : (r : Pass) (o : Outline) (i : ℕ) → passed text r ≡ o → r ≡ Stuck i → stops i ≡ o
-  pass-stuck r o i h e = sym (ap (passed text) e) ∙ h
+  pub pass-stuck : {r : Pass} {o : Outline} {i : ℕ} → passed text r ≡ o → r ≡ Stuck i → stops i ≡ o
+  pass-stuck h e = sym (ap (passed text) e) ∙ h
 
-  pub pass-through : (r : Pass) (o : Outline) (i : ℕ) → passed text r ≡ o → r ≡ Through i → leaves (drop i text) ≡ o
-  pass-through r o i h e = sym (ap (passed text) e) ∙ h
+  pub pass-through : {r : Pass} {o : Outline} {i : ℕ} → passed text r ≡ o → r ≡ Through i → leaves (drop i text) ≡ o
+  pass-through h e = sym (ap (passed text) e) ∙ h
+
+  -- a count, by what is answered for its key and its number
+  module _ (key : List ℕ) (most at : ℕ) {p : Place} (h : met text p ≡ readKey key (drop at text)) where
+    pub count-not : p ≡ Not → wrong ≡ readCount key most (drop at text)
+    unfolding readCount
+    count-not e = sym (rw (past-not h e))
+
+    pub count-is : {i : ℕ} {x : Read ℕ} → p ≡ Past i → x ≡ readDecimal feed most (drop i text) → x ≡ readCount key most (drop at text)
+    unfolding readCount
+    count-is e q = q ∙ sym (rw (past-is h e))
 
 -- where an answer's place is
-pub number-by : (n : ℕ) (r : Number) (v i : ℕ) → UpTo n r → r ≡ Is v i → i ≤ n
-number-by n r v i h e = subst (UpTo n) e h
+pub number-by : {n : ℕ} {r : Number} {v i : ℕ} → UpTo n r → r ≡ Is v i → i ≤ n
+number-by {n} h e = subst (UpTo n) e h
 
-pub row-by : (n : ℕ) (r : Line) (i j k next : ℕ) → RowBy n r → r ≡ Row i j k next → next ≤ n
-row-by n r i j k next h e = subst (RowBy n) e h
+pub row-by : {n : ℕ} {r : Line} {i j k next : ℕ} → RowBy n r → r ≡ Row i j k next → next ≤ n
+row-by {n} h e = subst (RowBy n) e h
 
-pub pass-by : (n : ℕ) (r : Pass) (i : ℕ) → PassBy n r → r ≡ Through i → i ≤ n
-pass-by n r i h e = subst (PassBy n) e h
-
-pub count-not : (key bytes : List ℕ) (most : ℕ) → readKey key bytes ≡ wrong → wrong ≡ readCount key most bytes
-unfolding readCount
-count-not key bytes most h = sym (rw h)
-
-pub count-is : (key bytes rest : List ℕ) (most : ℕ) (x : Read ℕ) → readKey key bytes ≡ got tt rest → x ≡ readDecimal feed most rest → x ≡ readCount key most bytes
-unfolding readCount
-count-is key bytes rest most x h e = e ∙ sym (rw h)
-
-module _ (key : List ℕ) (x y : List ℕ → Read ℕ) (bytes : List ℕ) where
-  pub row-key : readKey key bytes ≡ wrong → wrong ≡ readRow key x y bytes
+-- a line number by number: the key, and what is answered for each number
+module _ (text key : List ℕ) (x y : List ℕ → Read ℕ) (at : ℕ) where
+  pub row-key : readKey key (drop at text) ≡ wrong → wrong ≡ readRow key x y (drop at text)
   unfolding readRow
   row-key h = sym (rw h)
 
-  pub row-first : (r : List ℕ) → readKey key bytes ≡ got tt r → x r ≡ wrong → wrong ≡ readRow key x y bytes
-  unfolding readRow
-  row-first r h i = sym (rw (h, i))
+  module _ (i : ℕ) (h : readKey key (drop at text) ≡ got tt (drop i text)) where
+    pub row-first : (p : Number) → seen text p ≡ x (drop i text) → p ≡ Wrong → wrong ≡ readRow key x y (drop at text)
+    unfolding readRow
+    row-first p k e = sym (rw (h, number-not text k e))
 
-  pub row-second : (r s : List ℕ) (i : ℕ) → readKey key bytes ≡ got tt r → x r ≡ got i s → x s ≡ wrong → wrong ≡ readRow key x y bytes
-  unfolding readRow
-  row-second r s i h p q = sym (rw (h, p, q))
+    module _ (p : Number) (k : seen text p ≡ x (drop i text)) (a j : ℕ) (e : p ≡ Is a j) where
+      pub row-second : (q : Number) → seen text q ≡ x (drop j text) → q ≡ Wrong → wrong ≡ readRow key x y (drop at text)
+      unfolding readRow
+      row-second q l f = sym (rw (h, number-is text k e, number-not text l f))
 
-  pub row-third : (r s t : List ℕ) (i j : ℕ) → readKey key bytes ≡ got tt r → x r ≡ got i s → x s ≡ got j t → y t ≡ wrong → wrong ≡ readRow key x y bytes
-  unfolding readRow
-  row-third r s t i j h p q o = sym (rw (h, p, q, o))
+      module _ (q : Number) (l : seen text q ≡ x (drop j text)) (b m : ℕ) (f : q ≡ Is b m) where
+        pub row-third : (r : Number) → seen text r ≡ y (drop m text) → r ≡ Wrong → wrong ≡ readRow key x y (drop at text)
+        unfolding readRow
+        row-third r n g = sym (rw (h, number-is text k e, number-is text l f, number-not text n g))
 
-  pub row-whole : (r s t rest : List ℕ) (i j k : ℕ) → readKey key bytes ≡ got tt r → x r ≡ got i s → x s ≡ got j t → y t ≡ got k rest → got (three i j k) rest ≡ readRow key x y bytes
-  unfolding readRow
-  row-whole r s t rest i j k h p q o = sym (rw (h, p, q, o))
+        pub row-whole : (r : Number) (c next : ℕ) → seen text r ≡ y (drop m text) → r ≡ Is c next → got (three a b c) (drop next text) ≡ readRow key x y (drop at text)
+        unfolding readRow
+        row-whole r c next n g = sym (rw (h, number-is text k e, number-is text l f, number-is text n g))

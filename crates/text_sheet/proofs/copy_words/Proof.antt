@@ -1,15 +1,13 @@
-use Prim.Native.Nat.{_-_}
+-- `copy_words`: what is left to copy, laid over the present buffer, gives the whole.
 use mathlib.Core.Path.{_≡_, refl}
-use lib.ListN.{length, drop, length-set}
-use Rattle.surface_rules.specs.Buffers.{over, laid}
-use Rattle.text_digits.proofs.Laws.Lay.{copy-more, copy-end}
-use Rattle.text_sheet.proofs.Laws.Going.{over-laid}
+use Prim.Native.Nat.{_-_}
+use lib.ListN.{length, drop}
 use borrow.Author.Needs.{needs}
-use native.Mathlib.Omega.{arith}
+use Rattle.surface_rules.specs.Buffers.{over, laid}
+use Rattle.text_digits.proofs.Laws.Lay.{copy-end}
+use Rattle.text_sheet.proofs.Laws.Going.{over-laid, copied-more}
 use Rattle.text_sheet.proofs.copy_words.Statement.{statement}
 use Rattle.text_sheet.proofs.copy_words.Tie as tie
-use Rattle.text_sheet.proofs.copy_words.Reads as reads
-use Rattle.text_sheet.proofs.copy_words.Lts as lts
 
 abbrev Inv-loop : tie.InvT-loop
 Inv-loop src dst₀ i₀ dst i = (length dst ≡ length dst₀) × (over src dst₀ ≡ laid i (drop i src) dst)
@@ -28,10 +26,6 @@ copy-words-spec =
     (λ c. search needs)
     (λ c. search needs)
     (λ c. search needs)
-    (λ c.
-    let at-loop : tie.At-loop Inv-loop μ-loop = search in let start : tie.Start Inv-loop μ-loop = search in (
-      rw length-set (at-loop .loop .inv .0),
-      copy-more _ _ _ _ (c .before .loop-test .taken) (omega (arith, start .pre, at-loop .loop .inv .0)) (at-loop .loop .inv .1),
-    ))
+    (λ c. let s : tie.Start Inv-loop μ-loop = search in let l : tie.At-loop Inv-loop μ-loop = search in copied-more _ _ _ _ (c .before .loop-test .taken) (s .pre) (l .loop .inv))
     (λ c. search needs)
     (λ c. search copy-end))

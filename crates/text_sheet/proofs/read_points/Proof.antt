@@ -1,18 +1,17 @@
-use Rattle.text_hex.proofs.Laws.Marks.{mark-none}
-use Prim.Native.Nat.{_≤_, _-_}
+-- `read_points` lays the numbers of one line after the other.
+use Prim.Native.Nat.{_+_, _-_, _*_, _≤_}
+use native.Mathlib.Omega.{arith}
+use mir.Val.{Fits}
+use mir.Syntax.{w64}
 use lib.ListN.{length, drop, length-set}
-use Rattle.text_sheet.specs.Workings.Parse.{readPoint}
+use borrow.Author.Needs.{needs}
+use Rattle.text_hex.proofs.Laws.Marks.{mark-none}
 use Rattle.text_sheet.proofs.Laws.Exactly.{point-takes}
+use Rattle.text_sheet.specs.Workings.Parse.{readPoint}
 use Rattle.text_sheet.proofs.Laws.Told.{row-is, row-not, row-by}
 use Rattle.text_sheet.proofs.Laws.Going.{Going, by-threes, going-begins, next-room, next-going, going-stuck, going-ends}
-use borrow.Author.Needs.{needs}
-use native.Mathlib.Omega.{arith}
-use Rattle.text_hex.proofs.mark_digits.Reads as mark-digits-reads
 use Rattle.text_sheet.proofs.read_points.Statement.{statement}
 use Rattle.text_sheet.proofs.read_points.Tie as tie
-use Rattle.text_sheet.proofs.read_points.Reads as reads
-use Rattle.text_sheet.proofs.read_points.Lts as lts
-use Rattle.text_sheet.proofs.point_at.Reads as point-at-reads
 
 abbrev Inv-loop : tie.InvT-loop
 Inv-loop text at n words₀ values i₀ place₀ words i place = Going by-threes readPoint 29 n (drop at text) words₀ i (drop place text) words × (place ≤ length text)
@@ -20,17 +19,39 @@ Inv-loop text at n words₀ values i₀ place₀ words i place = Going by-threes
 abbrev μ-loop : tie.MeasureT-loop
 μ-loop text at n words₀ values i₀ place₀ words i place = n - i
 
-abbrev to-start : tie.After-mark-digits Inv-loop μ-loop → tie.Start Inv-loop μ-loop
-to-start p = search
+-- where a turn begins, where its line was read, and what lies behind
+abbrev Turn : Type 0
+Turn = tie.In-loop Inv-loop μ-loop
 
-abbrev to-at-loop : tie.After-point-at Inv-loop μ-loop → tie.At-loop Inv-loop μ-loop
-to-at-loop p = search
+abbrev Row : Type 0
+Row = tie.After-a Inv-loop μ-loop
 
-abbrev to-turn : tie.After-point-at Inv-loop μ-loop → tie.In-loop Inv-loop μ-loop
-to-turn p = search
+abbrev turn : tie.After-point-at Inv-loop μ-loop → Turn
+turn p = search
 
-abbrev to-after-mark-digits : tie.After-point-at Inv-loop μ-loop → tie.After-mark-digits Inv-loop μ-loop
-to-after-mark-digits p = search
+abbrev marked : Turn → tie.After-mark-digits Inv-loop μ-loop
+marked t = search
+
+abbrev entry : tie.After-mark-digits Inv-loop μ-loop → tie.Start Inv-loop μ-loop
+entry t = search
+
+here : (r : Row) → let w = turn (r .before .before) .before .loop in (3 * w .i + 3 ≤ length (w .words)) × Fits w64 (length (w .words))
+here r =
+    let p = r .before .before in
+    let t = turn p in
+    let s = entry (marked t) in
+    let g = t .before .loop .inv .0 in
+    (next-room point-takes (s .args .text .now) (s .args .at) g (s .pre .1) (t .loop-test .taken) (row-is _ (p .point-at .ensures .0) (r .a .given .1)), omega (arith, g .same, s .good))
+
+loop-again : tie.Need-loop-again Inv-loop μ-loop
+loop-again c =
+    let r : Row = search in
+    let p = r .before .before in
+    let t = turn p in
+    let s = entry (marked t) in (
+      next-going point-takes (s .args .text .now) (s .args .at) (t .before .loop .inv .0) (s .pre .1) (t .loop-test .taken) (row-is _ (p .point-at .ensures .0) (r .a .given .1)),
+      row-by (p .point-at .ensures .1) (r .a .given .1),
+    )
 
 pub read-points-spec : {M : Type 1} → statement M
 read-points-spec =
@@ -38,143 +59,26 @@ read-points-spec =
     (tie.spec Inv-loop μ-loop
     (λ c. search needs)
     (λ c κs. mark-none)
-    (λ c.
-    let after-mark-digits : tie.After-mark-digits Inv-loop μ-loop = search in let start = to-start after-mark-digits in
-    (going-begins by-threes readPoint 29 _ (drop (start .args .at) (start .args .text .now)) _, start .pre .0))
+    (λ c. let m : tie.After-mark-digits Inv-loop μ-loop = search in (going-begins by-threes, entry m .pre .0))
     (λ c. search needs)
-    (λ c κs.
-    let at-loop : tie.At-loop Inv-loop μ-loop = search in let after-mark-digits : tie.After-mark-digits Inv-loop μ-loop = search in
-    (at-loop .loop .inv .1, after-mark-digits .mark-digits .ensures))
+    (λ c κs. let t : Turn = search in (t .before .loop .inv .1, marked t .mark-digits .ensures))
     (λ c. search needs)
     (λ c. search needs)
     (λ c. search needs)
-    (λ c.
-    let after-point-at : tie.After-point-at Inv-loop μ-loop = search in let at-loop = to-at-loop after-point-at in let turn = to-turn after-point-at in (
-      going-stuck by-threes readPoint 29 _ _ _ _ _ _ (at-loop .loop .inv .0) (turn .loop-test .taken)
-          (row-not _ _ _ (after-point-at .point-at .ensures .0) (c .enum-told .given .1)) .0,
-      going-stuck by-threes readPoint 29 _ _ _ _ _ _ (at-loop .loop .inv .0) (turn .loop-test .taken)
-          (row-not _ _ _ (after-point-at .point-at .ensures .0) (c .enum-told .given .1)) .1,
-      tt,
-    ))
-    (λ c.
-    let after-point-at : tie.After-point-at Inv-loop μ-loop = search in
-    let start = to-start (to-after-mark-digits after-point-at) in let at-loop = to-at-loop after-point-at in omega (
-      arith,
-      next-room readPoint 29 point-takes (start .args .text .now) (start .args .at) _ _ _ _ _ (at-loop .loop .inv .0) _ _
-          (to-turn after-point-at .loop-test .taken) (row-is (start .args .text .now) _ _ _ _ _ _ (after-point-at .point-at .ensures .0) (c .before .a .given .1))
-          (start .pre .1),
-      at-loop .loop .inv .0 .same,
-      start .good .1 .1 .1 .0 .0,
-    ))
-    (λ c.
-    let after-point-at : tie.After-point-at Inv-loop μ-loop = search in
-    let start = to-start (to-after-mark-digits after-point-at) in let at-loop = to-at-loop after-point-at in omega (
-      arith,
-      next-room readPoint 29 point-takes (start .args .text .now) (start .args .at) _ _ _ _ _ (at-loop .loop .inv .0) _ _
-          (to-turn after-point-at .loop-test .taken) (row-is (start .args .text .now) _ _ _ _ _ _ (after-point-at .point-at .ensures .0) (c .before .a .given .1))
-          (start .pre .1),
-      at-loop .loop .inv .0 .same,
-      start .good .1 .1 .1 .0 .0,
-    ))
-    (λ c.
-    let after-point-at : tie.After-point-at Inv-loop μ-loop = search in
-    let start = to-start (to-after-mark-digits after-point-at) in omega (
-      arith,
-      next-room readPoint 29 point-takes (start .args .text .now) (start .args .at) _ _ _ _ _ (to-at-loop after-point-at .loop .inv .0) _ _
-          (to-turn after-point-at .loop-test .taken) (row-is (start .args .text .now) _ _ _ _ _ _ (after-point-at .point-at .ensures .0) (c .before .a .given .1))
-          (start .pre .1),
-    ))
-    (λ c.
-    let after-point-at : tie.After-point-at Inv-loop μ-loop = search in
-    let start = to-start (to-after-mark-digits after-point-at) in let at-loop = to-at-loop after-point-at in omega (
-      arith,
-      next-room readPoint 29 point-takes (start .args .text .now) (start .args .at) _ _ _ _ _ (at-loop .loop .inv .0) _ _
-          (to-turn after-point-at .loop-test .taken) (row-is (start .args .text .now) _ _ _ _ _ _ (after-point-at .point-at .ensures .0) (c .before .a .given .1))
-          (start .pre .1),
-      at-loop .loop .inv .0 .same,
-      start .good .1 .1 .1 .0 .0,
-    ))
-    (λ c.
-    let after-point-at : tie.After-point-at Inv-loop μ-loop = search in
-    let start = to-start (to-after-mark-digits after-point-at) in let at-loop = to-at-loop after-point-at in omega (
-      arith,
-      next-room readPoint 29 point-takes (start .args .text .now) (start .args .at) _ _ _ _ _ (at-loop .loop .inv .0) _ _
-          (to-turn after-point-at .loop-test .taken) (row-is (start .args .text .now) _ _ _ _ _ _ (after-point-at .point-at .ensures .0) (c .before .a .given .1))
-          (start .pre .1),
-      at-loop .loop .inv .0 .same,
-      start .good .1 .1 .1 .0 .0,
-    ))
-    (λ c.
-    let after-point-at : tie.After-point-at Inv-loop μ-loop = search in
-    let start = to-start (to-after-mark-digits after-point-at) in let at-loop = to-at-loop after-point-at in omega (
-      arith,
-      next-room readPoint 29 point-takes (start .args .text .now) (start .args .at) _ _ _ _ _ (at-loop .loop .inv .0) _ _
-          (to-turn after-point-at .loop-test .taken) (row-is (start .args .text .now) _ _ _ _ _ _ (after-point-at .point-at .ensures .0) (c .before .a .given .1))
-          (start .pre .1),
-      at-loop .loop .inv .0 .same,
-      start .good .1 .1 .1 .0 .0,
-    ))
-    (λ c.
-    let after-point-at : tie.After-point-at Inv-loop μ-loop = search in
-    let start = to-start (to-after-mark-digits after-point-at) in simp length-set
-    (omega (
-      arith,
-      next-room readPoint 29 point-takes (start .args .text .now) (start .args .at) _ _ _ _ _ (to-at-loop after-point-at .loop .inv .0) _ _
-          (to-turn after-point-at .loop-test .taken) (row-is (start .args .text .now) _ _ _ _ _ _ (after-point-at .point-at .ensures .0) (c .before .a .given .1))
-          (start .pre .1),
-    )))
-    (λ c.
-    let after-point-at : tie.After-point-at Inv-loop μ-loop = search in
-    let start = to-start (to-after-mark-digits after-point-at) in let at-loop = to-at-loop after-point-at in omega (
-      arith,
-      next-room readPoint 29 point-takes (start .args .text .now) (start .args .at) _ _ _ _ _ (at-loop .loop .inv .0) _ _
-          (to-turn after-point-at .loop-test .taken) (row-is (start .args .text .now) _ _ _ _ _ _ (after-point-at .point-at .ensures .0) (c .before .a .given .1))
-          (start .pre .1),
-      at-loop .loop .inv .0 .same,
-      start .good .1 .1 .1 .0 .0,
-    ))
-    (λ c.
-    let after-point-at : tie.After-point-at Inv-loop μ-loop = search in
-    let start = to-start (to-after-mark-digits after-point-at) in let at-loop = to-at-loop after-point-at in omega (
-      arith,
-      next-room readPoint 29 point-takes (start .args .text .now) (start .args .at) _ _ _ _ _ (at-loop .loop .inv .0) _ _
-          (to-turn after-point-at .loop-test .taken) (row-is (start .args .text .now) _ _ _ _ _ _ (after-point-at .point-at .ensures .0) (c .before .a .given .1))
-          (start .pre .1),
-      at-loop .loop .inv .0 .same,
-      start .good .1 .1 .1 .0 .0,
-    ))
-    (λ c.
-    let after-point-at : tie.After-point-at Inv-loop μ-loop = search in
-    let start = to-start (to-after-mark-digits after-point-at) in let at-loop = to-at-loop after-point-at in omega (
-      arith,
-      next-room readPoint 29 point-takes (start .args .text .now) (start .args .at) _ _ _ _ _ (at-loop .loop .inv .0) _ _
-          (to-turn after-point-at .loop-test .taken) (row-is (start .args .text .now) _ _ _ _ _ _ (after-point-at .point-at .ensures .0) (c .before .a .given .1))
-          (start .pre .1),
-      at-loop .loop .inv .0 .same,
-      start .good .1 .1 .1 .0 .0,
-    ))
-    (λ c.
-    let after-point-at : tie.After-point-at Inv-loop μ-loop = search in
-    let start = to-start (to-after-mark-digits after-point-at) in simp length-set
-    (omega (
-      arith,
-      next-room readPoint 29 point-takes (start .args .text .now) (start .args .at) _ _ _ _ _ (to-at-loop after-point-at .loop .inv .0) _ _
-          (to-turn after-point-at .loop-test .taken) (row-is (start .args .text .now) _ _ _ _ _ _ (after-point-at .point-at .ensures .0) (c .before .a .given .1))
-          (start .pre .1),
-    )))
+    (λ c. let p : tie.After-point-at Inv-loop μ-loop = search in let t = turn p in going-stuck (t .before .loop .inv .0) (t .loop-test .taken) (row-not _ (p .point-at .ensures .0) (c .enum-told .given .1)))
+    (λ c. omega (arith, here (c .before)))
+    (λ c. omega (arith, here (c .before)))
+    (λ c. omega (arith, here (c .before)))
+    (λ c. omega (arith, here (c .before)))
+    (λ c. omega (arith, here (c .before)))
+    (λ c. omega (arith, here (c .before)))
+    (λ c. simp length-set (omega (arith, here (c .before))))
+    (λ c. omega (arith, here (c .before)))
+    (λ c. omega (arith, here (c .before)))
+    (λ c. omega (arith, here (c .before)))
+    (λ c. simp length-set (omega (arith, here (c .before))))
     (λ c. search needs)
     (λ c. search needs)
-    (λ c.
-    let after-point-at : tie.After-point-at Inv-loop μ-loop = search in
-    let start = to-start (to-after-mark-digits after-point-at) in (
-      next-going readPoint 29 point-takes (start .args .text .now) (start .args .at) _ _ _ _ _ (to-at-loop after-point-at .loop .inv .0) _ _
-          (to-turn after-point-at .loop-test .taken) (row-is (start .args .text .now) _ _ _ _ _ _ (after-point-at .point-at .ensures .0) (c .before .a .given .1))
-          (start .pre .1),
-      row-by _ _ _ _ _ _ (after-point-at .point-at .ensures .1) (c .before .a .given .1),
-    ))
+    loop-again
     (λ c. search needs)
-    (λ c. (
-      going-ends by-threes readPoint 29 _ _ _ _ _ _ (c .before .loop .inv .0) (c .loop-test .left) .0,
-      going-ends by-threes readPoint 29 _ _ _ _ _ _ (c .before .loop .inv .0) (c .loop-test .left) .1,
-      c .before .loop .inv .1,
-    )))
+    (λ c. going-ends (c .before .loop .inv .0) (c .loop-test .left) (c .before .loop .inv .1)))

@@ -1,16 +1,19 @@
-use Prim.Native.Nat.{_≤_, _-_}
+-- `read_triangles` lays the numbers of one line after the other.
+use Prim.Native.Nat.{_+_, _-_, _*_, _<_, _≤_}
+use native.Mathlib.Omega.{arith}
+use mir.Val.{Fits}
+use mir.Syntax.{w64}
 use lib.ListN.{length, drop, length-set}
-use Rattle.text_sheet.specs.Workings.Parse.{readTriangle}
+use borrow.Author.Needs.{needs}
+use Rattle.base_limits.specs.Limits as limits
+use Rattle.surface_rules.specs.Threes.{three}
+use Rattle.text_sheet.specs.Sheet.{Every}
 use Rattle.text_sheet.proofs.Laws.Exactly.{triangle-takes, triangle-small}
+use Rattle.text_sheet.specs.Workings.Parse.{readTriangle}
 use Rattle.text_sheet.proofs.Laws.Told.{row-is, row-not, row-by}
 use Rattle.text_sheet.proofs.Laws.Going.{Going, by-threes, going-begins, next-room, next-going, going-stuck, going-ends}
-use borrow.Author.Needs.{needs}
-use native.Mathlib.Omega.{arith}
 use Rattle.text_sheet.proofs.read_triangles.Statement.{statement}
 use Rattle.text_sheet.proofs.read_triangles.Tie as tie
-use Rattle.text_sheet.proofs.read_triangles.Reads as reads
-use Rattle.text_sheet.proofs.read_triangles.Lts as lts
-use Rattle.text_sheet.proofs.triangle_at.Reads as triangle-at-reads
 
 abbrev Inv-loop : tie.InvT-loop
 Inv-loop text at n corners₀ i₀ place₀ corners i place = Going by-threes readTriangle 8 n (drop at text) corners₀ i (drop place text) corners × (place ≤ length text)
@@ -18,172 +21,66 @@ Inv-loop text at n corners₀ i₀ place₀ corners i place = Going by-threes re
 abbrev μ-loop : tie.MeasureT-loop
 μ-loop text at n corners₀ i₀ place₀ corners i place = n - i
 
-abbrev to-at-loop : tie.After-triangle-at Inv-loop μ-loop → tie.At-loop Inv-loop μ-loop
-to-at-loop p = search
+-- where a turn begins, where its line was read, and what lies behind
+abbrev Turn : Type 0
+Turn = tie.In-loop Inv-loop μ-loop
 
-abbrev to-turn : tie.After-triangle-at Inv-loop μ-loop → tie.In-loop Inv-loop μ-loop
-to-turn p = search
+abbrev Row : Type 0
+Row = tie.After-a Inv-loop μ-loop
 
-abbrev to-start : tie.After-triangle-at Inv-loop μ-loop → tie.Start Inv-loop μ-loop
-to-start p = search
+abbrev turn : tie.After-triangle-at Inv-loop μ-loop → Turn
+turn p = search
+
+abbrev entry : Turn → tie.Start Inv-loop μ-loop
+entry t = search
+
+here : (r : Row) → let w = turn (r .before .before) .before .loop in (3 * w .i + 3 ≤ length (w .corners)) × Fits w64 (length (w .corners))
+here r =
+    let p = r .before .before in
+    let t = turn p in
+    let s = entry t in
+    let g = t .before .loop .inv .0 in
+    (next-room triangle-takes (s .args .text .now) (s .args .at) g (s .pre .1) (t .loop-test .taken) (row-is _ (p .triangle-at .ensures .0) (r .a .given .1)), omega (arith, g .same, s .good))
+
+small : (r : Row) → Every (λ c. c < limits.points) (three (r .a .given .0 .0) (r .a .given .0 .1 .0) (r .a .given .0 .1 .1 .0))
+small r = let p = r .before .before in triangle-small _ _ _ (row-is _ (p .triangle-at .ensures .0) (r .a .given .1))
+
+loop-again : tie.Need-loop-again Inv-loop μ-loop
+loop-again c =
+    let r : Row = search in
+    let p = r .before .before in
+    let t = turn p in
+    let s = entry t in (
+      next-going triangle-takes (s .args .text .now) (s .args .at) (t .before .loop .inv .0) (s .pre .1) (t .loop-test .taken) (row-is _ (p .triangle-at .ensures .0) (r .a .given .1)),
+      row-by (p .triangle-at .ensures .1) (r .a .given .1),
+    )
 
 pub read-triangles-spec : {M : Type 1} → statement M
 read-triangles-spec =
     tie.close
     (tie.spec Inv-loop μ-loop
-    (λ c.
-    let start : tie.Start Inv-loop μ-loop = search in
-    (going-begins by-threes readTriangle 8 _ (drop (start .args .at) (start .args .text .now)) _, start .pre .0))
+    (λ c. let s : tie.Start Inv-loop μ-loop = search in (going-begins by-threes, s .pre .0))
     (λ c κs. c .before .loop .inv .1)
     (λ c. search needs)
     (λ c. search needs)
     (λ c. search needs)
-    (λ c.
-    let after-triangle-at : tie.After-triangle-at Inv-loop μ-loop = search in let at-loop = to-at-loop after-triangle-at in
-    let turn = to-turn after-triangle-at in (
-      going-stuck by-threes readTriangle 8 _ _ _ _ _ _ (at-loop .loop .inv .0) (turn .loop-test .taken)
-          (row-not _ _ _ (after-triangle-at .triangle-at .ensures .0) (c .enum-told .given .1)) .0,
-      going-stuck by-threes readTriangle 8 _ _ _ _ _ _ (at-loop .loop .inv .0) (turn .loop-test .taken)
-          (row-not _ _ _ (after-triangle-at .triangle-at .ensures .0) (c .enum-told .given .1)) .1,
-      tt,
-    ))
-    (λ c.
-    let after-triangle-at : tie.After-triangle-at Inv-loop μ-loop = search in
-    omega (arith, triangle-small _ _ _ (row-is _ _ _ _ _ _ _ (after-triangle-at .triangle-at .ensures .0) (c .before .a .given .1)) .first-has))
-    (λ c.
-    let after-triangle-at : tie.After-triangle-at Inv-loop μ-loop = search in let start = to-start after-triangle-at in
-    let at-loop = to-at-loop after-triangle-at in
-    omega (
-      arith,
-      next-room readTriangle 8 triangle-takes (start .args .text .now) (start .args .at) _ _ _ _ _ (at-loop .loop .inv .0) _ _
-          (to-turn after-triangle-at .loop-test .taken) (row-is (start .args .text .now) _ _ _ _ _ _ (after-triangle-at .triangle-at .ensures .0) (c .before .a .given .1))
-          (start .pre .1),
-      at-loop .loop .inv .0 .same,
-      start .good .1 .1 .1 .0 .0,
-    ))
-    (λ c.
-    let after-triangle-at : tie.After-triangle-at Inv-loop μ-loop = search in let start = to-start after-triangle-at in
-    let at-loop = to-at-loop after-triangle-at in
-    omega (
-      arith,
-      next-room readTriangle 8 triangle-takes (start .args .text .now) (start .args .at) _ _ _ _ _ (at-loop .loop .inv .0) _ _
-          (to-turn after-triangle-at .loop-test .taken) (row-is (start .args .text .now) _ _ _ _ _ _ (after-triangle-at .triangle-at .ensures .0) (c .before .a .given .1))
-          (start .pre .1),
-      at-loop .loop .inv .0 .same,
-      start .good .1 .1 .1 .0 .0,
-    ))
-    (λ c.
-    let after-triangle-at : tie.After-triangle-at Inv-loop μ-loop = search in let start = to-start after-triangle-at in
-    omega (
-      arith,
-      next-room readTriangle 8 triangle-takes (start .args .text .now) (start .args .at) _ _ _ _ _ (to-at-loop after-triangle-at .loop .inv .0) _ _
-          (to-turn after-triangle-at .loop-test .taken) (row-is (start .args .text .now) _ _ _ _ _ _ (after-triangle-at .triangle-at .ensures .0) (c .before .a .given .1))
-          (start .pre .1),
-    ))
-    (λ c.
-    let after-triangle-at : tie.After-triangle-at Inv-loop μ-loop = search in
-    omega (arith, triangle-small _ _ _ (row-is _ _ _ _ _ _ _ (after-triangle-at .triangle-at .ensures .0) (c .before .a .given .1)) .second-has))
-    (λ c.
-    let after-triangle-at : tie.After-triangle-at Inv-loop μ-loop = search in let start = to-start after-triangle-at in
-    let at-loop = to-at-loop after-triangle-at in
-    omega (
-      arith,
-      next-room readTriangle 8 triangle-takes (start .args .text .now) (start .args .at) _ _ _ _ _ (at-loop .loop .inv .0) _ _
-          (to-turn after-triangle-at .loop-test .taken) (row-is (start .args .text .now) _ _ _ _ _ _ (after-triangle-at .triangle-at .ensures .0) (c .before .a .given .1))
-          (start .pre .1),
-      at-loop .loop .inv .0 .same,
-      start .good .1 .1 .1 .0 .0,
-    ))
-    (λ c.
-    let after-triangle-at : tie.After-triangle-at Inv-loop μ-loop = search in let start = to-start after-triangle-at in
-    let at-loop = to-at-loop after-triangle-at in
-    omega (
-      arith,
-      next-room readTriangle 8 triangle-takes (start .args .text .now) (start .args .at) _ _ _ _ _ (at-loop .loop .inv .0) _ _
-          (to-turn after-triangle-at .loop-test .taken) (row-is (start .args .text .now) _ _ _ _ _ _ (after-triangle-at .triangle-at .ensures .0) (c .before .a .given .1))
-          (start .pre .1),
-      at-loop .loop .inv .0 .same,
-      start .good .1 .1 .1 .0 .0,
-    ))
-    (λ c.
-    let after-triangle-at : tie.After-triangle-at Inv-loop μ-loop = search in let start = to-start after-triangle-at in
-    let at-loop = to-at-loop after-triangle-at in
-    omega (
-      arith,
-      next-room readTriangle 8 triangle-takes (start .args .text .now) (start .args .at) _ _ _ _ _ (at-loop .loop .inv .0) _ _
-          (to-turn after-triangle-at .loop-test .taken) (row-is (start .args .text .now) _ _ _ _ _ _ (after-triangle-at .triangle-at .ensures .0) (c .before .a .given .1))
-          (start .pre .1),
-      at-loop .loop .inv .0 .same,
-      start .good .1 .1 .1 .0 .0,
-    ))
-    (λ c.
-    let after-triangle-at : tie.After-triangle-at Inv-loop μ-loop = search in let start = to-start after-triangle-at in
-    simp length-set
-    (omega (
-      arith,
-      next-room readTriangle 8 triangle-takes (start .args .text .now) (start .args .at) _ _ _ _ _ (to-at-loop after-triangle-at .loop .inv .0) _ _
-          (to-turn after-triangle-at .loop-test .taken)
-          (row-is (start .args .text .now) _ _ _ _ _ _ (after-triangle-at .triangle-at .ensures .0) (c .before .a .given .1))
-          (start .pre .1),
-    )))
-    (λ c.
-    let after-triangle-at : tie.After-triangle-at Inv-loop μ-loop = search in
-    omega (arith, triangle-small _ _ _ (row-is _ _ _ _ _ _ _ (after-triangle-at .triangle-at .ensures .0) (c .before .a .given .1)) .third-has))
-    (λ c.
-    let after-triangle-at : tie.After-triangle-at Inv-loop μ-loop = search in let start = to-start after-triangle-at in
-    let at-loop = to-at-loop after-triangle-at in
-    omega (
-      arith,
-      next-room readTriangle 8 triangle-takes (start .args .text .now) (start .args .at) _ _ _ _ _ (at-loop .loop .inv .0) _ _
-          (to-turn after-triangle-at .loop-test .taken) (row-is (start .args .text .now) _ _ _ _ _ _ (after-triangle-at .triangle-at .ensures .0) (c .before .a .given .1))
-          (start .pre .1),
-      at-loop .loop .inv .0 .same,
-      start .good .1 .1 .1 .0 .0,
-    ))
-    (λ c.
-    let after-triangle-at : tie.After-triangle-at Inv-loop μ-loop = search in let start = to-start after-triangle-at in
-    let at-loop = to-at-loop after-triangle-at in
-    omega (
-      arith,
-      next-room readTriangle 8 triangle-takes (start .args .text .now) (start .args .at) _ _ _ _ _ (at-loop .loop .inv .0) _ _
-          (to-turn after-triangle-at .loop-test .taken) (row-is (start .args .text .now) _ _ _ _ _ _ (after-triangle-at .triangle-at .ensures .0) (c .before .a .given .1))
-          (start .pre .1),
-      at-loop .loop .inv .0 .same,
-      start .good .1 .1 .1 .0 .0,
-    ))
-    (λ c.
-    let after-triangle-at : tie.After-triangle-at Inv-loop μ-loop = search in let start = to-start after-triangle-at in
-    let at-loop = to-at-loop after-triangle-at in
-    omega (
-      arith,
-      next-room readTriangle 8 triangle-takes (start .args .text .now) (start .args .at) _ _ _ _ _ (at-loop .loop .inv .0) _ _
-          (to-turn after-triangle-at .loop-test .taken) (row-is (start .args .text .now) _ _ _ _ _ _ (after-triangle-at .triangle-at .ensures .0) (c .before .a .given .1))
-          (start .pre .1),
-      at-loop .loop .inv .0 .same,
-      start .good .1 .1 .1 .0 .0,
-    ))
-    (λ c.
-    let after-triangle-at : tie.After-triangle-at Inv-loop μ-loop = search in let start = to-start after-triangle-at in
-    simp length-set
-    (omega (
-      arith,
-      next-room readTriangle 8 triangle-takes (start .args .text .now) (start .args .at) _ _ _ _ _ (to-at-loop after-triangle-at .loop .inv .0) _ _
-          (to-turn after-triangle-at .loop-test .taken)
-          (row-is (start .args .text .now) _ _ _ _ _ _ (after-triangle-at .triangle-at .ensures .0) (c .before .a .given .1))
-          (start .pre .1),
-    )))
+    (λ c. let p : tie.After-triangle-at Inv-loop μ-loop = search in let t = turn p in going-stuck (t .before .loop .inv .0) (t .loop-test .taken) (row-not _ (p .triangle-at .ensures .0) (c .enum-told .given .1)))
+    (λ c. omega (arith, small (c .before) .first-has))
+    (λ c. omega (arith, here (c .before)))
+    (λ c. omega (arith, here (c .before)))
+    (λ c. omega (arith, here (c .before)))
+    (λ c. omega (arith, small (c .before) .second-has))
+    (λ c. omega (arith, here (c .before)))
+    (λ c. omega (arith, here (c .before)))
+    (λ c. omega (arith, here (c .before)))
+    (λ c. simp length-set (omega (arith, here (c .before))))
+    (λ c. omega (arith, small (c .before) .third-has))
+    (λ c. omega (arith, here (c .before)))
+    (λ c. omega (arith, here (c .before)))
+    (λ c. omega (arith, here (c .before)))
+    (λ c. simp length-set (omega (arith, here (c .before))))
     (λ c. search needs)
     (λ c. search needs)
-    (λ c.
-    let after-triangle-at : tie.After-triangle-at Inv-loop μ-loop = search in let start = to-start after-triangle-at in (
-      next-going readTriangle 8 triangle-takes (start .args .text .now) (start .args .at) _ _ _ _ _ (to-at-loop after-triangle-at .loop .inv .0) _ _
-          (to-turn after-triangle-at .loop-test .taken)
-          (row-is (start .args .text .now) _ _ _ _ _ _ (after-triangle-at .triangle-at .ensures .0) (c .before .a .given .1)) (start .pre .1),
-      row-by _ _ _ _ _ _ (after-triangle-at .triangle-at .ensures .1) (c .before .a .given .1),
-    ))
+    loop-again
     (λ c. search needs)
-    (λ c. (
-      going-ends by-threes readTriangle 8 _ _ _ _ _ _ (c .before .loop .inv .0) (c .loop-test .left) .0,
-      going-ends by-threes readTriangle 8 _ _ _ _ _ _ (c .before .loop .inv .0) (c .loop-test .left) .1,
-      c .before .loop .inv .1,
-    )))
+    (λ c. going-ends (c .before .loop .inv .0) (c .loop-test .left) (c .before .loop .inv .1)))

@@ -1,4 +1,4 @@
--- Reading the lines of a sheet text, and what the answers of the code that reads say of it. It serves that code: no promise needs it.
+-- Reading the lines of a sheet text, and what the code's answers say of it.
 use mathlib.Core.List.{List}
 use Prim.Native.Nat.{ℕ, _-_, _*_, _≤_}
 use lib.ListN.{drop}

@@ -1,5 +1,5 @@
 -- A sheet's text that was read is written again as the same text, into a buffer that has room for it.
-use mathlib.Core.Path.{_≡_, sym, ap, ap₂, _∙_}
+use mathlib.Core.Path.{_≡_, refl, sym, ap, ap₂, _∙_}
 use mathlib.Core.List.{List, [], _∷_}
 use Prim.Native.Nat.{ℕ, _*_, _/_, _≤_}
 use native.Mathlib.Omega.{arith}
@@ -25,8 +25,8 @@ module _ {bytes : List ℕ} {ps ts : List Three} (t : TextOf points triangles by
   counted =
       ap₂ countRefusal (flat-length ps) (flat-length ts)
       ∙ sym (
-      counts-done (3 * length ps) (3 * length ts) (whole-count limits.words (length ps) (omega (arith, t .says .first-few)))
-      (whole-count limits.corners (length ts) (omega (arith, t .says .second-few)))
+      counts-done (3 * length ps) (3 * length ts) (sym (whole-count limits.words (length ps) (omega (arith, t .says .first-few)))) refl
+      (sym (whole-count limits.corners (length ts) (omega (arith, t .says .second-few)))) refl
       )
 
   unrefused : writeRefusal (flat ps) (flat ts) buffer ≡ Done
