@@ -1,5 +1,5 @@
 -- Figures of the scope that follow from the limits. They hold at these limits and at no others, so none can be moved unseen.
-use Prim.Native.Nat.{_-_, _*_, _/_}
+use Prim.Native.Nat.{_+_, _-_, _*_, _/_}
 use mathlib.Core.Path.{_≡_, refl}
 use Rattle.base_limits.specs.States as state
 use Rattle.base_limits.specs.Limits.{points, triangles, words, corners, states, patches, set-corners, greatest, longest, sheet-text, set-text}
@@ -21,7 +21,13 @@ patches-are = refl
 pub set-corners-are : set-corners ≡ 9 * triangles
 set-corners-are = refl
 
--- The longest texts.
+-- The longest texts: two counts of four digits, 29 bytes a point or 4 a state, and 17 a triangle with corners of four digits.
+pub sheet-text-is : sheet-text ≡ 12 + 29 * points + (15 + 17 * triangles)
+sheet-text-is = refl
+
+pub set-text-is : set-text ≡ 12 + 4 * states + (15 + 17 * patches)
+set-text-is = refl
+
 pub longest-text : sheet-text ≡ 47131
 longest-text = refl
 

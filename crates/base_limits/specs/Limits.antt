@@ -1,12 +1,14 @@
 -- The limits that the types of `base_types` state, for the definitions of every crate above. No number stands here.
-use Prim.Native.Nat.{ℕ, _+_, _*_}
+use Prim.Native.Nat.{ℕ}
 use Rattle.base_types.proofs.Surface.takes_points.⟦Self·POINTS⟧-asked.Lts as for-points
 use Rattle.base_types.proofs.Surface.takes_triangles.⟦Self·TRIANGLES⟧-asked.Lts as for-triangles
 use Rattle.base_types.proofs.Surface.takes_words.⟦Self·WORDS⟧-asked.Lts as for-words
 use Rattle.base_types.proofs.Surface.takes_corners.⟦Self·CORNERS⟧-asked.Lts as for-corners
+use Rattle.base_types.proofs.Surface.takes_text.⟦Self·TEXT⟧-asked.Lts as for-sheet-text
 use Rattle.base_types.proofs.PatchSet.takes_states.⟦Self·STATES⟧-asked.Lts as for-states
 use Rattle.base_types.proofs.PatchSet.takes_triangles.⟦Self·TRIANGLES⟧-asked.Lts as for-patches
 use Rattle.base_types.proofs.PatchSet.takes_corners.⟦Self·CORNERS⟧-asked.Lts as for-set
+use Rattle.base_types.proofs.PatchSet.takes_text.⟦Self·TEXT⟧-asked.Lts as for-set-text
 use Rattle.base_types.proofs.Grid.holds.⟦Self·GREATEST⟧-asked.Lts as for-grid
 use Rattle.base_types.proofs.Loop.is_long.⟦Self·LONGEST⟧-asked.Lts as for-loop
 
@@ -41,10 +43,9 @@ greatest = for-grid.answer tt tt
 abbrev pub longest : ℕ
 longest = for-loop.answer tt tt
 
--- how many bytes the longest sheet text has and the longest text of a patch set: two counts of four digits, 29 bytes a point or 4 a state,
--- and 17 a triangle with corners of four digits
+-- how many bytes the longest sheet text has, and the longest text of a patch set
 abbrev pub sheet-text : ℕ
-sheet-text = 12 + 29 * points + (15 + 17 * triangles)
+sheet-text = for-sheet-text.answer tt tt
 
 abbrev pub set-text : ℕ
-set-text = 12 + 4 * states + (15 + 17 * patches)
+set-text = for-set-text.answer tt tt

@@ -60,6 +60,13 @@ impl Surface {
     {
         is_threes(corners, Self::CORNERS)
     }
+
+    // That many bytes are no more than the longest sheet text has.
+    pub fn takes_text(bytes: usize) -> bool
+        ensures { λ r. do most ← ⟦Self::TEXT⟧ .entry; ⌜ r ≡ leb bytes most ⌝ }
+    {
+        bytes <= Self::TEXT
+    }
 }
 
 fn is_threes(n: usize, most: usize) -> bool
@@ -85,16 +92,6 @@ impl PatchSet {
     // The bytes of the longest text of a set: two counts of four digits, 4 bytes a state and 17 a triangle.
     pub const TEXT: usize = 12 + 4 * Self::STATES + 15 + 17 * Self::TRIANGLES;
 
-    // The set of that many states and corners.
-    pub fn of(states: usize, corners: usize) -> PatchSet
-        ensures { λ r. ⌜ (r .states ≡ states) × (r .triangles ≡ corners / 3) ⌝ }
-    {
-        PatchSet {
-            states,
-            triangles: corners / 3,
-        }
-    }
-
     // That many states are not too many.
     pub fn takes_states(states: usize) -> bool
         ensures { λ r. do most ← ⟦Self::STATES⟧ .entry; ⌜ r ≡ leb states most ⌝ }
@@ -115,6 +112,13 @@ impl PatchSet {
     {
         is_threes(corners, Self::CORNERS)
     }
+
+    // That many bytes are no more than the longest text of a set has.
+    pub fn takes_text(bytes: usize) -> bool
+        ensures { λ r. do most ← ⟦Self::TEXT⟧ .entry; ⌜ r ≡ leb bytes most ⌝ }
+    {
+        bytes <= Self::TEXT
+    }
 }
 
 // The grid on which the whole numbers lie, one in every `pitch`.
@@ -132,8 +136,8 @@ impl Grid {
         Grid { pitch: 1 }
     }
 
-    // The whole number is no further from 0 than the grid reaches, on either side.
-    pub fn holds(whole: i32) -> bool
+    // The whole number is no further from 0 than the grid reaches, on either side, whatever its pitch.
+    pub fn holds(self, whole: i32) -> bool
         ensures { λ r. do most ← ⟦Self::GREATEST⟧ .entry; ⌜ r ≡ leb (natAbs whole) most ⌝ }
     {
         let most = Self::GREATEST as i32;

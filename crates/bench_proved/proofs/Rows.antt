@@ -13,7 +13,8 @@ use Rattle.grid_coordinate.specs.Units.{units}
 use Rattle.grid_coordinate.specs.Places.{whole}
 use Rattle.surface_rules.specs.Smallest.{least}
 use Rattle.surface_rules.specs.Edges.{following, goes, twin, isOpen, repeats, twice}
-use Rattle.surface_rules.specs.Refusals.{unnamed, cornerRefusal}
+use Rattle.surface_rules.specs.Refusals.{unnamed, notFinite, tooFar, countRefusal, bufferRefusal, cornerRefusal, wordRefusal, contentRefusal, refusal}
+use Rattle.survey_grid.specs.Grid.{wholeOf}
 use Rattle.loop_rules.specs.Next.{step, turn, next}
 use Rattle.loop_rules.specs.Loops.{around, cycle, leads, startsAt, grow, growAll, loopsOf, loopsBelow, loops}
 use Rattle.cover_rules.specs.Covers.{Cover, Covers, on}
@@ -64,7 +65,7 @@ crossed-rims grid =
     subst (λ (k : List Bool). Course grid crossed [] k (ringList crossed) (rim ∷ rim ∷ [])) (sym (ap₂ (λ (x y : Bool). x ∷ y ∷ []) (first grid) (second grid))) (refl, (refl, tt))
 
 pub table : Table
-unfolding numbersBelow many unite smallestBy smallestOf pieceOf stride strideOf runAt pieceAt outruns isRim ofBits fits units whole cornerRefusal unnamed twice repeats
+unfolding numbersBelow many unite smallestBy smallestOf pieceOf stride strideOf runAt pieceAt outruns isRim ofBits fits units whole wholeOf refusal countRefusal contentRefusal bufferRefusal cornerRefusal wordRefusal unnamed twice repeats notFinite tooFar
     loops loopsBelow loopsOf growAll grow startsAt leads cycle around isOpen next turn step twin goes following least weightOf pointOf follows diagonal edge between barred
 table = record {
   half = (record { number = tt; nearest = refl; within = lit≤ tt }, record { some = nonzero _ (lit< tt); fitting = tt; number = tt; exact = refl });
@@ -78,9 +79,12 @@ table = record {
   strip-cycle = refl;
   strip-rings = refl;
   bow-pieces = refl;
+  strip-taken-in = refl;
+  even-taken-in = refl;
   strip-course = record { fates = patched alone ∷ rim ∷ []; course = ((lit≤ tt, three _ _ _ refl), (refl, tt)); its-states = refl; its-weights = refl; its-laid = refl };
   strip-rims = refl;
   even-rims = refl;
+  folded-taken-in = refl;
   folded-rings = refl;
   folded-bar = refl;
   folded-taken = four _ _ _ refl refl refl;
@@ -88,6 +92,7 @@ table = record {
   folded-barred = not-allowed _ _ _ _ refl;
   folded-judged = inl (refl, λ e. omega arith);
   folded-wrong = (faults.cover-barred refl (patched-four _ _ refl) (record { cover = overTwo; taken = patch-is-cover square overTwo [] (covers-of overTwo refl); from = 0; to = 2; used = inr (inl (inl (refl, refl))); barring = refl }));
+  cone-taken-in = refl;
   cone-rings = refl;
   cone-taken = four _ _ _ refl refl refl;
   cone-course = record { fates = rim ∷ []; course = (refl, tt); its-states = refl; its-weights = refl; its-laid = refl };
@@ -105,13 +110,17 @@ table = record {
   cone-fine = faults.patched refl (lit≤ tt) overTwo begun-elsewhere (allowed _ _ _ _ refl) (no-lighter (four _ _ _ refl refl refl));
   cone-judged = inl (refl, λ e. omega arith);
   cone-passed = inr (refl, refl);
+  equal-taken-in = refl;
   equal-one = refl;
   equal-two = refl;
   equal-taken = four _ _ _ refl refl refl;
   crossed-rings = refl;
+  crossed-bar = refl;
+  crossed-other-bar = refl;
   crossed-open = none-of-four _ refl refl;
   crossed-taken = λ grid. three _ _ _ refl;
   crossed-course = λ grid. record { fates = rim ∷ rim ∷ []; course = crossed-rims grid; its-states = refl; its-weights = refl; its-laid = refl };
+  plate-taken-in = refl;
   plate-rings = refl;
   plate-rims = refl;
   plate-course = record { fates = rim ∷ patched alone ∷ []; course = (refl, ((lit≤ tt, three _ _ _ refl), tt)); its-states = refl; its-weights = refl; its-laid = refl };

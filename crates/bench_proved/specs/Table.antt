@@ -1,7 +1,8 @@
 -- The starred examples of the bench, and the one of two equal weights, a row each, in the scope's order; and what pieces and rims are in them.
+-- What a row says of points begins at the words of their sheet, the bits of binary32 numbers.
 use mathlib.Core.Path.{_≡_}
 use mathlib.Core.Bool.{true, false}
-use mathlib.Core.List.{List, [], _∷_, map}
+use mathlib.Core.List.{List, [], _∷_, _++_}
 use Prim.Native.Nat.{ℕ}
 use lib.IntN.{ℤ, pos, negsuc}
 use lib.Ieee.{binary32, ofBits}
@@ -9,8 +10,9 @@ use Rattle.base_answers.specs.declared.Answer.{Answer}
 use Rattle.base_answers.specs.declared.Answer.the-variants.{Done, Repeated, Misdeclared, Barred, Heavy}
 use Rattle.grid_coordinate.specs.Places.{Places}
 use Rattle.grid_coordinate.specs.declared.Coordinate.the-variants.{Shifted, TooFar}
-use Rattle.surface_rules.specs.Refusals.{cornerRefusal}
+use Rattle.surface_rules.specs.Refusals.{refusal}
 use Rattle.loop_rules.specs.Loops.{cycle, ring}
+use Rattle.survey_grid.specs.Grid.{gridOf}
 use Rattle.cover_rules.specs.Covers.{Cover, empty, apex}
 use Rattle.cover_bars.specs.Bars.{barred}
 use Rattle.rim_pieces.specs.Computed.{pieceNumbers}
@@ -50,28 +52,76 @@ abbrev pub plate : List ℕ
 plate = 0 ∷ 1 ∷ 3 ∷ 1 ∷ 4 ∷ 3 ∷ 1 ∷ 2 ∷ 4 ∷ 2 ∷ 5 ∷ 4 ∷ 2 ∷ 0 ∷ 5 ∷ 0 ∷ 3 ∷ 5 ∷ []
 
 -- (0,0,0),(30,0,0),(0,30,0),(5,5,0),(15,5,0),(5,15,0)
+abbrev pub plateWords : List ℕ
+plateWords =
+    0x00000000 ∷ 0x00000000 ∷ 0x00000000
+    ∷ 0x41f00000 ∷ 0x00000000 ∷ 0x00000000
+    ∷ 0x00000000 ∷ 0x41f00000 ∷ 0x00000000
+    ∷ 0x40a00000 ∷ 0x40a00000 ∷ 0x00000000
+    ∷ 0x41700000 ∷ 0x40a00000 ∷ 0x00000000
+    ∷ 0x40a00000 ∷ 0x41700000 ∷ 0x00000000
+    ∷ []
+
 abbrev pub plateGrid : List ℤ
-plateGrid = map pos (0 ∷ 0 ∷ 0 ∷ 30 ∷ 0 ∷ 0 ∷ 0 ∷ 30 ∷ 0 ∷ 5 ∷ 5 ∷ 0 ∷ 15 ∷ 5 ∷ 0 ∷ 5 ∷ 15 ∷ 0 ∷ [])
+plateGrid = gridOf plateWords
 
 -- (0,0,0),(4,0,0),(0,9,0),(4,4,0),(9,9,0)
+abbrev pub wideWords : List ℕ
+wideWords =
+    0x00000000 ∷ 0x00000000 ∷ 0x00000000
+    ∷ 0x40800000 ∷ 0x00000000 ∷ 0x00000000
+    ∷ 0x00000000 ∷ 0x41100000 ∷ 0x00000000
+    ∷ 0x40800000 ∷ 0x40800000 ∷ 0x00000000
+    ∷ 0x41100000 ∷ 0x41100000 ∷ 0x00000000
+    ∷ []
+
 abbrev pub wideStrip : List ℤ
-wideStrip = map pos (0 ∷ 0 ∷ 0 ∷ 4 ∷ 0 ∷ 0 ∷ 0 ∷ 9 ∷ 0 ∷ 4 ∷ 4 ∷ 0 ∷ 9 ∷ 9 ∷ 0 ∷ [])
+wideStrip = gridOf wideWords
 
 -- (0,0,0),(4,0,0),(0,4,0),(4,4,0),(0,4,4)
+abbrev pub evenWords : List ℕ
+evenWords =
+    0x00000000 ∷ 0x00000000 ∷ 0x00000000
+    ∷ 0x40800000 ∷ 0x00000000 ∷ 0x00000000
+    ∷ 0x00000000 ∷ 0x40800000 ∷ 0x00000000
+    ∷ 0x40800000 ∷ 0x40800000 ∷ 0x00000000
+    ∷ 0x00000000 ∷ 0x40800000 ∷ 0x40800000
+    ∷ []
+
 abbrev pub evenStrip : List ℤ
-evenStrip = map pos (0 ∷ 0 ∷ 0 ∷ 4 ∷ 0 ∷ 0 ∷ 0 ∷ 4 ∷ 0 ∷ 4 ∷ 4 ∷ 0 ∷ 0 ∷ 4 ∷ 4 ∷ [])
+evenStrip = gridOf evenWords
 
 -- (0,0,0),(10,0,0),(10,10,0),(0,10,4)
+abbrev pub liftedWords : List ℕ
+liftedWords =
+    0x00000000 ∷ 0x00000000 ∷ 0x00000000
+    ∷ 0x41200000 ∷ 0x00000000 ∷ 0x00000000
+    ∷ 0x41200000 ∷ 0x41200000 ∷ 0x00000000
+    ∷ 0x00000000 ∷ 0x41200000 ∷ 0x40800000
+    ∷ []
+
 abbrev pub lifted : List ℤ
-lifted = map pos (0 ∷ 0 ∷ 0 ∷ 10 ∷ 0 ∷ 0 ∷ 10 ∷ 10 ∷ 0 ∷ 0 ∷ 10 ∷ 4 ∷ [])
+lifted = gridOf liftedWords
 
 -- the same, and (4,4,9)
+abbrev pub liftedTopWords : List ℕ
+liftedTopWords = liftedWords ++ (0x40800000 ∷ 0x40800000 ∷ 0x41100000 ∷ [])
+
 abbrev pub liftedTop : List ℤ
-liftedTop = map pos (0 ∷ 0 ∷ 0 ∷ 10 ∷ 0 ∷ 0 ∷ 10 ∷ 10 ∷ 0 ∷ 0 ∷ 10 ∷ 4 ∷ 4 ∷ 4 ∷ 9 ∷ [])
+liftedTop = gridOf liftedTopWords
 
 -- (0,0,0),(10,0,0),(3,3,0),(0,10,0),(4,4,9)
+abbrev pub dentedTopWords : List ℕ
+dentedTopWords =
+    0x00000000 ∷ 0x00000000 ∷ 0x00000000
+    ∷ 0x41200000 ∷ 0x00000000 ∷ 0x00000000
+    ∷ 0x40400000 ∷ 0x40400000 ∷ 0x00000000
+    ∷ 0x00000000 ∷ 0x41200000 ∷ 0x00000000
+    ∷ 0x40800000 ∷ 0x40800000 ∷ 0x41100000
+    ∷ []
+
 abbrev pub dentedTop : List ℤ
-dentedTop = map pos (0 ∷ 0 ∷ 0 ∷ 10 ∷ 0 ∷ 0 ∷ 3 ∷ 3 ∷ 0 ∷ 0 ∷ 10 ∷ 0 ∷ 4 ∷ 4 ∷ 9 ∷ [])
+dentedTop = gridOf dentedTopWords
 
 -- a loop of four and one of three, by their rings
 abbrev pub square : List ℕ
@@ -132,8 +182,8 @@ pub record Table : Type 0 where
   pub past : Places 1 (ofBits binary32 0x46ffff00) (TooFar (ofBits binary32 0x46ffff00))
   -- no triangles: no loops
   pub no-triangles : ringList [] ≡ []
-  -- (0,1,2),(0,1,3): refusal 6 at 3
-  pub repeated : cornerRefusal repeating 4 ≡ Repeated 3
+  -- (0,1,2),(0,1,3): refusal 6 at 3, by the whole table of refusals, no buffer being too short
+  pub repeated : refusal liftedWords repeating [] [] ≡ Repeated 3
   -- (0,1,2),(0,3,4): rings 0,1,2 and 0,3,4
   pub bow-tie : ringList bowTie ≡ (0 ∷ 1 ∷ 2 ∷ []) ∷ (0 ∷ 3 ∷ 4 ∷ []) ∷ []
   -- in two pieces, since they share a vertex and no edge
@@ -141,11 +191,15 @@ pub record Table : Type 0 where
   -- the pinched strip: one cycle 0,1,3,0,4,2; rings 0,1,3 and 0,4,2
   pub strip-cycle : ring pinchedStrip (cycle pinchedStrip 0) ≡ 0 ∷ 1 ∷ 3 ∷ 0 ∷ 4 ∷ 2 ∷ []
   pub strip-rings : ringList pinchedStrip ≡ (0 ∷ 1 ∷ 3 ∷ []) ∷ (0 ∷ 4 ∷ 2 ∷ []) ∷ []
+  -- with either points the sheet is not refused
+  pub strip-taken-in : refusal wideWords pinchedStrip [] [] ≡ Done
+  pub even-taken-in : refusal evenWords pinchedStrip [] [] ≡ Done
   -- in one piece: runs of 16 and 36, so the second is the rim and the first is patched; of two runs of 16 the first is
   pub strip-course : Leaves wideStrip pinchedStrip (1 ∷ 4 ∷ []) (16 ∷ 0 ∷ []) (0 ∷ 3 ∷ 1 ∷ [])
   pub strip-rims : rimList wideStrip pinchedStrip ≡ false ∷ true ∷ []
   pub even-rims : rimList evenStrip pinchedStrip ≡ true ∷ false ∷ []
   -- (0,1,2),(0,2,3): diagonal 0-2 barred; patch (0,3,1),(1,3,2), weight 280, and (0,3,2),(0,2,1) has the barred diagonal: it gets 13
+  pub folded-taken-in : refusal liftedWords folded [] [] ≡ Done
   pub folded-rings : ringList folded ≡ square ∷ []
   pub folded-bar : barred folded [] square 0 2 ≡ true
   pub folded-taken : ToTake folded lifted square overOne
@@ -156,6 +210,7 @@ pub record Table : Type 0 where
   pub folded-judged : Gets lifted folded (1 ∷ []) (0 ∷ 3 ∷ 2 ∷ 0 ∷ 2 ∷ 1 ∷ []) (Misdeclared 0)
   -- the cone with a dent: patch (0,3,2),(0,2,1), weight 60; (0,3,1),(1,3,2) weighs 140 and gets 14;
   -- (3,2,0),(2,1,0) passes
+  pub cone-taken-in : refusal dentedTopWords cone [] [] ≡ Done
   pub cone-rings : ringList cone ≡ square ∷ []
   pub cone-taken : ToTake cone dentedTop square overTwo
   pub cone-course : Leaves dentedTop cone (4 ∷ []) (0 ∷ []) []
@@ -166,16 +221,20 @@ pub record Table : Type 0 where
   pub cone-judged : Gets dentedTop cone (1 ∷ []) (3 ∷ 2 ∷ 0 ∷ 2 ∷ 1 ∷ 0 ∷ []) (Misdeclared 0)
   pub cone-passed : Gets dentedTop cone (4 ∷ []) [] Done
   -- the cone with the points of (0,1,2),(0,2,3): both covers weigh 280, so m = 1: (0,3,1),(1,3,2)
+  pub equal-taken-in : refusal liftedTopWords cone [] [] ≡ Done
   pub equal-one : weightHere liftedTop square overOne ≡ 280
   pub equal-two : weightHere liftedTop square overTwo ≡ 280
   pub equal-taken : ToTake cone liftedTop square overOne
-  -- (0,1,2),(0,2,3),(1,3,4): ring 0,1,2,3 has no cover, ring 1,3,4 is patched by (1,4,3) wherever the points lie
+  -- (0,1,2),(0,2,3),(1,3,4): ring 0,1,2,3 has no cover, both its diagonals being barred; ring 1,3,4 is patched by (1,4,3) wherever the points lie
   pub crossed-rings : ringList crossed ≡ square ∷ side ∷ []
+  pub crossed-bar : barred crossed [] square 0 2 ≡ true
+  pub crossed-other-bar : barred crossed [] square 1 3 ≡ true
   pub crossed-open : Open crossed square
   pub crossed-taken : (grid : List ℤ) → ToTake crossed grid side alone
   -- and each is the rim of its piece
   pub crossed-course : (grid : List ℤ) → Leaves grid crossed (4 ∷ 4 ∷ []) (0 ∷ 0 ∷ []) []
   -- a plate with a hole: the greater loop is the rim, the other is patched, and 11 is given for 1 on the rim and for 4 on the hole
+  pub plate-taken-in : refusal plateWords plate [] [] ≡ Done
   pub plate-rings : ringList plate ≡ (0 ∷ 1 ∷ 2 ∷ []) ∷ (4 ∷ 3 ∷ 5 ∷ []) ∷ []
   pub plate-rims : rimList plateGrid plate ≡ true ∷ false ∷ []
   pub plate-course : Leaves plateGrid plate (4 ∷ 1 ∷ []) (0 ∷ 100 ∷ []) (4 ∷ 5 ∷ 3 ∷ [])

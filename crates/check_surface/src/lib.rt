@@ -3,6 +3,7 @@ ghost use Rattle.base_types.specs.Lent.{was, left};
 ghost use Rattle.surface_twins.specs.Workings.Turns.{Room};
 ghost use Rattle.check_surface.specs.Workings.Checks.{Fitted, Checked, CornersChecked};
 use base_answers::Answer;
+use base_types::Surface;
 use surface_rules::Found;
 
 // Refusals 3 to 8, once 1 and 2 were not given, with a table of turns that is long enough for this surface. Where none is given the table
@@ -21,7 +22,8 @@ pub fn check(
     if buffers.refuses() {
         return buffers;
     }
-    let woven = check_corners(corners, (words.len() / 3) as u16, turns);
+    let surface = Surface::of(words.len(), corners.len());
+    let woven = check_corners(corners, surface.points as u16, turns);
     if woven.refuses() {
         return woven;
     }

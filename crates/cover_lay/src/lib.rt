@@ -5,7 +5,8 @@ ghost use Rattle.cover_trace.specs.Workings.Patches.{LaysPatch, FindsLeast};
 ghost use Rattle.cover_lay.specs.Workings.Patches.{PatchRoom, ThreeRoom, LaysThree};
 use cover_table::Least;
 
-// Finds the patch of the loop with this ring and these bars and lays it from p on; or leaves all as it is.
+// Finds the patch of the loop with this ring and these bars and lays it from p on; or leaves all as it is. The table's floats find it, and
+// what it weighs is the sum of its triangles as they were laid.
 pub fn lay_patch(
     grid: &[i32],
     ring: &[u16],
@@ -21,10 +22,11 @@ pub fn lay_patch(
         return cover_four::lay_four(grid, ring, bars, out, p);
     }
     let least = cover_table::least_weight(grid, ring, bars, table);
-    if let Least::Weight(_) = least {
-        cover_trace::list(table, ring, out, p, 0, ring.len() - 1);
-    }
-    least
+    let Least::Weight(_) = least else {
+        return Least::Nothing;
+    };
+    let end = cover_trace::list(table, ring, out, p, 0, ring.len() - 1);
+    Least::Weight(cover_weigh::weigh_set(grid, &out[p..end]))
 }
 
 // The least weight of the loop's allowed covers, or that it has none: for a caller that lists no patch.

@@ -1,24 +1,17 @@
 -- Demand 1 is kept by every outcome that an entry point may have.
 use mathlib.Core.Path.{_≡_, refl, sym, ap, ap₂, _∙_, subst}
-use mathlib.Core.Bool.{Bool, true, false, not, cond, true≢false}
-use mathlib.Core.Logic.{inl, inr}
+use mathlib.Core.Bool.{Bool, true, false}
 use mathlib.Core.List.{List, [], _∷_, _++_}
 use Prim.Native.Nat.{ℕ, _+_, _/_}
 use lib.Dec.{eqb}
 use lib.ListN.{length}
 use Rattle.base_answers.specs.Numbers.{refusing}
 use Rattle.base_answers.specs.declared.Answer.{Answer}
-use Rattle.base_answers.specs.declared.Answer.the-variants.{Done, Words, Corners, Buffer, Unnamed, TooFar, States}
-use Rattle.base_types.specs.Counts.{threes}
-use Rattle.base_limits.specs.Limits as limits
-use Rattle.surface_rules.specs.declared.Found.{Found}
-use Rattle.surface_rules.specs.declared.Found.the-variants.{At, Nothing}
+use Rattle.base_answers.specs.declared.Answer.the-variants.{Done, Buffer, Unnamed, States}
 use Rattle.surface_rules.specs.Smallest.{least}
-use Rattle.surface_rules.specs.Refusals.{tooFar, refuseAt, thenCheck, countRefusal, bufferRefusal, unnamedRefusal, cornerRefusal, wordRefusal, contentRefusal, refusal}
+use Rattle.surface_rules.specs.Refusals.{thenCheck, bufferRefusal, unnamedRefusal, refusal}
 use Rattle.surface_rules.specs.Buffers.{over}
 use Rattle.surface_rules.specs.Threes.{Three, flat}
-use Rattle.surface_rules.proofs.Laws.Smallest.{least-at, least-never, least-sound, least-first, never-least}
-use Rattle.surface_rules.proofs.Laws.Thens.{then-refused, then-next}
 use Rattle.loop_rules.specs.Loops.{loops}
 use Rattle.survey_grid.specs.Grid.{gridOf}
 use Rattle.survey_rules.specs.Outcome as survey
@@ -33,126 +26,11 @@ use Rattle.text_read.specs.Outcome as intake
 use Rattle.text_read_set.specs.Set as set
 use Rattle.text_read_set.specs.Outcome as sets
 use Rattle.text_write.specs.Outcome.{writeRefusal, writes}
-use Rattle.demands.specs.Answers.{Check, Due, wordCount, cornerCount, shortBuffer, unnamedCorner, pointTwice, edgeRepeated, noNumber, farAway, stateCount, table, Answered, AnswersDemand}
-
--- ---- what a list of checks gives, as the entry points compute it
-
-abbrev pub answerOf : List Check → Answer
-answerOf [] = Done
-answerOf (c ∷ after) = thenCheck (refuseAt (c .gives) (least (c .finds) (c .places))) (answerOf after)
-
--- each gives refusals alone
-abbrev pub Refuses : List Check → Type 0
-Refuses [] = Unit {0}
-Refuses (c ∷ after) = ((i : ℕ) → refusing (c .gives i) ≡ true) × Refuses after
-
-due-is : (checks : List Check) → Refuses checks → (a : Answer) → Due checks a → answerOf checks ≡ a
-due-is [] r a d = absurd d
-due-is (c ∷ after) r a (inl f) =
-    ap (λ (g : Found). thenCheck (refuseAt (c .gives) g) (answerOf after)) (least-at (c .finds) (f .at) (c .places) (never-least (c .finds) (f .at) (f .smallest)) (f .finds-it) (f .there))
-    ∙ then-refused (c .gives (f .at)) (answerOf after) (r .0 (f .at))
-    ∙ sym (f .gives-it)
-due-is (c ∷ after) r a (inr d) = ap (λ (g : Found). thenCheck (refuseAt (c .gives) g) (answerOf after)) (never-least (c .finds) (c .places) (d .0)) ∙ due-is after (r .1) a (d .1)
-
-due-refuses : (checks : List Check) → Refuses checks → (a : Answer) → Due checks a → refusing a ≡ true
-due-refuses [] r a d = absurd d
-due-refuses (c ∷ after) r a (inl f) = ap refusing (f .gives-it) ∙ r .0 (f .at)
-due-refuses (c ∷ after) r a (inr d) = due-refuses after (r .1) a (d .1)
-
-is-due : (checks : List Check) → Refuses checks → refusing (answerOf checks) ≡ true → Due checks (answerOf checks)
-is-due [] r h = absurd (true≢false (sym h))
-is-due (c ∷ after) r h = go (least (c .finds) (c .places)) refl (is-due after (r .1))
-  where
-    go : (f : Found) → least (c .finds) (c .places) ≡ f → (refusing (answerOf after) ≡ true → Due after (answerOf after)) → Due (c ∷ after) (answerOf (c ∷ after))
-    go (At i) e next = inl (record {
-      at = i;
-      there = least-sound (c .finds) (c .places) i e .0;
-      finds-it = least-sound (c .finds) (c .places) i e .1;
-      smallest = least-first (c .finds) (c .places) i e;
-      gives-it = ap (λ (g : Found). thenCheck (refuseAt (c .gives) g) (answerOf after)) e ∙ then-refused (c .gives i) (answerOf after) (r .0 i);
-    })
-    go Nothing e next =
-        let given : answerOf (c ∷ after) ≡ answerOf after = ap (λ (g : Found). thenCheck (refuseAt (c .gives) g) (answerOf after)) e in
-        inr (least-never (c .finds) (c .places) e, subst (Due after) (sym given) (next (sym (ap refusing given) ∙ h)))
-
--- an outcome that is the refusal given, or no refusal
-pub answered : {O : Type 0} (checks : List Check) → Refuses checks → (refused : Answer → O) (answer : O → Answer) (o : O) → ((a : Answer) → answer (refused a) ≡ a)
-    → (refusing (answerOf checks) ≡ true → o ≡ refused (answerOf checks)) → (refusing (answerOf checks) ≡ false → refusing (answer o) ≡ false)
-    → Answered checks refused answer o
-answered {O} checks r refused answer o same if-refused if-not = record {
-  given = λ a d.
-      let e : answerOf checks ≡ a = due-is checks r a d in
-      if-refused (ap refusing e ∙ due-refuses checks r a d) ∙ ap refused e;
-  only = λ h. go (refusing (answerOf checks)) refl h;
-}
-  where
-    go : (t : Bool) → refusing (answerOf checks) ≡ t → refusing (answer o) ≡ true → Due checks (answer o)
-    go true e h = subst (Due checks) (sym (ap answer (if-refused e) ∙ same (answerOf checks))) (is-due checks r e)
-    go false e h = absurd (true≢false (sym h ∙ if-not e))
-
--- ---- the refusals of an entry point are what its checks give
-
-then-then : (a b c : Answer) → thenCheck (thenCheck a b) c ≡ thenCheck a (thenCheck b c)
-then-then a b c = go (refusing a) refl
-  where
-    go : (t : Bool) → refusing a ≡ t → thenCheck (thenCheck a b) c ≡ thenCheck a (thenCheck b c)
-    go true e = ap (λ (x : Answer). thenCheck x c) (then-refused a b e) ∙ then-refused a c e ∙ sym (then-refused a (thenCheck b c) e)
-    go false e = ap (λ (x : Answer). thenCheck x c) (then-next a b e) ∙ sym (then-next a (thenCheck b c) e)
-
-last-of : (gives : ℕ → Answer) → ((i : ℕ) → refusing (gives i) ≡ true) → (f : Found) → refuseAt gives f ≡ thenCheck (refuseAt gives f) Done
-last-of gives r (At i) = sym (then-refused (gives i) Done (r i))
-last-of gives r Nothing = refl
-
-once-is : (t : Bool) (a : Answer) → cond t Done a ≡ refuseAt (λ i. a) (least (λ i. not t) 1)
-unfolding least
-once-is true a = refl
-once-is false a = refl
-
--- what one check gives
-abbrev answerBy : Check → Answer
-answerBy c = refuseAt (c .gives) (least (c .finds) (c .places))
-
--- 1 and 2 before the rest
-counts-are : (words corners : List ℕ) (b : Answer) → thenCheck (countRefusal (length words) (length corners)) b ≡ thenCheck (answerBy (wordCount words)) (thenCheck (answerBy (cornerCount corners)) b)
-unfolding countRefusal
-counts-are words corners b =
-    let w : Bool = threes limits.words (length words) in
-    let c : Bool = threes limits.corners (length corners) in
-    then-then (cond w Done Words) (cond c Done Corners) b ∙ ap₂ (λ (x y : Answer). thenCheck x (thenCheck y b)) (once-is w Words) (once-is c Corners)
-
-table-is : (words corners lent needs : List ℕ) → refusal words corners lent needs ≡ answerOf (table words corners lent needs)
-unfolding refusal contentRefusal bufferRefusal cornerRefusal wordRefusal
-table-is words corners lent needs =
-    let u : Answer = answerBy (unnamedCorner words corners) in
-    let t : Answer = answerBy (pointTwice corners) in
-    let r : Answer = answerBy (edgeRepeated corners) in
-    let n : Answer = answerBy (noNumber words) in
-    let f : Answer = answerBy (farAway words) in
-    counts-are words corners (contentRefusal words corners lent needs)
-    ∙ ap (λ (x : Answer). thenCheck (answerBy (wordCount words)) (thenCheck (answerBy (cornerCount corners)) (thenCheck (answerBy (shortBuffer lent needs)) x)))
-    (then-then u (thenCheck t r) (thenCheck n f) ∙ ap (thenCheck u) (then-then t r (thenCheck n f) ∙ ap (λ (x : Answer). thenCheck t (thenCheck r (thenCheck n x))) (last-of TooFar (λ i. refl) (least (tooFar words) (length words)))))
-
-table-refuses : (words corners lent needs : List ℕ) → Refuses (table words corners lent needs)
-table-refuses words corners lent needs = (λ i. refl, (λ i. refl, (λ i. refl, (λ i. refl, (λ i. refl, (λ i. refl, (λ i. refl, (λ i. refl, tt))))))))
-
--- what is asked after other checks
-append-is : (k l : List Check) → answerOf (k ++ l) ≡ thenCheck (answerOf k) (answerOf l)
-append-is [] l = refl
-append-is (c ∷ k) l = ap (thenCheck (answerBy c)) (append-is k l) ∙ sym (then-then (answerBy c) (answerOf k) (answerOf l))
-
-append-refuses : (k l : List Check) → Refuses k → Refuses l → Refuses (k ++ l)
-append-refuses [] l r s = s
-append-refuses (c ∷ k) l r s = (r .0, append-refuses k l (r .1) s)
+use Rattle.demands.specs.Answers.{Check, wordCount, cornerCount, shortBuffer, unnamedCorner, stateCount, table, Answered, AnswersDemand}
+use Rattle.demands.proofs.Checks.{answerOf, answerBy, answered, last-of, counts-are, table-is, table-refuses, chosen, then-once}
+use Rattle.demands.proofs.Programs.{sheet-texts, set-texts, hearing-set-wrong, hearing, rewriting-refused, rewriting}
 
 -- ---- the entry points
-
--- an outcome that is chosen by what is refused
-chosen : {O : Type 0} (checks : List Check) → Refuses checks → (a : Answer) → a ≡ answerOf checks → (refused : Answer → O) (answer : O → Answer) (d o : O)
-    → ((x : Answer) → answer (refused x) ≡ x) → refusing (answer d) ≡ false → o ≡ cond (refusing a) (refused a) d → Answered checks refused answer o
-chosen {O} checks r a e refused answer d o same n p =
-    answered checks r refused answer o same
-    (λ h. p ∙ ap (λ (t : Bool). cond t (refused a) d) (ap refusing e ∙ h) ∙ ap refused e)
-    (λ h. ap (λ (x : O). refusing (answer x)) (p ∙ ap (λ (t : Bool). cond t (refused a) d) (ap refusing e ∙ h)) ∙ n)
 
 surveying : (words corners : List ℕ) (b : survey.Buffers)
     → Answered (table words corners (survey.lent b) (survey.needs words corners)) (λ a. survey.refused a b) (λ o. o .answer) (survey.surveyOf words corners b)
@@ -193,37 +71,21 @@ module _ (words corners states set : List ℕ) (b : survey.Buffers) (o : survey.
   abbrev same-many : Bool
   same-many = eqb (length (loops corners)) (length states)
 
-  abbrev stateRefusal : Answer
-  stateRefusal = cond same-many Done (States (length (loops corners)))
+  -- the outcome, where 1 to 8 refuse or not, and then where 9 does or not
+  judge-if : {t : Bool} → refusing judgeRefusal ≡ t → JudgesIf t judgeRefusal words corners states set b o
+  judge-if e = subst (λ (t : Bool). JudgesIf t judgeRefusal words corners states set b o) e j
 
-  abbrev judgeTable : List Check
-  judgeTable = table words corners (survey.lent b) (survey.needs words corners) ++ (stateCount corners states ∷ [])
+  judge-counted : {s : Bool} → refusing judgeRefusal ≡ false → same-many ≡ s → JudgesCounted s words corners states set b o
+  judge-counted e n = subst (λ (s : Bool). JudgesCounted s words corners states set b o) n (judge-if e)
 
-  judge-is : thenCheck judgeRefusal stateRefusal ≡ answerOf judgeTable
-  judge-is =
-      ap₂ thenCheck (table-is words corners (survey.lent b) (survey.needs words corners)) (once-is same-many (States (length (loops corners))) ∙ last-of (stateCount corners states .gives) (λ i. refl) (least (stateCount corners states .finds) 1))
-      ∙ sym (append-is (table words corners (survey.lent b) (survey.needs words corners)) (stateCount corners states ∷ []))
+  judge-told : JudgesCounted true words corners states set b o → refusing (o .answer) ≡ false
+  judge-told (a, v, e) = ap (λ (x : survey.Outcome). refusing (x .answer)) e ∙ verdict-told (gridOf words) corners [] 0 0 (rimList (gridOf words) corners) (ringList corners) states set a v
 
-  -- the outcome, by what 1 to 8 and 9 refuse
-  judge-so : (t : Bool) → refusing judgeRefusal ≡ t → (s : Bool) → same-many ≡ s → JudgesIf t judgeRefusal words corners states set b o
-      → (refusing (thenCheck judgeRefusal stateRefusal) ≡ true → o ≡ survey.refused (thenCheck judgeRefusal stateRefusal) b) × (refusing (thenCheck judgeRefusal stateRefusal) ≡ false → refusing (o .answer) ≡ false)
-  judge-so true e s n h =
-      let k : thenCheck judgeRefusal stateRefusal ≡ judgeRefusal = then-refused judgeRefusal stateRefusal e in
-      (λ r. h ∙ ap (λ (a : Answer). survey.refused a b) (sym k), λ r. absurd (true≢false (sym e ∙ ap refusing (sym k) ∙ r)))
-  judge-so false e false n h =
-      let k : thenCheck judgeRefusal stateRefusal ≡ States (length (loops corners)) = then-next judgeRefusal stateRefusal e ∙ ap (λ (t : Bool). cond t Done (States (length (loops corners)))) n in
-      let q : o ≡ survey.refused (States (length (loops corners))) b = subst (λ (t : Bool). JudgesCounted t words corners states set b o) n h in
-      (λ r. q ∙ ap (λ (a : Answer). survey.refused a b) (sym k), λ r. absurd (true≢false (sym (ap refusing k) ∙ r)))
-  judge-so false e true n h =
-      let k : thenCheck judgeRefusal stateRefusal ≡ Done = then-next judgeRefusal stateRefusal e ∙ ap (λ (t : Bool). cond t Done (States (length (loops corners)))) n in
-      let q : JudgesCounted true words corners states set b o = subst (λ (t : Bool). JudgesCounted t words corners states set b o) n h in
-      (λ r. absurd (true≢false (sym r ∙ ap refusing k)), λ r. ap (λ (x : survey.Outcome). refusing (x .answer)) (q .2) ∙ verdict-told (gridOf words) corners [] 0 0 (rimList (gridOf words) corners) (ringList corners) states set (q .0) (q .1))
-
-  judging : Answered judgeTable (λ a. survey.refused a b) (λ x. x .answer) o
+  judging : Answered (table words corners (survey.lent b) (survey.needs words corners) ++ (stateCount corners states ∷ [])) (λ a. survey.refused a b) (λ x. x .answer) o
   judging =
-      let so = judge-so (refusing judgeRefusal) refl same-many refl j in
-      answered judgeTable (append-refuses (table words corners (survey.lent b) (survey.needs words corners)) (stateCount corners states ∷ []) (table-refuses words corners (survey.lent b) (survey.needs words corners)) (λ i. refl, tt)) (λ a. survey.refused a b)
-      (λ x. x .answer) o (λ a. refl) (λ h. so .0 (ap refusing judge-is ∙ h) ∙ ap (λ (a : Answer). survey.refused a b) judge-is) (λ h. so .1 (ap refusing judge-is ∙ h))
+      then-once (table words corners (survey.lent b) (survey.needs words corners)) (table-refuses words corners (survey.lent b) (survey.needs words corners))
+      judgeRefusal (table-is words corners (survey.lent b) (survey.needs words corners)) same-many (States (length (loops corners))) refl
+      (λ a. survey.refused a b) (λ x. x .answer) o (λ a. refl) judge-if (λ e n. judge-counted e n) (λ e n. judge-told (judge-counted e n))
 
 -- ---- texts
 
@@ -265,9 +127,19 @@ answers-demand = record {
   surveying = surveying;
   patching = patching;
   judging = judging;
+  sheet-texts = sheet-texts;
+  set-texts = set-texts;
   reading-wrong = λ bytes words corners o r. r .of-fault;
   reading = reading;
   writing = writing;
   reading-set-wrong = λ bytes before states corners o r. r .of-fault;
   reading-set = reading-set;
+  listing-wrong = λ bytes b o l. l .of-fault;
+  listing = λ bytes b o l ps ts t. patching (flat ps) (flat ts) b o (l .of-text ps ts t);
+  hearing-wrong = λ sheet patches a h. h .of-fault;
+  hearing-set-wrong = hearing-set-wrong;
+  hearing = hearing;
+  rewriting-wrong = λ bytes out w. w .of-fault;
+  rewriting-refused = rewriting-refused;
+  rewriting = rewriting;
 }

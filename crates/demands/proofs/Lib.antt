@@ -1,3 +1,5 @@
+pub mod Checks
+pub mod Programs
 pub mod Answers
 pub mod Kept
 pub mod Closing

@@ -24,7 +24,8 @@ use Rattle.demands.proofs.Closing.{closing-demand}
 use Rattle.demands.proofs.Sets.{checker-demand, patcher-demand}
 use Rattle.demands.proofs.Pieces.{groups-demand, pieces-demand}
 
--- 1. Each refusal has a number and a place, is given exactly when the table says, and changes nothing.
+-- 1. Every input gets an answer: any bytes are a text or have a fault; each refusal has a number and a place, is given exactly when the table
+-- says, and changes nothing.
 pub demand-1 : AnswersDemand
 demand-1 = answers-demand
 

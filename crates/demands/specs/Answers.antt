@@ -19,13 +19,17 @@ use Rattle.loop_rules.specs.Loops.{loops}
 use Rattle.survey_rules.specs.Outcome as survey
 use Rattle.patch_surface.specs.Outcome as patcher
 use Rattle.judge_surface.specs.Outcome.{Judges}
-use Rattle.text_rules.specs.Text.{TextOf}
+use Rattle.text_rules.specs.Text.{Part, TextOf}
 use Rattle.text_rules.specs.Fault.{Fault}
 use Rattle.text_sheet.specs.Sheet.{points, triangles, text}
 use Rattle.text_read.specs.Outcome as intake
 use Rattle.text_read_set.specs.Set as set
 use Rattle.text_read_set.specs.Outcome as sets
 use Rattle.text_write.specs.Outcome.{writes}
+use Rattle.program_lines.specs.Lines.{answerLine}
+use Rattle.program_rewrite.specs.Rewriting.{Rewrites}
+use Rattle.program_judge.specs.Hears.{Hears}
+use Rattle.program_list.specs.Lists.{Lists}
 
 -- ---- the table
 
@@ -90,20 +94,29 @@ farAway words = record { places = length words; finds = tooFar words; gives = To
 abbrev pub stateCount : List ℕ → List ℕ → Check
 stateCount corners states = once (not (eqb (length (loops corners)) (length states))) (States (length (loops corners)))
 
+-- 10: "sheet text line is wrong", asked where one is
+abbrev pub wrongLine : ℕ → Check
+wrongLine line = once true (Line line)
+
+-- 4 to 8: what is asked of a sheet whose counts are right
+abbrev pub sheetChecks : List ℕ → List ℕ → List Check
+sheetChecks words corners = unnamedCorner words corners ∷ pointTwice corners ∷ edgeRepeated corners ∷ noNumber words ∷ farAway words ∷ []
+
+-- 10 and 4 to 8: a wrong line "comes before 4"
+abbrev pub lineAndSheet : ℕ → List ℕ → List ℕ → List Check
+lineAndSheet line words corners = wrongLine line ∷ sheetChecks words corners
+
 -- 1 to 8, for buffers of these lengths where these are needed
 abbrev pub table : List ℕ → List ℕ → List ℕ → List ℕ → List Check
-table words corners lent needs =
-    wordCount words
-    ∷ cornerCount corners
-    ∷ shortBuffer lent needs
-    ∷ unnamedCorner words corners
-    ∷ pointTwice corners
-    ∷ edgeRepeated corners
-    ∷ noNumber words
-    ∷ farAway words
-    ∷ []
+table words corners lent needs = wordCount words ∷ cornerCount corners ∷ shortBuffer lent needs ∷ sheetChecks words corners
 
 -- ---- what is demanded
+
+-- "Every input gets an answer": any bytes are a text that says something, or have a fault at a line; never both, and no two faults.
+pub record Decided {A B : Type 0} (P : Part A) (Q : Part B) : Type 0 where
+  pub text-or-fault : (bytes : List ℕ) → ((xs : List A) × (ys : List B) × TextOf P Q bytes xs ys) ⊎ ((line : ℕ) × Fault P Q bytes line)
+  pub not-both : (bytes : List ℕ) (xs : List A) (ys : List B) (line : ℕ) → TextOf P Q bytes xs ys → Fault P Q bytes line → ⊥
+  pub one-fault : (bytes : List ℕ) (line other : ℕ) → Fault P Q bytes line → Fault P Q bytes other → line ≡ other
 
 -- What is due is given, and leaves everything as it was; and nothing else is refused.
 pub record Answered {O : Type 0} (checks : List Check) (refused : Answer → O) (answer : O → Answer) (o : O) : Type 0 where
@@ -117,6 +130,9 @@ pub record AnswersDemand : Type 0 where
       → Answered (table words corners (patcher.lent b) (patcher.needs words corners)) (λ a. patcher.refused a b) (λ p. p .answer) o
   pub judging : (words corners states patches : List ℕ) (b : survey.Buffers) (o : survey.Outcome) → Judges words corners states patches b o
       → Answered (table words corners (survey.lent b) (survey.needs words corners) ++ (stateCount corners states ∷ [])) (λ a. survey.refused a b) (λ p. p .answer) o
+  -- any bytes are a text or have a fault, so that what follows speaks of all of them
+  pub sheet-texts : Decided points triangles
+  pub set-texts : Decided set.states set.triangles
   -- "Reading may give, in this order, 10, 3 (words 1, corners 2) and 4"
   pub reading-wrong : (bytes words corners : List ℕ) (o : intake.ReadOutcome) → intake.Reads bytes words corners o
       → (line : ℕ) → Fault points triangles bytes line → o ≡ intake.notRead (Line line) words corners
@@ -134,3 +150,24 @@ pub record AnswersDemand : Type 0 where
   pub reading-set : (bytes : List ℕ) (before : ℕ) (states corners : List ℕ) (o : sets.SetOutcome) → sets.ReadsSet bytes before states corners o
       → (ss : List ℕ) (ts : List Three) → TextOf set.states set.triangles bytes ss ts
       → Answered (shortBuffer (length states ∷ length corners ∷ []) (length ss ∷ length (flat ts) ∷ []) ∷ []) (λ a. sets.notRead a states corners) (λ p. p .answer) o
+  -- a sheet's text that is patched: "Checks run in the order 10, 1 to 9"
+  pub listing-wrong : (bytes : List ℕ) (b : patcher.Buffers) (o : patcher.Outcome) → Lists bytes b o
+      → (line : ℕ) → Fault points triangles bytes line → o ≡ patcher.refused (Line line) b
+  pub listing : (bytes : List ℕ) (b : patcher.Buffers) (o : patcher.Outcome) → Lists bytes b o
+      → (ps ts : List Three) → TextOf points triangles bytes ps ts
+      → Answered (table (flat ps) (flat ts) (patcher.lent b) (patcher.needs (flat ps) (flat ts))) (λ a. patcher.refused a b) (λ p. p .answer) o
+  -- a sheet's text and a set's text that are judged: a wrong line of the sheet; a wrong line of the set, which "is counted on after the
+  -- sheet's last", two counts standing there besides the points and triangles, "and comes before 4"; then 4 to 9, as no buffer is lent
+  pub hearing-wrong : (sheet patches : List ℕ) (a : Answer) → Hears sheet patches a → (line : ℕ) → Fault points triangles sheet line → a ≡ Line line
+  pub hearing-set-wrong : (sheet patches : List ℕ) (a : Answer) → Hears sheet patches a
+      → (ps ts : List Three) → TextOf points triangles sheet ps ts → (line : ℕ) → Fault set.states set.triangles patches line
+      → Answered (lineAndSheet (length ps + length ts + 2 + line) (flat ps) (flat ts)) (λ r. r) (λ r. r) a
+  pub hearing : (sheet patches : List ℕ) (a : Answer) → Hears sheet patches a → (ps ts : List Three) → TextOf points triangles sheet ps ts
+      → (ss : List ℕ) (us : List Three) → TextOf set.states set.triangles patches ss us
+      → Answered (sheetChecks (flat ps) (flat ts) ++ (stateCount (flat ts) ss ∷ [])) (λ r. r) (λ r. r) a
+  -- a text that is written again: 10 and 4 are printed as "an answer line", and any other text as it is
+  pub rewriting-wrong : (bytes out : List ℕ) → Rewrites bytes out → (line : ℕ) → Fault points triangles bytes line → out ≡ answerLine (Line line)
+  pub rewriting-refused : (bytes out : List ℕ) → Rewrites bytes out → (ps ts : List Three) → TextOf points triangles bytes ps ts
+      → (a : Answer) → Due (unnamedCorner (flat ps) (flat ts) ∷ []) a → out ≡ answerLine a
+  pub rewriting : (bytes out : List ℕ) → Rewrites bytes out → (ps ts : List Three) → TextOf points triangles bytes ps ts
+      → Clear (unnamedCorner (flat ps) (flat ts)) → out ≡ bytes

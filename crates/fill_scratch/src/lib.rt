@@ -24,7 +24,7 @@ pub fn any_middling(lengths: &[u16], marks: &[u16]) -> bool
             l += 1;
             continue;
         }
-        if Loop::LONGEST < n {
+        if Loop::of(n).is_long() {
             l += 1;
             continue;
         }

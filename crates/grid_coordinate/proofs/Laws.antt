@@ -2,6 +2,7 @@
 pub mod Nearest
 pub mod Signs
 pub mod Floats
+pub mod Units
 pub mod Rests
 pub mod Only
 pub mod Coordinates

@@ -57,7 +57,8 @@ pub fn place(word: u32) -> Coordinate
     }
     let x = f32::from_bits(word);
     let k = nearest(word);
-    if !Grid::holds(k) {
+    let grid = Grid::fine();
+    if !grid.holds(k) {
         return Coordinate::TooFar(x);
     }
     let near = k as f32;

@@ -30,7 +30,8 @@ pub fn judge(
     if counted.refuses() {
         return judge_answer::refused(counted);
     }
-    if words.len() / 3 <= FEW {
+    let surface = Surface::of(words.len(), corners.len());
+    if surface.points <= FEW {
         if corners.len() <= FEW {
             return judge_few(words, corners, states, set, grid, rings, lengths);
         }

@@ -163,7 +163,7 @@ pub fn judge_loop(
         (tray (left heads) (left links) (left ends) (left stamps) (left rows) (left table)) ⌝ }
 {
     let n = ring.len();
-    if n == 3 || Loop::LONGEST < n {
+    if n == 3 || Loop::of(n).is_long() {
         let answer = judge_sight::judge_at_sight(ring, hand.state, set, hand.at, hand.l);
         return LoopJudged {
             answer,

@@ -1,2 +1,3 @@
--- The laws of the part of a set that a loop takes.
+-- The laws of the part of a set that a loop takes, each file for one idea.
+pub mod Covered
 pub mod Weighed

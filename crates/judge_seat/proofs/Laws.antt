@@ -2,4 +2,3 @@
 pub mod Seating
 pub mod Places
 pub mod Seated
-pub mod Passed

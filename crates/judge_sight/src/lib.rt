@@ -28,7 +28,7 @@ pub fn judge_at_sight(ring: &[u16], state: u16, set: &[u16], at: usize, l: usize
     requires { ⌜ SightRoom (now ring) (now set) at ⌝ }
     ensures { λ r. ⌜ FindsAtSight (was ring) state (was set) at l r ⌝ }
 {
-    if Loop::LONGEST < ring.len() {
+    if Loop::of(ring.len()).is_long() {
         return judge_long(state, l);
     }
     judge_three(ring, state, set, at, l)

@@ -19,7 +19,7 @@ fn main() {
     let n = io::read_full(STDIN_FILENO, &mut room);
     let sheet: Scan = text_read::take_in(&room[..n], &mut words, &mut corners);
     let m = read_patches(&mut room);
-    let answer: Answer = program_judge::hear(sheet, &words, &corners, &room[..m]);
+    let answer: Answer = program_judge::hear(sheet, &words, &corners, &room, m);
     let bytes = program_lines::put_answer(&mut room, answer);
     io::write_all(STDOUT_FILENO, &room[..bytes]);
 }

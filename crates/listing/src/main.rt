@@ -1,6 +1,7 @@
 // Reads a sheet text from standard input and prints its loops and their patches, or an answer line.
-ghost use Prim.Native.Nat.{_≤_};
+ghost use Prim.Native.Nat.{_<_, _≤_};
 ghost use lib.ListN.{length};
+ghost use Rattle.base_limits.specs.Limits.{sheet-text};
 ghost use Rattle.program_lines.specs.Workings.Telling.{inventory};
 ghost use Rattle.program_roll.specs.Workings.Listed.{Listed};
 use base_answers::Answer;
@@ -18,10 +19,9 @@ fn main() {
     list(&mut room, n);
 }
 
-// Lists the sheet whose text is in the first n bytes.
+// Lists the sheet whose text is the input, of which the first n bytes of the room are all or as much as it holds.
 fn list(room: &mut [u8], n: usize)
-    requires { do most ← ⟦ROOM⟧; ⌜ most ≤ length (now room) ⌝ }
-    requires { ⌜ n ≤ length (now room) ⌝ }
+    requires { ⌜ (sheet-text < length (now room)) × (n ≤ length (now room)) ⌝ }
 {
     let mut grid = [0i32; Surface::WORDS];
     let mut rings = [0u16; Surface::CORNERS];
@@ -29,14 +29,15 @@ fn list(room: &mut [u8], n: usize)
     let mut states = [0u16; Surface::TRIANGLES];
     let mut weights = [0u64; Surface::TRIANGLES];
     let mut patches = [0u16; PatchSet::CORNERS];
-    let listed = program_list::list(
-        &room[..n],
+    let listed = program_list::list_room(
+        room,
         &mut grid,
         &mut rings,
         &mut lengths,
         &mut states,
         &mut weights,
         &mut patches,
+        n,
     );
     let answer = listed.answer;
     print(
@@ -62,7 +63,7 @@ fn print(
     weights: &[u64],
     patches: &[u16],
 )
-    requires { do most ← ⟦ROOM⟧; ⌜ most ≤ length (now room) ⌝ }
+    requires { ⌜ sheet-text < length (now room) ⌝ }
     requires { ⌜ Listed (inventory (now rings) (now lengths) (now states) (now weights) (now patches)) loops ⌝ }
 {
     let mut progress = program_roll::begin(room, answer, loops);

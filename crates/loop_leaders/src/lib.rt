@@ -11,13 +11,27 @@ use surface_twins::OPEN;
 // An open edge that was walked stands in the table of turns with this, above every turn and below every open edge.
 pub const WALKED: u16 = 4095;
 
-// The next half-edge after h that leads, or n.
+// The next half-edge after h that leads, or n. Where loops are small it is one of the next two, so these are looked at before eight are.
 pub fn next_leader(turns: &[u16], h: usize, n: usize) -> usize
     requires { ⌜ (h < n) × (n ≤ length (now turns)) × (getD (now turns) h 0 < openMark) ⌝ }
     ensures { λ r. ⌜ (h < r) × (r ≤ n) × Quiet (was turns) h r ⌝ }
 {
-    let mut i = skip_quiet(turns, h, n);
-    while i < n {
+    if h + 2 < n {
+        let near = leading(turns, h + 1, h + 3);
+        if near != h + 3 {
+            return near;
+        }
+    }
+    leading(turns, skip_quiet(turns, h + 1, n), n)
+}
+
+// The first half-edge from this one on that leads, or the end.
+fn leading(turns: &[u16], from: usize, end: usize) -> usize
+    requires { ⌜ (from ≤ end) × (end ≤ length (now turns)) ⌝ }
+    ensures { λ r. ⌜ (from ≤ r) × (r ≤ end) × Quiet (was turns) from r ⌝ }
+{
+    let mut i = from;
+    while i < end {
         if OPEN <= turns[i] {
             return i;
         }

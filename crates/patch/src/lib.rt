@@ -30,7 +30,8 @@ pub fn patch(
     if counted.refuses() {
         return patch_surface::refused(counted);
     }
-    if words.len() / 3 <= FEW {
+    let surface = Surface::of(words.len(), corners.len());
+    if surface.points <= FEW {
         if corners.len() <= FEW {
             return patch_few(
                 words,

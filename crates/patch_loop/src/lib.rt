@@ -29,7 +29,7 @@ pub fn patch_loop(
     if n == 3 {
         return patch_sight::patch_three(grid, ring, patches, spot.corners, spot.edges);
     }
-    if Loop::LONGEST < n {
+    if Loop::of(n).is_long() {
         return patch_sight::unpatched(State::LONG, spot.corners, spot.edges);
     }
     patch_middling::patch_middling(

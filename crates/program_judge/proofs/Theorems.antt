@@ -2,16 +2,15 @@
 use mathlib.Core.Path.{_≡_, sym, _∙_}
 use mathlib.Core.Logic.{inl, inr}
 use mathlib.Core.List.{List}
-use Prim.Native.Nat.{ℕ, suc, _≤_}
-use native.Mathlib.Omega.{arith}
+use Prim.Native.Nat.{ℕ, _<_, _≤_}
 use lib.ListN.{length, take}
 use Rattle.base_answers.specs.declared.Answer.{Answer}
 use Rattle.base_limits.specs.Limits as limits
 use Rattle.surface_rules.specs.Threes.{Three, flat}
 use Rattle.text_rules.specs.Text.{TextOf}
-use Rattle.text_rules.specs.Fault.{Fault}
+use Rattle.text_rules.specs.Room.{ReadInto}
 use Rattle.text_rules.proofs.Theorems.{Known}
-use Rattle.text_rules.proofs.Laws.Cut.{text-first, fault-first}
+use Rattle.text_rules.proofs.Laws.Cut.{room-text, room-fault}
 use Rattle.text_sheet.specs.Sheet.{points, triangles}
 use Rattle.text_sheet.proofs.Laws.Texts as sheets
 use Rattle.text_sheet.proofs.Theorems.{longest}
@@ -34,20 +33,18 @@ hears-once sheet patches a b p q = go (sheets.text-or-fault sheet)
     go (inl t) = of-sheet (t .0) (t .1) (t .2) (sets.text-or-fault patches)
     go (inr f) = p .of-fault (f .0) (f .1) ∙ sym (q .of-fault (f .0) (f .1))
 
--- what is right for the first bytes of both, one more than the longest text of a set has, is right for all
-pub hears-front : (sheet patches : List ℕ) (a : Answer) → Hears (take (suc limits.set-text) sheet) (take (suc limits.set-text) patches) a → Hears sheet patches a
-hears-front sheet patches a p =
+-- what is right for the bytes in rooms that are longer than the longest texts is right for what was read into them
+pub hears-front : {room held sheet patches : List ℕ} {n m : ℕ} {a : Answer} → limits.sheet-text < length room → limits.set-text < length held
+    → ReadInto room n sheet → ReadInto held m patches → Hears (take n room) (take m held) a → Hears sheet patches a
+hears-front roomy more-roomy in-room in-held p =
     record {
-      of-fault = λ line f. p .of-fault line (sheet-fault line f);
-      of-set-fault = λ ps ts t line f. p .of-set-fault ps ts (sheet-text ps ts t) line (fault-first set.states set.triangles limits.set-text (λ b ss us u. set-longest u) patches line f);
-      of-set = λ ps ts t ss us u. p .of-set ps ts (sheet-text ps ts t) ss us (text-first set.states set.triangles limits.set-text (λ b ss us u. set-longest u) patches ss us u);
+      of-fault = λ line f. p .of-fault line (room-fault no-sheet-longer roomy in-room f);
+      of-set-fault = λ ps ts t line f. p .of-set-fault ps ts (room-text no-sheet-longer roomy in-room t) line (room-fault no-set-longer more-roomy in-held f);
+      of-set = λ ps ts t ss us u. p .of-set ps ts (room-text no-sheet-longer roomy in-room t) ss us (room-text no-set-longer more-roomy in-held u);
     }
   where
-    no-longer : (bytes : List ℕ) (ps ts : List Three) → TextOf points triangles bytes ps ts → length bytes ≤ limits.set-text
-    no-longer bytes ps ts t = omega (arith, longest t)
+    no-sheet-longer : (bytes : List ℕ) (ps ts : List Three) → TextOf points triangles bytes ps ts → length bytes ≤ limits.sheet-text
+    no-sheet-longer bytes ps ts t = longest t
 
-    sheet-fault : (line : ℕ) → Fault points triangles sheet line → Fault points triangles (take (suc limits.set-text) sheet) line
-    sheet-fault = fault-first points triangles limits.set-text no-longer sheet
-
-    sheet-text : (ps ts : List Three) → TextOf points triangles sheet ps ts → TextOf points triangles (take (suc limits.set-text) sheet) ps ts
-    sheet-text = text-first points triangles limits.set-text no-longer sheet
+    no-set-longer : (bytes ss : List ℕ) (us : List Three) → TextOf set.states set.triangles bytes ss us → length bytes ≤ limits.set-text
+    no-set-longer bytes ss us u = set-longest u

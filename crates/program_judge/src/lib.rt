@@ -1,5 +1,5 @@
 // Hears a patch set: a wrong line of the sheet's text, a wrong line of the set's, or what the checker answers.
-ghost use Prim.Native.Nat.{_≤_};
+ghost use Prim.Native.Nat.{_<_, _≤_};
 ghost use lib.ListN.{length};
 ghost use Rattle.base_types.specs.Lent.{was};
 ghost use Rattle.base_limits.specs.Limits as limits;
@@ -11,18 +11,20 @@ use base_types::Surface;
 use judge_answer::Judged;
 use text_rules::Scan;
 
-// The answer on a sheet that was taken in, and on the text of a set. The sheet's corners may name no point: a wrong line of the set
-// comes first.
-pub fn hear(sheet: Scan, words: &[u32], corners: &[u16], text: &[u8]) -> Answer
+// The answer on a sheet that was taken in, and on the text of a set: a program's input, or as much of it as its room holds, the first m bytes.
+// The room is longer than the longest text, so that a longer one is seen to be longer. The sheet's corners may name no point: a wrong line
+// of the set comes first.
+pub fn hear(sheet: Scan, words: &[u32], corners: &[u16], room: &[u8], m: usize) -> Answer
     requires { ⌜ Taken sheet (now words) (now corners) ⌝ }
-    ensures { λ r. ⌜ HearsTaken sheet (was words) (was corners) (was text) r ⌝ }
+    requires { ⌜ (limits.set-text < length (now room)) × (m ≤ length (now room)) ⌝ }
+    ensures { λ r. ⌜ HearsTaken sheet (was words) (was corners) (was room) m r ⌝ }
 {
     match sheet {
         Scan::Wrong(line) => Answer::Line(line),
         Scan::Whole(points, triangles) => {
             let w = 3 * points;
             let c = 3 * triangles;
-            hear_set(&words[..w], &corners[..c], text)
+            hear_set(&words[..w], &corners[..c], &room[..m])
         }
     }
 }
@@ -34,7 +36,8 @@ fn hear_set(words: &[u32], corners: &[u16], text: &[u8]) -> Answer
 {
     let mut states = [0u16; PatchSet::STATES];
     let mut set = [0u16; PatchSet::CORNERS];
-    let lines = (words.len() / 3 + corners.len() / 3 + 2) as u16;
+    let surface = Surface::of(words.len(), corners.len());
+    let lines = (surface.points + surface.triangles + 2) as u16;
     let read = text_read_set::read_set(text, lines, &mut states, &mut set);
     let answer = read.answer;
     if answer.refuses() {

@@ -4,13 +4,13 @@ use mathlib.Core.Path.{_≡_, refl, sym, ap, subst, _∙_}
 use mathlib.Core.Bool.{Bool, true, false, true≢false}
 use mathlib.Core.Logic.{inl, inr}
 use mathlib.Core.List.{List, [], flatten}
-use Prim.Native.Nat.{ℕ, suc}
+use Prim.Native.Nat.{ℕ, _<_, _≤_}
 use lib.ListN.{length, take}
 use Rattle.base_answers.specs.Numbers.{refusing}
 use Rattle.base_answers.specs.declared.Answer.{Answer}
 use Rattle.base_limits.specs.Limits as limits
 use Rattle.surface_rules.specs.Refusals.{sheetRefusal}
-use Rattle.surface_rules.specs.Threes.{flat}
+use Rattle.surface_rules.specs.Threes.{Three, flat}
 use Rattle.survey_grid.specs.Grid.{gridOf}
 use Rattle.rim_rules.specs.Rims.{rimList}
 use Rattle.fill_fates.specs.Fates.{Fate}
@@ -18,15 +18,17 @@ use Rattle.fill_fates.specs.Course.{ringList}
 use Rattle.fill_fates.proofs.Theorems.{course-once}
 use Rattle.patch_surface.specs.Outcome.{Buffers, Outcome}
 use Rattle.patch_surface.proofs.Theorems.{patches-once}
+use Rattle.text_rules.specs.Text.{TextOf}
+use Rattle.text_rules.specs.Room.{ReadInto}
 use Rattle.text_rules.proofs.Theorems.{Known}
-use Rattle.text_rules.proofs.Laws.Cut.{text-first, fault-first}
+use Rattle.text_rules.proofs.Laws.Cut.{read-itself, room-text, room-fault}
 use Rattle.text_sheet.specs.Sheet.{points, triangles}
 use Rattle.text_sheet.proofs.Laws.Texts.{text-or-fault}
 use Rattle.text_sheet.proofs.Theorems.{longest}
 use Rattle.program_lines.specs.Listing.{Shown, listing}
 use Rattle.program_roll.specs.Sections.{Sections}
 use Rattle.program_roll.proofs.Theorems.{sections-joined}
-use Rattle.program_list.specs.Lists.{Lists, loopsOf, PrintsIf, Prints}
+use Rattle.program_list.specs.Lists.{Lists, ListsIn, loopsOf, PrintsIf, Prints}
 use Rattle.program_list.specs.Workings.Printed.{Full, Printed}
 use Rattle.program_list.proofs.Laws.Printed.{text-refused, text-done, fault-prints}
 
@@ -69,10 +71,24 @@ lists-printed bytes b o full x = go (refusing (o .answer)) refl (text-or-fault b
 pub sections-printed : (bytes : List ℕ) (loops : List Shown) (sections : List (List ℕ)) → Prints bytes (listing loops) → Sections loops (length loops) sections → Prints bytes (flatten sections)
 sections-printed bytes loops sections p q = subst (Prints bytes) (sym (sections-joined loops sections q)) p
 
--- what is right for the first bytes, one more than the longest text has, is right for all
-pub prints-front : (bytes out : List ℕ) → Prints (take (suc limits.sheet-text) bytes) out → Prints bytes out
-prints-front bytes out p =
+-- what is right for the bytes in a room that is longer than the longest text is right for the input that was read into it
+no-longer : (bytes : List ℕ) (ps ts : List Three) → TextOf points triangles bytes ps ts → length bytes ≤ limits.sheet-text
+no-longer bytes ps ts t = longest t
+
+pub lists-front : {room input : List ℕ} {n : ℕ} {b : Buffers} {o : Outcome} → limits.sheet-text < length room → ReadInto room n input → Lists (take n room) b o → Lists input b o
+lists-front roomy held p =
     record {
-      of-fault = λ line f. p .of-fault line (fault-first points triangles limits.sheet-text (λ b ps ts t. longest t) bytes line f);
-      of-text = λ ps ts t. p .of-text ps ts (text-first points triangles limits.sheet-text (λ b ps ts t. longest t) bytes ps ts t);
+      of-fault = λ line f. p .of-fault line (room-fault no-longer roomy held f);
+      of-text = λ ps ts t. p .of-text ps ts (room-text no-longer roomy held t);
     }
+
+pub prints-front : {room input out : List ℕ} {n : ℕ} → limits.sheet-text < length room → ReadInto room n input → Prints (take n room) out → Prints input out
+prints-front roomy held p =
+    record {
+      of-fault = λ line f. p .of-fault line (room-fault no-longer roomy held f);
+      of-text = λ ps ts t. p .of-text ps ts (room-text no-longer roomy held t);
+    }
+
+-- so what is answered and left is determined by what was read into the room
+pub lists-in-once : {room : List ℕ} {n : ℕ} {b : Buffers} {o p : Outcome} → n ≤ length room → ListsIn room n b o → ListsIn room n b p → o ≡ p
+lists-in-once {room} {n} {b} {o} {p} h x y = lists-once (take n room) b o p (x .due (take n room) (read-itself h)) (y .due (take n room) (read-itself h))

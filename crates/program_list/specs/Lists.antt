@@ -17,6 +17,7 @@ use Rattle.fill_fates.specs.Course.{Course, ringList}
 use Rattle.patch_surface.specs.Outcome.{Buffers, Outcome, refused, Patches}
 use Rattle.text_rules.specs.Text.{TextOf}
 use Rattle.text_rules.specs.Fault.{Fault}
+use Rattle.text_rules.specs.Room.{ReadInto}
 use Rattle.text_sheet.specs.Sheet.{points, triangles}
 use Rattle.program_lines.specs.Lines.{answerLine}
 use Rattle.program_lines.specs.Listing.{Shown, listing}
@@ -25,6 +26,10 @@ use Rattle.program_lines.specs.Listing.{Shown, listing}
 pub record Lists (bytes : List ℕ) (b : Buffers) (o : Outcome) : Type 0 where
   pub of-fault : (line : ℕ) → Fault points triangles bytes line → o ≡ refused (Line line) b
   pub of-text : (ps ts : List Three) → TextOf points triangles bytes ps ts → Patches (flat ps) (flat ts) b o
+
+-- the same of the input that n bytes of a room are of, whichever that is
+pub record ListsIn (room : List ℕ) (n : ℕ) (b : Buffers) (o : Outcome) : Type 0 where
+  pub due : (input : List ℕ) → ReadInto room n input → Lists input b o
 
 -- what is told of each loop
 abbrev pub loopsOf : List ℤ → List (List ℕ) → List Fate → List Shown

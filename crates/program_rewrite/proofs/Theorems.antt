@@ -1,23 +1,25 @@
 -- What is promised of the printed bytes leaves nothing open, and what the program has no room for changes nothing.
-use mathlib.Core.Path.{_≡_, refl, sym, _∙_}
+use mathlib.Core.Path.{_≡_, refl, sym, ap, _∙_}
 use mathlib.Core.Logic.{inl, inr}
 use mathlib.Core.List.{List}
-use Prim.Native.Nat.{ℕ, suc, _/_}
+use Prim.Native.Nat.{ℕ, _/_, _<_, _≤_}
 use lib.ListN.{length, take}
 use Rattle.base_answers.specs.declared.Answer.the-variants.{Unnamed}
 use Rattle.base_limits.specs.Limits as limits
 use Rattle.surface_rules.specs.declared.Found.{Found}
 use Rattle.surface_rules.specs.declared.Found.the-variants.{At, Nothing}
+use Rattle.surface_rules.specs.Buffers.{over}
 use Rattle.surface_rules.specs.Smallest.{least}
 use Rattle.surface_rules.specs.Refusals.{unnamed, refuseAt, unnamedRefusal}
 use Rattle.surface_rules.specs.Threes.{Three, flat}
 use Rattle.text_rules.specs.Text.{TextOf}
+use Rattle.text_rules.specs.Room.{ReadInto}
 use Rattle.text_rules.proofs.Theorems.{Known}
-use Rattle.text_rules.proofs.Laws.Cut.{front-all, text-first, fault-first}
+use Rattle.text_rules.proofs.Laws.Cut.{read-itself, room-text, room-whole, room-fault}
 use Rattle.text_sheet.specs.Sheet.{points, triangles}
 use Rattle.text_sheet.proofs.Laws.Texts.{text-or-fault}
 use Rattle.text_sheet.proofs.Theorems.{longest}
-use Rattle.program_rewrite.specs.Rewriting.{Rewrites}
+use Rattle.program_rewrite.specs.Rewriting.{Rewrites, RewritesIn}
 
 -- two outputs that are allowed are equal
 pub rewrites-once : (bytes out out′ : List ℕ) → Rewrites bytes out → Rewrites bytes out′ → out ≡ out′
@@ -31,14 +33,20 @@ rewrites-once bytes out out′ p q = go (text-or-fault bytes)
     go (inl t) = of-text (t .0) (t .1) (t .2) (least (unnamed (flat (t .1)) (length (flat (t .0)) / 3)) (length (flat (t .1)))) refl
     go (inr f) = p .of-fault (f .0) (f .1) ∙ sym (q .of-fault (f .0) (f .1))
 
--- what is right for the first bytes, one more than the longest text has, is right for all
-pub room-enough : (bytes out : List ℕ) → Rewrites (take (suc limits.sheet-text) bytes) out → Rewrites bytes out
-room-enough bytes out p =
+-- what is right for the bytes in a room that is longer than the longest text is right for the input that was read into it
+pub room-enough : {room input out : List ℕ} {n : ℕ} → limits.sheet-text < length room → ReadInto room n input → Rewrites (take n room) out → Rewrites input out
+room-enough roomy held p =
     record {
-      of-sheet = λ ps ts t n. p .of-sheet ps ts (first ps ts t) n ∙ front-all points triangles limits.sheet-text (λ b ps ts t. longest t) bytes ps ts t;
-      of-unnamed = λ ps ts i t n. p .of-unnamed ps ts i (first ps ts t) n;
-      of-fault = λ line f. p .of-fault line (fault-first points triangles limits.sheet-text (λ b ps ts t. longest t) bytes line f);
+      of-sheet = λ ps ts t u. p .of-sheet ps ts (room-text no-longer roomy held t) u ∙ room-whole no-longer roomy held t;
+      of-unnamed = λ ps ts i t u. p .of-unnamed ps ts i (room-text no-longer roomy held t) u;
+      of-fault = λ line f. p .of-fault line (room-fault no-longer roomy held f);
     }
   where
-    first : (ps ts : List Three) → TextOf points triangles bytes ps ts → TextOf points triangles (take (suc limits.sheet-text) bytes) ps ts
-    first = text-first points triangles limits.sheet-text (λ b ps ts t. longest t) bytes
+    no-longer : (bytes : List ℕ) (ps ts : List Three) → TextOf points triangles bytes ps ts → length bytes ≤ limits.sheet-text
+    no-longer bytes ps ts t = longest t
+
+-- so what is answered and left in the room is determined by what was read into it
+pub rewrites-in-once : {room room′ room″ : List ℕ} {n r s : ℕ} → n ≤ length room → RewritesIn room n r room′ → RewritesIn room n s room″ → (r ≡ s) × (room′ ≡ room″)
+rewrites-in-once {room} {room′} {room″} {n} h p q =
+    let e = rewrites-once (take n room) (p .out) (q .out) (p .due (take n room) (read-itself h)) (q .due (take n room) (read-itself h)) in
+    (p .many ∙ ap length e ∙ sym (q .many), p .lies ∙ ap (λ (o : List ℕ). over o room) e ∙ sym (q .lies))

@@ -1,3 +1,4 @@
 pub mod Text
 pub mod Fault
+pub mod Room
 pub mod Workings

@@ -92,13 +92,12 @@ fn put_sheet(words: &[u32], corners: &[u16], buffer: &mut [u8], fours: &mut [u32
         × (r ≡ length (text (was words) (was corners)))
         ⌝ }
 {
-    let n = words.len() / 3;
-    let t = corners.len() / 3;
-    number_points(n, fours);
-    let first = text_line::put_count(buffer, 0, b"points=", n);
-    let middle = put_points(buffer, first, words, n);
-    let second = text_line::put_count(buffer, middle, b"triangles=", t);
-    put_triangles(buffer, second, corners, t, fours)
+    let sheet = Surface::of(words.len(), corners.len());
+    number_points(sheet.points, fours);
+    let first = text_line::put_count(buffer, 0, b"points=", sheet.points);
+    let middle = put_points(buffer, first, words, sheet.points);
+    let second = text_line::put_count(buffer, middle, b"triangles=", sheet.triangles);
+    put_triangles(buffer, second, corners, sheet.triangles, fours)
 }
 
 // The same of few points.
@@ -140,14 +139,14 @@ pub fn write(words: &[u32], corners: &[u16], text: &mut [u8]) -> Written
     if counts.refuses() {
         return unwritten(counts);
     }
-    let points = words.len() / 3;
-    if !text_line::has_room(text.len(), points, corners) {
+    let sheet = Surface::of(words.len(), corners.len());
+    if !text_line::has_room(text.len(), sheet.points, corners) {
         return unwritten(Answer::Buffer(1));
     }
-    if let Found::At(i) = check_shape::first_unnamed(corners, points as u16) {
+    if let Found::At(i) = check_shape::first_unnamed(corners, sheet.points as u16) {
         return unwritten(Answer::Unnamed(i));
     }
-    let bytes = if points <= FEW {
+    let bytes = if sheet.points <= FEW {
         put_small(words, corners, text)
     } else {
         put_large(words, corners, text)

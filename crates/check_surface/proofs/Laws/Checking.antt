@@ -1,5 +1,5 @@
 -- From the answers of the single checks to the answer of all, and to what is known of a surface that passed.
-use mathlib.Core.Path.{_≡_, sym, ap, _∙_}
+use mathlib.Core.Path.{_≡_, sym, ap, _∙_, subst}
 use mathlib.Core.Bool.{Bool, true, false, true≢false}
 use mathlib.Core.List.{List}
 use Prim.Native.Nat.{ℕ, _*_, _/_, _^_, _<_}
@@ -24,8 +24,8 @@ module _ {words corners table : List ℕ} (k : Fitted words corners table) where
   room = record { triples = fitting .corner-threes; few = fitting .few-corners; long = k .long }
 
   -- a count of points fits 16 bits
-  pub points-fit : limits.words < 3 * 2 ^ 16 → Fits w16 (length words / 3)
-  points-fit s = record { fits = omega (arith, fitting .few-words) }
+  pub points-fit : {n : ℕ} → n ≡ length words / 3 → limits.words < 3 * 2 ^ 16 → Fits w16 n
+  points-fit e s = record { fits = omega (arith, fitting .few-words) }
 
 -- a refusal is not `Done`
 not-done : {a : Answer} → refusing a ≡ true → a ≡ Done → ⊥
@@ -40,6 +40,10 @@ past-buffers : (words corners lent needs : List ℕ) → refusing (bufferRefusal
 unfolding contentRefusal
 past-buffers words corners lent needs f = then-next (bufferRefusal lent needs) _ f
 
+-- the corners were checked by the count of points
+by-points : {corners table : List ℕ} {a : Answer} {n m : ℕ} → n ≡ m → CornersChecked corners n a table → CornersChecked corners m a table
+by-points {corners} {table} {a} e k = subst (λ (x : ℕ). CornersChecked corners x a table) e k
+
 module _ {words corners lent needs : List ℕ} {b : Answer} {t : Bool} (eb : b ≡ bufferRefusal lent needs) (tb : t ≡ refusing b) where
   pub buffers-refuse : {table : List ℕ} → t ≡ true → Checked words corners lent needs b table
   unfolding contentRefusal
@@ -48,15 +52,15 @@ module _ {words corners lent needs : List ℕ} {b : Answer} {t : Bool} (eb : b �
     passed = λ d. absurd (not-done (sym tb ∙ r) d);
   }
 
-  module _ {a : Answer} {u : Bool} {table : List ℕ} (fb : t ≡ false) (k : CornersChecked corners (length words / 3) a table) (ta : u ≡ refusing a) where
+  module _ {a : Answer} {u : Bool} {table : List ℕ} {n : ℕ} (fb : t ≡ false) (points : n ≡ length words / 3) (checked : CornersChecked corners n a table) (ta : u ≡ refusing a) where
     pub corners-refuse : u ≡ true → Checked words corners lent needs a table
-    corners-refuse r = record {
+    corners-refuse r = let k = by-points points checked in record {
       said = k .said ∙ sym (past-buffers words corners lent needs (told-of eb tb fb) ∙ then-refused (cornerRefusal corners (length words / 3)) _ (told-of (k .said) ta r));
       passed = λ d. absurd (not-done (sym ta ∙ r) d);
     }
 
     pub words-decide : {w : Answer} → u ≡ false → w ≡ wordRefusal words → Checked words corners lent needs w table
-    words-decide f e = record {
+    words-decide f e = let k = by-points points checked in record {
       said = e ∙ sym (past-buffers words corners lent needs (told-of eb tb fb) ∙ then-next (cornerRefusal corners (length words / 3)) _ (told-of (k .said) ta f));
       passed = λ d. record {
         long = buffers-long lent needs (done-of (bufferRefusal lent needs) (buffer-passing lent needs) (told-of eb tb fb));

@@ -1,23 +1,29 @@
--- A loop's patch is what is listed of the whole loop as one stretch, and it weighs the least weight that was found.
+-- A loop's patch is what is listed of the whole loop as one stretch, and it weighs what its triangles do as they stand in the buffer.
 use mathlib.Core.Path.{_≡_, refl, sym, ap, _∙_, subst}
 use mathlib.Core.Logic.{inl, inr}
 use mathlib.Core.Bool.{Bool}
-use mathlib.Core.List.{List, [], _∷_}
-use Prim.Native.Nat.{ℕ, _-_}
+use mathlib.Core.List.{List, [], _∷_, _++_}
+use Prim.Native.Nat.{ℕ, _+_, _-_, _*_, _≤_}
 use native.Mathlib.Omega.{arith}
 use lib.IntN.{ℤ}
-use lib.ListN.{length}
+use lib.ListN.{length, take, drop}
+use lib.Seq.{take-at, drop-at, length-take-le}
 use lib.Ieee.{Float}
 use Rattle.surface_rules.specs.Buffers.{laid}
-use Rattle.cover_rules.specs.Covers.{Cover, empty, apex, triangles, cornersOf, vertexOf, patchOf}
+use Rattle.surface_rules.specs.Threes.{threes}
+use Rattle.surface_rules.proofs.Laws.Laid.{laid-length}
+use Rattle.cover_rules.specs.Covers.{Cover, empty, apex, Patch, triangles, cornersOf, vertexOf, patchOf}
 use Rattle.cover_rules.specs.Workings.Least as covers
 use Rattle.cover_rules.proofs.Laws.Best.{patch-unique}
-use Rattle.cover_rules.proofs.Laws.Least.{patch-least, patch-weighs}
+use Rattle.cover_rules.proofs.Laws.Corners.{patch-length}
+use Rattle.cover_rules.proofs.Laws.Least.{patch-least}
 use Rattle.cover_rules.proofs.Laws.Steps.{patched, Patched}
 use Rattle.cover_weight.specs.Weight.{weightOf}
 use Rattle.cover_weight.specs.Edition.{naturals, triOf, along}
 use Rattle.cover_weight.proofs.Laws.Naturals.{naturals-lawful}
 use Rattle.cover_weight.proofs.Laws.Named.{named-on-grid}
+use Rattle.cover_weigh.specs.Workings.Weighing.{setWeight, WeighRoom}
+use Rattle.cover_weigh.proofs.Laws.Patches.{patch-weight, patch-room}
 use Rattle.cover_table.specs.declared.Least.{Least}
 use Rattle.cover_table.specs.declared.Least.the-variants.{Weight, Nothing}
 use Rattle.cover_table.specs.Workings.Table.{OnLoop}
@@ -29,6 +35,25 @@ use Rattle.cover_trace.specs.Workings.Patches.{LaysIf, LaysPatch, FindsLeast}
 use Rattle.cover_four.specs.Workings.Fours.{FourRoom}
 use Rattle.cover_four.proofs.Laws.Fours.{four-there}
 use Rattle.cover_lay.specs.Workings.Patches.{PatchRoom, ThreeRoom, LaysThree}
+
+-- ---- what is laid stands in its place
+
+-- the part of a list from p to q, as it is lent
+abbrev part : ℕ → ℕ → List ℕ → List ℕ
+part p q l = take (q - p) (drop p l)
+
+part-laid : (p q : ℕ) (xs w : List ℕ) → p ≤ length w → q ≡ p + length xs → part p q (laid p xs w) ≡ xs
+unfolding laid
+part-laid p q xs w l e =
+    ap (take (q - p)) (drop-at (take p w) (xs ++ drop (p + length xs) w) p (length-take-le p w l))
+    ∙ take-at xs (drop (p + length xs) w) (q - p) (omega arith)
+
+-- the loop's patch stands in the buffer from p to q
+record Stood (grid : List ℤ) (ring : List ℕ) (barred : ℕ → ℕ → Bool) (buffer : List ℕ) (p q : ℕ) (buffer′ : List ℕ) : Type 0 where
+  cover : Cover
+  patch : Patch naturals (triOf (along grid ring)) barred 0 (length ring - 1) cover
+  lay : buffer′ ≡ laid p (patchOf ring cover) buffer
+  stands : part p q buffer′ ≡ patchOf ring cover
 
 -- ---- the patch of a loop
 
@@ -56,27 +81,51 @@ module _ {grid : List ℤ} {ring bars : List ℕ} {table : List Float} {buffer :
       room = omega (arith, r .loop .some, r .room);
     }
 
-    pub lays-some : {o : ℕ} {buffer′ : List ℕ} → ListsPatch table′ ring buffer p 0 (length ring - 1) o buffer′ → LaysPatch grid ring bars buffer p least buffer′
-    lays-some {o} {buffer′} l barred b =
-        subst (λ (x : Least). LaysIf grid ring barred buffer p x buffer′) (sym e) (go (patched naturals naturals-lawful (triOf (along grid ring)) barred 0 (length ring - 1) (x .low)))
-      where
-        x : Weighed (along grid ring) barred (length ring) table′ 0 (length ring - 1) w
-        x = weighed barred b
+    module _ {o : ℕ} {buffer′ : List ℕ} (l : ListsPatch table′ ring buffer p 0 (length ring - 1) o buffer′) where
+      -- the patch by whatever bars these rows are, and where it stands
+      stood : (barred : ℕ → ℕ → Bool) → Barring barred ring bars → Stood grid ring barred buffer p o buffer′
+      stood barred b = go (patched naturals naturals-lawful (triOf (along grid ring)) barred 0 (length ring - 1) (x .low))
+        where
+          x : Weighed (along grid ring) barred (length ring) table′ 0 (length ring - 1) w
+          x = weighed barred b
 
-        go : Patched naturals (triOf (along grid ring)) barred 0 (length ring - 1) → LaysIf grid ring barred buffer p (Weight w) buffer′
-        go (inl (c, q)) = (
-          c,
-          q,
-          sym (patch-weighs naturals naturals-lawful (triOf (along grid ring)) barred 0 (length ring - 1) w c (x .least) q),
-          l .1 (along grid ring) barred (length ring) w x c q,
-        )
-        go (inr n) = absurd (n (x .least .cover) (x .least .among))
+          go : Patched naturals (triOf (along grid ring)) barred 0 (length ring - 1) → Stood grid ring barred buffer p o buffer′
+          go (inl (c, q)) =
+              let n : length (patchOf ring c) ≡ 3 * (length ring - 2) = patch-length ring c (q .among .covers) in
+              let k : o ≡ p + 3 * (length ring - 1 - 0 - 1) = l .0 in
+              let i : buffer′ ≡ laid p (patchOf ring c) buffer = l .1 (along grid ring) barred (length ring) w x c q in
+              record {
+                cover = c;
+                patch = q;
+                lay = i;
+                stands = ap (part p o) i ∙ part-laid p o (patchOf ring c) buffer (omega (arith, r .room)) (omega arith);
+              }
+          go (inr n) = absurd (n (x .least .cover) (x .least .among))
+
+      pub listed-from : p ≤ o
+      listed-from = let k : o ≡ p + 3 * (length ring - 1 - 0 - 1) = l .0 in omega arith
+
+      pub listed-in : o ≤ length buffer′
+      listed-in =
+          let s = stood (r .loop .barred) (r .loop .barring) in
+          let n : length (patchOf ring (s .cover)) ≡ 3 * (length ring - 2) = patch-length ring (s .cover) (s .patch .among .covers) in
+          let k : o ≡ p + 3 * (length ring - 1 - 0 - 1) = l .0 in
+          let m : length buffer′ ≡ length buffer = ap length (s .lay) ∙ laid-length p buffer (patchOf ring (s .cover)) (omega (arith, r .room)) in
+          omega (arith, r .room)
+
+      pub weigh-room : WeighRoom grid (part p o buffer′)
+      weigh-room =
+          let s = stood (r .loop .barred) (r .loop .barring) in
+          subst (WeighRoom grid) (sym (s .stands)) (patch-room grid ring (r .loop .on .coordinates) (r .loop .on .named) (r .loop .on .few) (s .cover) (s .patch .among .covers))
+
+      pub lays-some : {v : ℕ} → v ≡ setWeight grid (threes (part p o buffer′)) → LaysPatch grid ring bars buffer p (Weight v) buffer′
+      lays-some h barred b =
+          let s = stood barred b in
+          (s .cover, s .patch, h ∙ ap (λ (t : List ℕ). setWeight grid (threes t)) (s .stands) ∙ patch-weight grid ring (s .cover), s .lay)
 
   -- nothing was found
-  pub lays-none : least ≡ Nothing → LaysPatch grid ring bars buffer p least buffer
-  lays-none e barred b =
-      subst (λ (x : Least). LaysIf grid ring barred buffer p x buffer) (sym e)
-      (subst (LeastIs grid ring barred) e (f barred b .0), refl)
+  pub lays-none : least ≡ Nothing → LaysPatch grid ring bars buffer p Nothing buffer
+  lays-none e barred b = (subst (LeastIs grid ring barred) e (f barred b .0), refl)
 
 -- ---- two answers for one loop are equal
 

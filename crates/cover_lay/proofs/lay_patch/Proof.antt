@@ -1,6 +1,8 @@
--- `lay_patch` lists the whole loop as one stretch, if a least weight was found; of four it knows both covers.
+-- `lay_patch` lists the whole loop as one stretch, if a least weight was found, and weighs what it listed; of four it knows both covers.
+use Prim.Native.Nat.{_≤_}
+use native.Mathlib.Omega.{arith}
 use borrow.Author.Needs.{needs}
-use Rattle.cover_lay.proofs.Laws.Patches.{list-room, lays-some, lays-none, four-room}
+use Rattle.cover_lay.proofs.Laws.Patches.{list-room, listed-from, listed-in, weigh-room, lays-some, lays-none, four-room}
 use Rattle.cover_lay.proofs.lay_patch.Statement.{statement}
 use Rattle.cover_lay.proofs.lay_patch.Tie as tie
 
@@ -14,6 +16,29 @@ found l = search
 abbrev told : tie.After-list → tie.After-enum-told
 told l = search
 
+from : (l : tie.After-list) → entry (found l) .args .p ≤ l .list .result
+from l = let w = found l in listed-from (entry w .pre) _ (w .least-weight .ensures) (told l .enum-told .given .1) (l .list .ensures)
+
+part-end : tie.Need-part-weigh-set-end
+part-end c =
+    let l : tie.After-list = search in
+    let w = found l in
+    omega (arith, from l, listed-in (entry w .pre) _ (w .least-weight .ensures) (told l .enum-told .given .1) (l .list .ensures))
+
+-- what was listed is lent to be weighed,
+weigh-requires : tie.Need-weigh-set-requires
+weigh-requires c κs =
+    let l : tie.After-list = search in
+    let w = found l in
+    weigh-room (entry w .pre) _ (w .least-weight .ensures) (told l .enum-told .given .1) (l .list .ensures)
+
+-- and its weight is told
+weighed : tie.Need-returns-3
+weighed c =
+    let l : tie.After-list = search in
+    let w = found l in
+    lays-some (entry w .pre) _ (w .least-weight .ensures) (told l .enum-told .given .1) (l .list .ensures) (c .weigh-set .ensures)
+
 pub lay-patch-spec : {M : Type 1} → statement M
 lay-patch-spec =
     tie.close
@@ -24,10 +49,15 @@ lay-patch-spec =
     (λ c κs. search needs)
     (λ c. search needs)
     (λ c. search needs)
+    (λ c. search needs)
+    (λ c. search lays-none)
+    (λ c. search needs)
     (λ c κs. search list-room)
+    (λ c. let l : tie.After-list = search in omega (arith, entry (found l) .pre .room, entry (found l) .good))
+    (λ c. omega (arith, from (search)))
+    (λ c. omega (arith, from (search)))
+    part-end
+    weigh-requires
     (λ c. search needs)
     (λ c. search needs)
-    (λ c. search needs)
-    (λ c. let l : tie.After-list = search in let w = found l in lays-some (entry w .pre) _ (w .least-weight .ensures) (told l .enum-told .given .1) (l .list .ensures))
-    (λ c. search needs)
-    (λ c. search lays-none))
+    weighed)

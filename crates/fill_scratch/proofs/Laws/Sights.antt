@@ -1,13 +1,24 @@
 -- Loops of three, long ones and rims, one after the other.
-use mathlib.Core.Path.{_≡_}
+use mathlib.Core.Path.{_≡_, sym, _∙_}
+use mathlib.Core.Bool.{Bool, true, false}
 use mathlib.Core.Logic.{inl, inr}
 use mathlib.Core.List.{List}
 use Prim.Native.Nat.{ℕ, _+_, _≤_, _<_}
 use native.Mathlib.Omega.{arith}
+use lib.Dec.{ltb}
 use lib.ListN.{length, getD}
 use borrow.Author.Count.{below-more}
+use borrow.Author.Tests.{ltb-true, ltb-false}
 use Rattle.base_limits.specs.Limits as limits
 use Rattle.fill_scratch.specs.Workings.Rings.{rimMark, SightAt, AtSight}
+
+-- what the test of a loop of n edges says
+module _ {n length : ℕ} {t : Bool} (edges : length ≡ n) (test : t ≡ ltb limits.longest length) where
+  pub told-long : t ≡ true → limits.longest < n
+  told-long e = omega (arith, edges, ltb-true limits.longest length (sym test ∙ e))
+
+  pub told-short : t ≡ false → n ≤ limits.longest
+  told-short e = omega (arith, edges, ltb-false limits.longest length (sym test ∙ e))
 
 -- those below l are
 pub record SightBelow (lengths marks : List ℕ) (l : ℕ) : Type 0 where

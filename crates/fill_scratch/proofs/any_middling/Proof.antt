@@ -1,5 +1,5 @@
 -- `any_middling` looks at each length.
-use Rattle.fill_scratch.proofs.Laws.Sights.{SightBelow, sight-none, sight-three, sight-long, sight-rim, sight-all}
+use Rattle.fill_scratch.proofs.Laws.Sights.{SightBelow, sight-none, sight-three, sight-long, told-long, sight-rim, sight-all}
 use lib.ListN.{length}
 use mathlib.Core.Bool.{true≢false}
 use Prim.Native.Nat.{_-_}
@@ -21,13 +21,15 @@ any-middling-spec =
     (λ c. sight-none)
     (λ c. search needs)
     (λ c. search needs)
-    (λ c. omega (arith, c .shared-slice-known .given (c .before .before .loop .l)))
+    (λ c. let k : tie.After-shared-slice-known Inv-loop μ-loop = search in let t : tie.In-loop Inv-loop μ-loop = search in omega (arith, k .shared-slice-known .given (t .before .loop .l)))
     (λ c. search needs)
     (λ c. search needs)
     (λ c. search sight-three)
+    (λ c κs. search needs)
+    (λ c κs. search needs)
     (λ c. search needs)
     (λ c. search needs)
-    (λ c. search sight-long)
+    (λ c. search (sight-long, told-long))
     (λ c. search needs)
     (λ c. search needs)
     (λ c. search needs)

@@ -28,6 +28,7 @@ place-spec =
     (λ c. number _ (λ e. absurd (omega (arith, c .if1 .left))))
     (λ c κs. search needs)
     (λ c κs. search needs)
+    (λ c κs. search needs)
     (λ c.
     let after-holds : tie.After-holds = search in
     let h = (to-else1-2 after-holds) .if1 .left in too-far _ h _ (held _ h _ (to-after-nearest after-holds .nearest .ensures))

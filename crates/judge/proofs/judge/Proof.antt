@@ -1,5 +1,6 @@
 -- `judge` refuses by the counts, or hands on what they let pass.
 use mathlib.Core.Path.{sym, _∙_}
+use native.Mathlib.Omega.{arith}
 use borrow.Author.Needs.{needs}
 use Rattle.surface_rules.proofs.Laws.Deciding.{counts-pass}
 use Rattle.survey_rules.specs.Outcome.{buffers}
@@ -27,10 +28,12 @@ judge-spec =
     let after-refuses = to-after-refuses c in let after-check-counts = to-after-check-counts after-refuses in let start = to-start after-check-counts in
     counts-refuse _ _ _ _ (buffers (start .args .grid .now) (start .args .rings .now) (start .args .lengths .now)) _ _ (c .refused .ensures)
     (after-check-counts .check-counts .ensures) (sym (after-refuses .refuses .ensures) ∙ c .before .if1 .taken))
+    (λ c κs. search needs)
     (λ c κs.
-    let after-refuses : tie.After-refuses = search in let else1 : tie.Else1 = search in let then2 : tie.Then2 = search in let then3 : tie.Then3 = search in (
+    let after-refuses : tie.After-refuses = search in let else1 : tie.Else1 = search in let after-of : tie.After-of = search in
+    let then2 : tie.Then2 = search in let then3 : tie.Then3 = search in (
       counts-pass _ _ _ (to-after-check-counts after-refuses .check-counts .ensures) (sym (after-refuses .refuses .ensures) ∙ else1 .if1 .left),
-      then2 .if2 .taken,
+      omega (arith, after-of .of .ensures .0, then2 .if2 .taken),
       then3 .if3 .taken,
     ))
     (λ c. search needs)

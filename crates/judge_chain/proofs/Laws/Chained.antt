@@ -13,11 +13,12 @@ use Rattle.cover_rules.proofs.Laws.Listed.{in-left, in-right, in-cases}
 use Rattle.cover_bars.specs.Workings.Chains.{Edge, edgeOf, firsts, ChainRoom, ChainDone}
 use Rattle.cover_bars.proofs.Laws.Chaining.{Behind, behind-none, behind-room, behind-more, behind-tells}
 use Rattle.cover_bars.proofs.Laws.Triples.{firsts-append, firsts-length}
+use Rattle.cover_weigh.specs.Workings.Triples.{tripleAt}
+use Rattle.cover_weigh.proofs.Laws.Passed.{Passed, passed-none, passed-room, passed-all, passed-more}
 use Rattle.judge_seat.specs.declared.Seat.{Seat}
 use Rattle.judge_seat.specs.declared.Seat.the-variants.{Of, Not}
-use Rattle.judge_seat.specs.Workings.Seats.{SeatOf, SeatFound, tripleAt}
+use Rattle.judge_seat.specs.Workings.Seats.{SeatOf, SeatFound}
 use Rattle.judge_seat.proofs.Laws.Places.{different}
-use Rattle.judge_seat.proofs.Laws.Passed.{Passed, passed-none, passed-room, passed-all, passed-more}
 use Rattle.judge_seat.proofs.Laws.Seated.{seatless}
 use Rattle.judge_chain.specs.Workings.Chaining.{CoverRoom, CoverChained}
 use Rattle.judge_chain.proofs.Laws.Joined.{Seats, seats-same}

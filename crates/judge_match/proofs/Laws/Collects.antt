@@ -8,12 +8,13 @@ use lib.ListN.{length, getD, set, length-set}
 use Rattle.base_limits.specs.Limits as limits
 use Rattle.cover_rules.specs.Covers.{Triangle, vertexOf}
 use Rattle.cover_bits.specs.Workings.Masks.{bit}
+use Rattle.cover_weigh.specs.Workings.Triples.{Threes, tripleAt}
+use Rattle.cover_weigh.proofs.Laws.Passed.{Passed, passed-none, passed-room, passed-all, passed-more}
 use Rattle.judge_seat.specs.declared.Seat.{Seat}
 use Rattle.judge_seat.specs.declared.Seat.the-variants.{Of, Not}
-use Rattle.judge_seat.specs.Workings.Seats.{Ringed, Threes, SeatOf, SeatFound, tripleAt}
+use Rattle.judge_seat.specs.Workings.Seats.{Ringed, SeatOf, SeatFound}
 use Rattle.judge_seat.proofs.Laws.Places.{different}
 use Rattle.judge_seat.proofs.Laws.Seated.{seatless}
-use Rattle.judge_seat.proofs.Laws.Passed.{Passed, passed-none, passed-room, passed-all, passed-more}
 use Rattle.judge_match.specs.Workings.Rows.{Held, Collects}
 use Rattle.judge_match.proofs.Laws.Rows.{held-more}
 

@@ -3,7 +3,7 @@
 use mathlib.Core.Path.{_≡_, refl, sym, _∙_, subst}
 use mathlib.Core.Bool.{Bool}
 use mathlib.Core.List.{List}
-use Prim.Native.Nat.{ℕ, _-_, _*_, _<_, _≤_}
+use Prim.Native.Nat.{ℕ, _-_, _<_, _≤_}
 use native.Mathlib.Omega.{arith}
 use lib.IntN.{ℤ}
 use lib.Ieee.{Float}
@@ -14,13 +14,11 @@ use Rattle.base_limits.specs.Limits as limits
 use Rattle.base_limits.specs.States as stated
 use Rattle.surface_rules.specs.Threes.{threes}
 use Rattle.cover_rules.specs.Covers.{Cover, Allowed}
-use Rattle.cover_weight.specs.Weight.{Coordinates}
 use Rattle.cover_bits.specs.Workings.Masks.{Rows}
 use Rattle.cover_bars.specs.Bars.{barred}
+use Rattle.cover_weigh.specs.Workings.Triples.{Threes}
+use Rattle.cover_weigh.specs.Workings.Weighing.{setWeight, WeighRoom}
 use Rattle.judge_seat.specs.Workings.Covering.{Covering}
-use Rattle.judge_seat.specs.Workings.Seats.{Threes}
-use Rattle.judge_weigh.specs.Workings.Weighing.{setWeight, AllNamed}
-use Rattle.judge_weigh.proofs.Laws.Weighing.{cover-weight, cover-named}
 use Rattle.judge_match.specs.declared.Match.{Match}
 use Rattle.judge_match.specs.declared.Match.the-variants as matched
 use Rattle.judge_match.specs.Workings.Matching.{Matches}
@@ -34,6 +32,7 @@ use Rattle.judge_rules.specs.Faults.{share, IsCover, patched, no-cover, cover-b
 use Rattle.judge_rules.proofs.Laws.Declared.{declared-patched}
 use Rattle.judge_sight.specs.Workings.Findings.{right, fault}
 use Rattle.judge_part.specs.Workings.Parts.{PartRoom, FindsCover, WeightRoom, FindsWeight}
+use Rattle.judge_part.proofs.Laws.Covered.{cover-weight, cover-named}
 
 -- the part at the set's front is a cover
 part-cover : {ring part set : List ℕ} {c : Cover} → share ring ≤ length set → part ≡ take (share ring) set → Covering ring (threes part) c → IsCover ring set c
@@ -56,14 +55,15 @@ module _ (grid : List ℤ) (ring part rows : List ℕ) (table : List Float) (roo
         table-long = room .table-long;
       }
 
-  pub weigh-room : Coordinates grid × AllNamed grid part × Threes part × (length part ≤ 3 * limits.longest)
+  pub weigh-room : WeighRoom grid part
   weigh-room =
-      let threes : Threes part = record { triangles = length ring - 2; threes = room .long } in (
-        room .on .coordinates,
-        cover-named grid ring part (room .cover) (room .on .named) threes (room .covering),
-        threes,
-        let n : length part ≡ share ring = room .long in let k : length ring ≤ limits.longest = room .on .few in omega arith,
-      )
+      let whole : Threes part = record { triangles = length ring - 2; threes = room .long } in
+      record {
+        coordinates = room .on .coordinates;
+        named = cover-named grid ring part (room .cover) (room .on .named) whole (room .covering);
+        whole = whole;
+        few = let n : length part ≡ share ring = room .long in let k : length ring ≤ limits.longest = room .on .few in omega arith;
+      }
 
   module _ (l : ℕ) (least : Least) (found : FindsLeast grid ring rows least) where
     least-is : (r : Least) → least ≡ r → (input before : List ℕ) → Barring (barred input before ring) ring rows → LeastIs grid ring (barred input before ring) r

@@ -1,5 +1,5 @@
 -- What the code finds of each triangle of a set: its seat, its positions turned so that the third lies between the other two.
-use Prim.Native.Nat.{ℕ, _+_, _*_, _<_, _≤_}
+use Prim.Native.Nat.{ℕ, _<_, _≤_}
 use mathlib.Core.Path.{_≡_}
 use mathlib.Core.List.{List}
 use lib.ListN.{length, getD}
@@ -8,6 +8,7 @@ use Rattle.cover_rules.specs.Covers.{Triangle, on, vertexOf}
 use Rattle.cover_rules.specs.Sets.{Alike, named}
 use Rattle.cover_rules.specs.Workings.Matching.{Seated}
 use Rattle.cover_bars.specs.Workings.Chains.{Stamped}
+use Rattle.cover_weigh.specs.Workings.Triples.{tripleAt}
 use Rattle.judge_seat.specs.declared.Seat.{Seat}
 use Rattle.judge_seat.specs.declared.Seat.the-variants.{Of, Not}
 
@@ -41,18 +42,7 @@ abbrev pub SeatOf : ℕ → (ℕ → ℕ) → Triangle → Seat → Type 0
 SeatOf n vertex t (Of i k m) = Seated n (on i k m) × Alike t (named vertex (on i k m))
 SeatOf n vertex t Not = (u : Triangle) → Seated n u → Alike t (named vertex u) → ⊥
 
--- the triangle whose corners stand from q on
-abbrev pub tripleAt : List ℕ → ℕ → Triangle
-tripleAt set q = on (getD set q 0) (getD set (q + 1) 0) (getD set (q + 2) 0)
-
--- its seat, whatever ring has these stamps
+-- the seat of the triangle whose corners stand from q on, whatever ring has these stamps
 pub record SeatFound (set : List ℕ) (q : ℕ) (stamps : List ℕ) (base : ℕ) (r : Seat) : Type 0 where
   pub fits : Fits r
   pub seat : (ring : List ℕ) → Ringed ring base stamps → SeatOf (length ring) (vertexOf ring) (tripleAt set q) r
-
--- ---- a set
-
--- the list has three numbers for each of so many triangles
-pub record Threes (set : List ℕ) : Type 0 where
-  pub triangles : ℕ
-  pub threes : length set ≡ 3 * triangles

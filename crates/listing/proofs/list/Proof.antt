@@ -2,20 +2,21 @@
 use borrow.Author.Needs.{needs}
 use Rattle.surface_rules.proofs.Laws.Lists.{as-long}
 use Rattle.patch_surface.specs.Outcome.{buffers, outcome}
-use Rattle.program_list.proofs.Laws.Left.{LeftListed, lists-listed}
+use Rattle.program_list.proofs.Laws.Left.{LeftListed, room-listed}
 use Rattle.listing.proofs.list.Statement.{statement}
 use Rattle.listing.proofs.list.Tie as tie
 
-left : (k : tie.After-list) → let l = k .list .last .1 in
-    LeftListed (outcome (k .list .result) (buffers (l .0) (l .1 .0) (l .1 .1 .0) (l .1 .1 .1 .0) (l .1 .1 .1 .1 .0) (l .1 .1 .1 .1 .1 .0)))
-left k = lists-listed (k .list .ensures)
+abbrev entry : tie.After-list-room → tie.Start
+entry k = search
+
+left : (k : tie.After-list-room) → let l = k .list-room .last .1 in
+    LeftListed (outcome (k .list-room .result) (buffers (l .0) (l .1 .0) (l .1 .1 .0) (l .1 .1 .1 .0) (l .1 .1 .1 .1 .0) (l .1 .1 .1 .1 .1 .0)))
+left k = room-listed (entry k .pre .1) (k .list-room .ensures)
 
 pub list-spec : {M : Type 1} → statement M
 list-spec =
     tie.close
     (tie.spec
-    (λ c. search needs)
-    (λ c. search as-long)
     (λ c. search needs)
     (λ c. search needs)
     (λ c. search needs)

@@ -28,9 +28,9 @@ pub quiet-join : (turns : List ℕ) (h i j : ℕ) → Quiet turns h i → Quiet 
 unfolding Quiet
 quiet-join turns h i j a b k l m = ⊎-elim (λ (d : k < i). a k l d) (λ (d : i ≤ k). b k d m) (lt-or-le k i)
 
--- the next that leads lies after one that does not
-pub quiet-after : (turns : List ℕ) (h i : ℕ) → Quiet turns h i → getD turns h 0 < openMark → openMark ≤ getD turns i 0 → h ≤ i → h < i
-quiet-after turns h i q l m w = ⊎-elim (λ (e : h ≡ i). absurd (let b : getD turns i 0 < openMark = subst (λ (z : ℕ). getD turns z 0 < openMark) e l in omega arith)) (λ (d : h < i). d) (eq-or-lt-of-le w)
+-- one that does not lead, before what is quiet
+pub quiet-before : (turns : List ℕ) (h i : ℕ) → getD turns h 0 < openMark → Quiet turns (h + 1) i → Quiet turns h i
+quiet-before turns h i l q = quiet-join turns h (h + 1) i (quiet-more turns h h (quiet-none turns h) l) q
 
 -- while all were quiet
 pub all-quiet : (turns : List ℕ) (h i : ℕ) (all : Bool) → (all ≡ true → Quiet turns h i) → (all && ltb (getD turns i 0) openMark) ≡ true → Quiet turns h (i + 1)

@@ -1,5 +1,6 @@
 -- `patch` refuses by the counts, or hands on what they let pass.
 use mathlib.Core.Path.{_≡_, sym, _∙_}
+use native.Mathlib.Omega.{arith}
 use lib.ListN.{length}
 use borrow.Author.Needs.{needs}
 use Rattle.base_answers.specs.declared.Answer.the-variants.{Done}
@@ -42,7 +43,12 @@ patch-spec =
     (λ c κs. tt)
     (λ c κs. tt)
     returns
-    (λ c κs. let p : tie.Then2 = search in let q : tie.Then3 = search in (passed (search), p .if2 .taken, q .if3 .taken))
+    (λ c κs. tt)
+    (λ c κs.
+    let o : tie.After-of = search in
+    let p : tie.Then2 = search in
+    let q : tie.Then3 = search in
+    (passed (search), omega (arith, o .of .ensures .0, p .if2 .taken), q .if3 .taken))
     (λ c. search needs)
     (λ c. search needs)
     (λ c. search needs)

@@ -1,5 +1,6 @@
 -- `patch_loop` goes by how long the loop is.
 use borrow.Author.Needs.{needs}
+use Rattle.fill_scratch.proofs.Laws.Sights.{told-long, told-short}
 use Rattle.patch_loop.proofs.Laws.Takes.{three-of, takes-three, takes-long}
 use Rattle.patch_loop.proofs.patch_loop.Statement.{statement}
 use Rattle.patch_loop.proofs.patch_loop.Tie as tie
@@ -12,8 +13,10 @@ patch-loop-spec =
     (λ c. search needs)
     (λ c. search takes-three)
     (λ c κs. search needs)
-    (λ c. search takes-long)
     (λ c κs. search needs)
+    (λ c κs. search needs)
+    (λ c. search (takes-long, told-long))
+    (λ c κs. search (needs, told-short))
     (λ c. search needs)
     (λ c. search needs)
     (λ c. search needs)

@@ -1,7 +1,7 @@
 -- From what a sheet was taken in from to what is answered on its text.
 use mathlib.Core.Path.{_≡_, sym, ap, _∙_}
 use mathlib.Core.List.{List}
-use Prim.Native.Nat.{ℕ, _+_, _*_, _/_, _≤_}
+use Prim.Native.Nat.{ℕ, _+_, _*_, _/_, _<_, _≤_}
 use native.Mathlib.Omega.{arith}
 use lib.ListN.{length, take}
 use lib.Seq.{length-take-le}
@@ -23,12 +23,29 @@ use Rattle.text_sheet.specs.Sheet.{points, triangles}
 use Rattle.text_sheet.specs.Workings.Parse.{parse}
 use Rattle.text_sheet.proofs.Laws.Texts.{parse-text, fault-only}
 use Rattle.text_read.proofs.Laws.Deliver as deliver
-use Rattle.program_judge.specs.Workings.Taken.{Taken, HearsTaken, HearsSet}
+use Rattle.program_judge.specs.Hears.{Hears}
+use Rattle.program_judge.specs.Workings.Taken.{Taken, TakenIn, HearsTaken, HearsSet}
+use Rattle.program_judge.proofs.Theorems.{hears-front}
+
+-- a sheet is taken in from the first n bytes of a room
+pub taken-from : (room : List ℕ) (n : ℕ) {scan : Scan} {words corners : List ℕ} (words-before corners-before : List ℕ)
+    → Scanned flat flat (parse (take n room)) scan words corners words-before corners-before → limits.sheet-text < length room → Taken scan words corners
+taken-from room n words-before corners-before s roomy =
+    (room, n, record { roomy = roomy; words-before = words-before; corners-before = corners-before; scanned = s })
+
+-- what is answered on the bytes from which a sheet was taken in, and on others
+abbrev HearsBytes : Scan → List ℕ → List ℕ → List ℕ → Answer → Type 0
+HearsBytes scan words corners patches a = (room : List ℕ) (n : ℕ) → TakenIn room n scan words corners → Hears (take n room) patches a
+
+-- so on the inputs that were read into the rooms
+hears-inputs : {scan : Scan} {words corners : List ℕ} (held : List ℕ) (m : ℕ) {a : Answer} → limits.set-text < length held → HearsBytes scan words corners (take m held) a → HearsTaken scan words corners held m a
+unfolding HearsTaken
+hears-inputs held m more-roomy h = λ room n t sheet patches in-room in-held. hears-front (t .roomy) more-roomy in-room in-held (h room n t)
 
 -- a text with a fault
-pub wrong-hears : (scan : Scan) (words corners patches : List ℕ) (line : ℕ) → scan ≡ Wrong line → HearsTaken scan words corners patches (Line line)
-unfolding HearsTaken Scanned
-wrong-hears scan words corners patches line e t =
+wrong-bytes : (scan : Scan) (words corners patches : List ℕ) (line : ℕ) → scan ≡ Wrong line → HearsBytes scan words corners patches (Line line)
+unfolding Scanned
+wrong-bytes scan words corners patches line e room n t =
     record {
       of-fault = λ l f. let h : scan ≡ Wrong l = rw (fault-only f) at (t .scanned) in let d : line ≡ l = cc in ap Line d;
       of-set-fault = λ ps ts x l f. absurd (none ps ts (rw (parse-text x) at (t .scanned)));
@@ -38,11 +55,14 @@ wrong-hears scan words corners patches line e t =
     none : (ps ts : List Three) → Scanned flat flat (said ps ts) scan words corners (t .words-before) (t .corners-before) → ⊥
     none ps ts h = whole-wrong (sym (h .0) ∙ e)
 
+pub wrong-hears : (scan : Scan) (words corners held : List ℕ) (m line : ℕ) → limits.set-text < length held → scan ≡ Wrong line → HearsTaken scan words corners held m (Line line)
+wrong-hears scan words corners held m line more-roomy e = hears-inputs held m more-roomy (wrong-bytes scan words corners (take m held) line e)
+
 -- a whole text of n points and m triangles
 module _ {scan : Scan} {n m : ℕ} (e : scan ≡ Whole n m) where
   module _ {words corners : List ℕ} (t : Taken scan words corners) where
-    here : Kept flat flat parse (t .text) n m words corners (t .words-before) (t .corners-before)
-    here = kept flat flat parse (t .text) scan n m words corners (t .words-before) (t .corners-before) (t .scanned) e
+    here : let s = t .2 in Kept flat flat parse (take (t .1) (t .0)) n m words corners (s .words-before) (s .corners-before)
+    here = let s = t .2 in kept flat flat parse (take (t .1) (t .0)) scan n m words corners (s .words-before) (s .corners-before) (s .scanned) e
 
     pub words-small : Fits w64 (3 * n)
     words-small = omega (arith, deliver.few-points here)
@@ -70,9 +90,9 @@ module _ {scan : Scan} {n m : ℕ} (e : scan ≡ Whole n m) where
   lines-counted : (ps ts : List Three) → length (flat ps) / 3 + length (flat ts) / 3 + 2 ≡ length (lines points triangles ps ts)
   lines-counted ps ts = omega (arith, flat-length ps, flat-length ts, lines-length points triangles ps ts)
 
-  pub whole-hears : (words corners patches : List ℕ) (a : Answer) → HearsSet (take (3 * n) words) (take (3 * m) corners) patches a → HearsTaken scan words corners patches a
-  unfolding HearsTaken Scanned
-  whole-hears words corners patches a h t =
+  whole-bytes : (words corners patches : List ℕ) (a : Answer) → HearsSet (take (3 * n) words) (take (3 * m) corners) patches a → HearsBytes scan words corners patches a
+  unfolding Scanned
+  whole-bytes words corners patches a h room many t =
       record {
         of-fault = λ l f. absurd (whole-wrong (sym e ∙ rw (fault-only f) at (t .scanned)));
         of-set-fault = λ ps ts x l f.
@@ -86,3 +106,7 @@ module _ {scan : Scan} {n m : ℕ} (e : scan ≡ Whole n m) where
           let f : take (3 * n) words ≡ flat ps = front-of ps words (t .words-before) n (s .1) cc in
           let g : take (3 * m) corners ≡ flat ts = front-of ts corners (t .corners-before) m (s .2) cc in
           rw (f, g) at h
+
+  pub whole-hears : (words corners held : List ℕ) (k : ℕ) (a : Answer) → limits.set-text < length held
+      → HearsSet (take (3 * n) words) (take (3 * m) corners) (take k held) a → HearsTaken scan words corners held k a
+  whole-hears words corners held k a more-roomy h = hears-inputs held k more-roomy (whole-bytes words corners (take k held) a h)

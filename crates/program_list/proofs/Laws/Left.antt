@@ -5,7 +5,7 @@ use mathlib.Core.Logic.{inl, inr}
 use mathlib.Core.List.{List, [], _∷_, map, flatten}
 use Prim.Native.Nat.{ℕ, _<_, _≤_}
 use native.Mathlib.Omega.{arith}
-use lib.ListN.{length, getD, length-map, List·getD-map}
+use lib.ListN.{length, getD, take, length-map, List·getD-map}
 use Rattle.base_answers.specs.Numbers.{refusing}
 use Rattle.base_answers.specs.declared.Answer.{Answer}
 use Rattle.base_answers.specs.declared.Answer.the-variants.{Line}
@@ -27,10 +27,11 @@ use Rattle.fill_fates.proofs.Laws.Grows.{course-length}
 use Rattle.fill_fates.proofs.Laws.Lengths.{states-length, weights-length}
 use Rattle.patch_surface.specs.Outcome.{Buffers, Outcome, refused, done, lent, needs, PatchesIf, Patches}
 use Rattle.text_rules.proofs.Theorems.{Known}
+use Rattle.text_rules.proofs.Laws.Cut.{read-itself}
 use Rattle.text_sheet.specs.Sheet.{points, triangles}
 use Rattle.text_sheet.proofs.Laws.Texts.{text-or-fault}
 use Rattle.program_lines.specs.Workings.Telling.{Lying}
-use Rattle.program_list.specs.Lists.{Lists, loopsOf}
+use Rattle.program_list.specs.Lists.{Lists, ListsIn, loopsOf}
 use Rattle.program_list.specs.Workings.Printed.{used, LoopsIn}
 use Rattle.program_list.proofs.Laws.Shows.{loops-many, rings-shown, lengths-shown, states-shown, weights-shown, patches-shown, loops-fit}
 
@@ -146,3 +147,7 @@ lists-listed {bytes} {b} {o} l = go (text-or-fault bytes)
     go : Known points triangles bytes → LeftListed o
     go (inl t) = patches-listed (flat (t .0)) (flat (t .1)) b o (l .of-text (t .0) (t .1) (t .2))
     go (inr f) = subst LeftListed (sym (l .of-fault (f .0) (f .1))) (none-listed (Line (f .0)) b)
+
+-- so of what was read into a room
+pub room-listed : {room : List ℕ} {n : ℕ} {b : Buffers} {o : Outcome} → n ≤ length room → ListsIn room n b o → LeftListed o
+room-listed {room} {n} h l = lists-listed (l .due (take n room) (read-itself h))

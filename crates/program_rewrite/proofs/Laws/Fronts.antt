@@ -1,18 +1,14 @@
--- A line that was put over a buffer's start is read back from it, by a count within the buffer; and a start is no longer than the whole.
+-- A start is no longer than the whole, and what was laid over a buffer is no longer than it.
 use mathlib.Core.Path.{_≡_, ap, _∙_}
 use mathlib.Core.List.{List}
 use Prim.Native.Nat.{ℕ, _≤_}
 use native.Mathlib.Omega.{arith}
 use lib.ListN.{length, take, length-take}
-use Rattle.surface_rules.specs.Buffers.{over}
-use Rattle.surface_rules.proofs.Laws.Over.{start-of, front-in}
+use Rattle.surface_rules.proofs.Laws.Over.{front-in}
+use Rattle.program_rewrite.specs.Rewriting.{RewritesIn}
 
 pub start-within : (n : ℕ) (xs : List ℕ) → length (take n xs) ≤ length xs
 start-within n xs = omega (arith, length-take n xs)
 
-module _ (r : ℕ) (line after before : List ℕ) (h : after ≡ over line before) (k : r ≡ length line) where
-  pub line-front : take r after ≡ line
-  line-front = ap (take r) h ∙ start-of line before r k
-
-  pub line-within : r ≤ length after
-  line-within = front-in line before after r k h
+pub rewrites-within : {room room′ : List ℕ} {n r : ℕ} → RewritesIn room n r room′ → r ≤ length room′
+rewrites-within {room} {room′} {n} {r} p = front-in (p .out) room room′ r (p .many) (p .lies)

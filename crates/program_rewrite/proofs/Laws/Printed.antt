@@ -10,25 +10,56 @@ use Rattle.base_limits.specs.Limits as limits
 use Rattle.surface_rules.specs.Buffers.{over}
 use Rattle.surface_rules.specs.Threes.{flat}
 use Rattle.surface_rules.proofs.Laws.Over.{start-of}
+use Rattle.text_sheet.specs.Sheet.{text}
 use Rattle.text_read.specs.Outcome.{ReadOutcome, Reads}
 use Rattle.text_write.specs.declared.Written.{Written}
-use Rattle.text_write.specs.Outcome.{writeOutcome, writes}
+use Rattle.text_write.specs.Outcome.{WriteOutcome, writeOutcome, writeRefusal, writes}
 use Rattle.text_write.proofs.Laws.Again.{written-whole}
 use Rattle.program_lines.specs.Lines.{answerLine}
 use Rattle.program_rewrite.specs.Rewriting.{Rewrites, printed}
-use Rattle.program_rewrite.proofs.Laws.Fronts.{line-front}
 use Rattle.program_rewrite.proofs.Laws.Delivered.{read-whole, read-unnamed}
+
+-- what writing leaves: the buffer as it was, or what is printed laid over it
+module _ (words corners before : List ℕ) where
+  kept : refusing (writes words corners before .answer) ≡ true → writes words corners before .bytes ≡ before
+  unfolding writes
+  kept h = go (refusing (writeRefusal words corners before)) refl
+    where
+      go : (x : Bool) → refusing (writeRefusal words corners before) ≡ x → writes words corners before .bytes ≡ before
+      go true k = rw k refl
+      go false k = absurd (true≢false (sym (rw k at h)))
+
+  lies : refusing (writes words corners before .answer) ≡ false
+      → (writes words corners before .bytes ≡ over (printed (writes words corners before)) before) × (writes words corners before .count ≡ length (printed (writes words corners before)))
+  unfolding writes printed
+  lies h = go (refusing (writeRefusal words corners before)) refl
+    where
+      whole : take (length (text words corners)) (over (text words corners) before) ≡ text words corners
+      whole = start-of (text words corners) before (length (text words corners)) refl
+
+      go : (x : Bool) → refusing (writeRefusal words corners before) ≡ x
+          → (writes words corners before .bytes ≡ over (printed (writes words corners before)) before) × (writes words corners before .count ≡ length (printed (writes words corners before)))
+      go true k = absurd (true≢false (sym k ∙ (rw k at h)))
+      go false k = rw (k, whole) (refl, refl)
 
 -- after writing
 module _ (words corners before : List ℕ) {middle : List ℕ} (w : Written) {t : Bool} (e : writeOutcome w middle ≡ writes words corners before) (d : t ≡ refusing (w .answer)) where
-  pub refused-printed : {r : ℕ} {after : List ℕ} → t ≡ true → after ≡ over (answerLine (w .answer)) middle → r ≡ length (answerLine (w .answer))
-      → take r after ≡ printed (writes words corners before)
-  unfolding printed
-  refused-printed {r} {after} h p q = let f = sym d ∙ h in line-front r (answerLine (w .answer)) after middle p q ∙ rw (← e, f)
+  answered : {b : Bool} → t ≡ b → refusing (writes words corners before .answer) ≡ b
+  answered h = ap (λ (o : WriteOutcome). refusing (o .answer)) (sym e) ∙ sym d ∙ h
 
-  pub written-printed : t ≡ false → take (w .bytes) middle ≡ printed (writes words corners before)
+  pub refused-lies : {r : ℕ} {after : List ℕ} → t ≡ true → after ≡ over (answerLine (w .answer)) middle → r ≡ length (answerLine (w .answer))
+      → (after ≡ over (printed (writes words corners before)) before) × (r ≡ length (printed (writes words corners before)))
   unfolding printed
-  written-printed h = let f = sym d ∙ h in rw (← e, f)
+  refused-lies h p q =
+      let m : middle ≡ before = ap (λ (o : WriteOutcome). o .bytes) e ∙ kept words corners before (answered h) in
+      let l : printed (writes words corners before) ≡ answerLine (w .answer) = let f = sym d ∙ h in rw (← e, f) refl in
+      (p ∙ ap₂ over (sym l) m, q ∙ ap length (sym l))
+
+  pub written-lies : t ≡ false
+      → (middle ≡ over (printed (writes words corners before)) before) × (w .bytes ≡ length (printed (writes words corners before)))
+  written-lies h =
+      let l = lies words corners before (answered h) in
+      (ap (λ (o : WriteOutcome). o .bytes) e ∙ l .0, ap (λ (o : WriteOutcome). o .count) e ∙ l .1)
 
 -- after reading into buffers of a surface's full size
 module _ {bytes words corners : List ℕ} {o : ReadOutcome} {t : Bool} (r : Reads bytes words corners o) (hw : limits.words ≤ length words) (hc : limits.corners ≤ length corners)

@@ -1,11 +1,16 @@
 -- `rewrite` puts the answer where reading refuses, and has the rest written.
+use mathlib.Core.Path.{refl}
 use native.Mathlib.Omega.{arith}
 use lib.ListN.{take}
 use borrow.Author.Needs.{needs}
 use Rattle.surface_rules.proofs.Laws.Lists.{as-long}
 use Rattle.text_read.specs.Outcome.{readOutcome}
 use Rattle.text_read.proofs.Laws.Within.{Within, read-within}
-use Rattle.program_rewrite.proofs.Laws.Fronts.{start-within, line-front, line-within}
+use Rattle.text_write.specs.Outcome.{writes}
+use Rattle.program_lines.specs.Lines.{answerLine}
+use Rattle.program_rewrite.specs.Rewriting.{printed}
+use Rattle.program_rewrite.proofs.Theorems.{room-enough}
+use Rattle.program_rewrite.proofs.Laws.Fronts.{start-within}
 use Rattle.program_rewrite.proofs.Laws.Printed.{refused-rewrites, written-rewrites}
 use Rattle.program_rewrite.proofs.rewrite.Statement.{statement}
 use Rattle.program_rewrite.proofs.rewrite.Tie as tie
@@ -27,20 +32,29 @@ returns : tie.Need-returns
 returns c =
     let f : tie.After-refuses = search in
     let u : tie.After-put-answer = search in
-    let t : tie.Then1 = search in (
-      refused-rewrites (read f .read .ensures) (omega arith) (omega arith) (f .refuses .ensures) (t .if1 .taken) (line-front _ _ _ _ (u .put-answer .ensures .0 .0) (u .put-answer .ensures .0 .1)),
-      search line-within,
-    )
+    let t : tie.Then1 = search in
+    let s = entry (read f) in
+    record {
+      out = answerLine (read f .read .result .answer);
+      due = λ input held. room-enough (s .pre .0) held (refused-rewrites (read f .read .ensures) (omega arith) (omega arith) (f .refuses .ensures) (t .if1 .taken) refl);
+      many = u .put-answer .ensures .0 .1;
+      lies = u .put-answer .ensures .0 .0;
+    }
 
 returns-2 : tie.Need-returns-2
 returns-2 c =
     let f : tie.After-refuses = search in
     let w : tie.After-write = search in
     let t : tie.Else1 = search in
-    let s = entry (read f) in (
-      written-rewrites (read f .read .ensures) (omega arith) (omega arith) (f .refuses .ensures) _ (t .if1 .left) (start-within (s .args .n) (s .args .room .now)) (w .write .ensures .0),
-      w .write .ensures .1,
-    )
+    let s = entry (read f) in
+    record {
+      out = printed (writes _ _ (s .args .room .now));
+      due = λ input held.
+          room-enough (s .pre .0) held
+          (written-rewrites (read f .read .ensures) (omega arith) (omega arith) (f .refuses .ensures) _ (t .if1 .left) (start-within (s .args .n) (s .args .room .now)) refl);
+      many = w .write .ensures .1;
+      lies = w .write .ensures .0;
+    }
 
 pub rewrite-spec : {M : Type 1} → statement M
 rewrite-spec =

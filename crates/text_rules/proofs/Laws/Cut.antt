@@ -5,12 +5,13 @@ use mathlib.Core.List.{List, _++_, flatten, append-assoc}
 use Prim.Native.Nat.{ℕ, suc, _+_, _-_, _<_, _≤_}
 use native.Mathlib.Omega.{arith}
 use lib.Dec.{leb}
-use lib.ListN.{length, take, drop, length-append, take-append-drop}
+use lib.ListN.{length, take, drop, length-append, length-take, take-append-drop}
 use lib.Seq.{length-take-le, take-append-add, take-all}
 use borrow.Author.Tests.{leb-true, leb-false}
 use Rattle.surface_rules.proofs.Laws.Lists.{flatten-append}
 use Rattle.text_rules.specs.Text.{Part, lines, Says, TextOf}
 use Rattle.text_rules.specs.Fault.{Starts, Fault}
+use Rattle.text_rules.specs.Room.{ReadInto}
 
 -- the first lists of a list have no more in all than all of them
 flatten-less : (k : ℕ) (l : List (List ℕ)) → length (flatten (take k l)) ≤ length (flatten l)
@@ -82,15 +83,37 @@ module _ {A B : Type 0} (P : Part A) (Q : Part B) (most : ℕ) (longest : (bytes
   short : length bytes ≤ most → front ≡ bytes
   short h = take-all (suc most) bytes (omega arith)
 
-  pub front-all : (xs : List A) (ys : List B) → TextOf P Q bytes xs ys → front ≡ bytes
+  front-all : (xs : List A) (ys : List B) → TextOf P Q bytes xs ys → front ≡ bytes
   front-all xs ys t = short (longest bytes xs ys t)
 
-  pub text-first : (xs : List A) (ys : List B) → TextOf P Q bytes xs ys → TextOf P Q front xs ys
+  text-first : (xs : List A) (ys : List B) → TextOf P Q bytes xs ys → TextOf P Q front xs ys
   text-first xs ys t = subst (λ (l : List ℕ). TextOf P Q l xs ys) (sym (front-all xs ys t)) t
 
-  pub fault-first : (line : ℕ) → Fault P Q bytes line → Fault P Q front line
+  fault-first : (line : ℕ) → Fault P Q bytes line → Fault P Q front line
   fault-first line f = go (leb (length bytes) most) refl
     where
       go : (b : Bool) → leb (length bytes) most ≡ b → Fault P Q front line
       go true e = subst (λ (l : List ℕ). Fault P Q l line) (sym (short (leb-true (length bytes) most e))) f
       go false e = fault-front (leb-false (length bytes) most e) f
+
+-- what stands in a room is an input that may have been read into it
+pub read-itself : {room : List ℕ} {n : ℕ} → n ≤ length room → ReadInto room n (take n room)
+read-itself {room} {n} h = record { read = sym (take-all (length room) (take n room) (omega (arith, length-take n room))) }
+
+-- a room that is longer than the longest text has as much of the input as is needed
+module _ {A B : Type 0} {P : Part A} {Q : Part B} {most : ℕ} (longest : (bytes : List ℕ) (xs : List A) (ys : List B) → TextOf P Q bytes xs ys → length bytes ≤ most)
+    {room input : List ℕ} {n : ℕ} (roomy : most < length room) (held : ReadInto room n input) where
+  no-longer : (bytes : List ℕ) (xs : List A) (ys : List B) → TextOf P Q bytes xs ys → length bytes ≤ length room - 1
+  no-longer bytes xs ys t = omega (arith, longest bytes xs ys t, roomy)
+
+  in-room : take (suc (length room - 1)) input ≡ take n room
+  in-room = let e : suc (length room - 1) ≡ length room = omega (arith, roomy) in ap (λ (m : ℕ). take m input) e ∙ sym (held .read)
+
+  pub room-text : {xs : List A} {ys : List B} → TextOf P Q input xs ys → TextOf P Q (take n room) xs ys
+  room-text {xs} {ys} t = subst (λ (l : List ℕ). TextOf P Q l xs ys) in-room (text-first P Q (length room - 1) no-longer input xs ys t)
+
+  pub room-whole : {xs : List A} {ys : List B} → TextOf P Q input xs ys → take n room ≡ input
+  room-whole {xs} {ys} t = sym in-room ∙ front-all P Q (length room - 1) no-longer input xs ys t
+
+  pub room-fault : {line : ℕ} → Fault P Q input line → Fault P Q (take n room) line
+  room-fault {line} f = subst (λ (l : List ℕ). Fault P Q l line) in-room (fault-first P Q (length room - 1) no-longer input line f)

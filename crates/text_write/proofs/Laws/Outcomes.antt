@@ -51,35 +51,36 @@ module _ (words corners buffer : List ℕ) where
       fitting : Fitting (length words) (length corners)
       fitting = counts-fit (length words) (length corners) counts-done
 
-      pub counted : Counted (length words / 3) (length corners)
-      counted = record { few-points = omega (arith, fitting .few-words); whole = fitting .corner-threes; few-corners = fitting .few-corners }
+      module _ {n : ℕ} (points : n ≡ length words / 3) where
+        pub counted : Counted n (length corners)
+        counted = record { few-points = omega (arith, points, fitting .few-words); whole = fitting .corner-threes; few-corners = fitting .few-corners }
 
-      bytes-are : needed (length words / 3) corners ≡ length (text words corners)
-      bytes-are = needed-is (length words / 3) corners counted words (omega (arith, fitting .word-threes))
+        bytes-are : needed n corners ≡ length (text words corners)
+        bytes-are = needed-is n corners counted words (omega (arith, points, fitting .word-threes))
 
-      module _ (b : Bool) (eb : b ≡ leb (needed (length words / 3) corners) (length buffer)) where
-        pub no-room : (r : Written) → (r .answer ≡ Buffer 1) × (r .bytes ≡ 0) → not b ≡ true → writeOutcome r buffer ≡ writes words corners buffer
-        unfolding writeRefusal
-        no-room r e f =
-            let l : length buffer < length (text words corners) = omega (arith, bytes-are, leb-false (needed (length words / 3) corners) (length buffer) (sym eb ∙ not-true b f)) in
-            refused r (Buffer 1) (e .0) (e .1) refl (rw (counts-done, short-one (length buffer) (length (text words corners)) l))
+        module _ (b : Bool) (eb : b ≡ leb (needed n corners) (length buffer)) where
+          pub no-room : (r : Written) → (r .answer ≡ Buffer 1) × (r .bytes ≡ 0) → not b ≡ true → writeOutcome r buffer ≡ writes words corners buffer
+          unfolding writeRefusal
+          no-room r e f =
+              let l : length buffer < length (text words corners) = omega (arith, bytes-are, leb-false (needed n corners) (length buffer) (sym eb ∙ not-true b f)) in
+              refused r (Buffer 1) (e .0) (e .1) refl (rw (counts-done, short-one (length buffer) (length (text words corners)) l))
 
-        module _ (f : not b ≡ false) where
-          enough : length (text words corners) ≤ length buffer
-          enough = omega (arith, bytes-are, leb-true (needed (length words / 3) corners) (length buffer) (sym eb ∙ not-false b f))
+          module _ (f : not b ≡ false) where
+            enough : length (text words corners) ≤ length buffer
+            enough = omega (arith, bytes-are, leb-true (needed n corners) (length buffer) (sym eb ∙ not-false b f))
 
-          module _ (found : Found) (ef : found ≡ least (unnamed corners (length words / 3)) (length corners)) where
-            pub corner-refused : (i : ℕ) (r : Written) → (r .answer ≡ Unnamed i) × (r .bytes ≡ 0) → found ≡ At i → writeOutcome r buffer ≡ writes words corners buffer
-            unfolding writeRefusal
-            corner-refused i r e g =
-                refused r (Unnamed i) (e .0) (e .1) refl (rw (counts-done, one-long (length buffer) (length (text words corners)) enough, ← ef, g))
+            module _ (found : Found) (ef : found ≡ least (unnamed corners n) (length corners)) where
+              pub corner-refused : (i : ℕ) (r : Written) → (r .answer ≡ Unnamed i) × (r .bytes ≡ 0) → found ≡ At i → writeOutcome r buffer ≡ writes words corners buffer
+              unfolding writeRefusal
+              corner-refused i r e g =
+                  refused r (Unnamed i) (e .0) (e .1) refl (rw (counts-done, one-long (length buffer) (length (text words corners)) enough, ← points, ← ef, g))
 
-            module _ (g : found ≡ Nothing) where
-              pub ready : Ready words corners buffer
-              ready = record { counts = counts-done; room = enough; named = sym ef ∙ g }
+              module _ (g : found ≡ Nothing) where
+                pub ready : Ready words corners buffer
+                ready = record { counts = counts-done; room = enough; named = rw (← points) (sym ef ∙ g) }
 
-              pub wrote : (n : ℕ) (after : List ℕ) → (after ≡ over (text words corners) buffer) × (n ≡ length (text words corners))
-                  → outcome Done n after ≡ writes words corners buffer
-              unfolding writes writeRefusal
-              wrote n after e =
-                  rw (e .0, e .1, counts-done, one-long (length buffer) (length (text words corners)) enough, ← ef, g)
+                pub wrote : (count : ℕ) (after : List ℕ) → (after ≡ over (text words corners) buffer) × (count ≡ length (text words corners))
+                    → outcome Done count after ≡ writes words corners buffer
+                unfolding writes writeRefusal
+                wrote count after e =
+                    rw (e .0, e .1, counts-done, one-long (length buffer) (length (text words corners)) enough, ← points, ← ef, g)

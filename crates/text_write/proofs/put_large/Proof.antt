@@ -1,4 +1,5 @@
 -- `put_large` has room for the digits of every point that there can be.
+use mathlib.Core.Path.{refl}
 use borrow.Author.Needs.{needs}
 use Rattle.text_write.proofs.Laws.Whole.{points-few}
 use Rattle.text_write.proofs.put_large.Statement.{statement}
@@ -9,6 +10,6 @@ put-large-spec =
     tie.close
     (tie.spec
     (λ c. search needs)
-    (λ c κs. let start : tie.Start = search in (start .pre, points-few _ _ _ (start .pre)))
+    (λ c κs. let start : tie.Start = search in (start .pre, points-few (start .pre) (refl, refl)))
     (λ c. search needs)
     (λ c. search needs))

@@ -1,5 +1,5 @@
--- What a set weighs does not depend on the order of its triangles, nor on where each begins; so a cover's set weighs what the cover does.
-use Prim.Native.Nat.{ℕ, suc, _+_, _-_, _*_, _<_, _≤_}
+-- What a set weighs does not depend on the order of its triangles, nor on where each begins; and a cover's triangles weigh what the cover does.
+use Prim.Native.Nat.{ℕ, suc, _+_, _*_, _<_, _≤_}
 use mathlib.Core.Path.{_≡_, refl, sym, ap, _∙_, subst}
 use mathlib.Core.Logic.{inl, inr}
 use mathlib.Core.List.{List, [], _∷_, _++_, map, map-append}
@@ -7,24 +7,20 @@ use native.Mathlib.Nat.{le-trans, le-refl, mul-le-mul, lt-of-le-of-lt, suc-mul}
 use native.Mathlib.Omega.{arith}
 use lib.Dec.{lit<}
 use lib.IntN.{ℤ}
-use lib.ListN.{length, getD}
+use lib.ListN.{length}
 use mir.Syntax.{w64}
 use mir.Val.{Fits}
 use Rattle.base_limits.specs.Limits as limits
 use Rattle.surface_rules.specs.Threes.{threes}
 use Rattle.cover_rules.specs.Covers.{Cover, empty, apex, Triangle, triangles, weight, vertexOf}
 use Rattle.cover_rules.specs.Sets.{Alike, ListsTriangles, named}
-use Rattle.cover_rules.proofs.Laws.Sets.{corners-of}
-use Rattle.cover_rules.proofs.Laws.Listed.{listed-of}
-use Rattle.cover_rules.proofs.Laws.Closed.{in-named, begun, below, cover-seated}
-use Rattle.cover_weight.specs.Weight.{pointOf, Coordinates, Names}
+use Rattle.cover_weight.specs.Weight.{pointOf, Coordinates}
 use Rattle.cover_weight.specs.Edition.{naturals, triOf, along}
 use Rattle.cover_weight.proofs.Laws.Bounds.{heaviest, weight-most, weight-turned}
 use Rattle.cover_weight.proofs.Laws.Named.{named-on-grid}
-use Rattle.judge_seat.specs.Workings.Covering.{Covering}
-use Rattle.judge_seat.specs.Workings.Seats.{Threes, tripleAt}
-use Rattle.judge_seat.proofs.Laws.Passed.{Passed, passed-none, passed-room, passed-all, passed-more, every-corner}
-use Rattle.judge_weigh.specs.Workings.Weighing.{namedWeight, setWeight, AllNamed}
+use Rattle.cover_weigh.specs.Workings.Triples.{Threes, tripleAt}
+use Rattle.cover_weigh.specs.Workings.Weighing.{namedWeight, setWeight}
+use Rattle.cover_weigh.proofs.Laws.Passed.{Passed, passed-none, passed-room, passed-all, passed-more}
 
 module _ (grid : List ℤ) where
   weight-append : (s t : List Triangle) → setWeight grid (s ++ t) ≡ setWeight grid s + setWeight grid t
@@ -50,7 +46,7 @@ module _ (grid : List ℤ) where
       ∙ weight-turned (pointOf grid (y .first)) (pointOf grid (y .second)) (pointOf grid (y .third))
 
   -- any order, each begun at any corner
-  listed-weight : (ts s : List Triangle) → ListsTriangles s ts → setWeight grid s ≡ setWeight grid ts
+  pub listed-weight : (ts s : List Triangle) → ListsTriangles s ts → setWeight grid s ≡ setWeight grid ts
   listed-weight [] s h = ap (setWeight grid) h
   listed-weight (t ∷ ts) s h =
       omega (
@@ -65,7 +61,7 @@ module _ (grid : List ℤ) where
       )
 
   module _ (ring : List ℕ) where
-    triangles-weight : (i k : ℕ) (c : Cover) → setWeight grid (map (named (vertexOf ring)) (triangles i k c)) ≡ weight naturals (triOf (along grid ring)) i k c
+    pub triangles-weight : (i k : ℕ) (c : Cover) → setWeight grid (map (named (vertexOf ring)) (triangles i k c)) ≡ weight naturals (triOf (along grid ring)) i k c
     unfolding setWeight
     triangles-weight i k empty = refl
     triangles-weight i k (apex m c d) =
@@ -76,25 +72,6 @@ module _ (grid : List ℤ) where
           triangles-weight i m c,
           triangles-weight m k d,
         )
-
-    pub cover-weight : (s : List Triangle) (c : Cover) → Covering ring s c → setWeight grid s ≡ weight naturals (triOf (along grid ring)) 0 (length ring - 1) c
-    cover-weight s c h = listed-weight (map (named (vertexOf ring)) (triangles 0 (length ring - 1) c)) s (h .1) ∙ triangles-weight 0 (length ring - 1) c
-
--- the corners of a cover's set are vertices of the ring, so they name points if those do
-pub cover-named : (grid : List ℤ) (ring set : List ℕ) (c : Cover) → ((j : ℕ) → j < length ring → Names grid (getD ring j 0))
-    → Threes set → Covering ring (threes set) c → AllNamed grid set
-cover-named grid ring set c names h v =
-    every-corner (Names grid) set (h .triangles) (h .threes)
-    (λ t g.
-    let x = listed-of (map (named (vertexOf ring)) (triangles 0 (length ring - 1) c)) (threes set) (v .1) t g in
-    let y = in-named (vertexOf ring) (triangles 0 (length ring - 1) c) (x .0) (x .1) in
-    let z = begun (vertexOf ring) t (y .0) (subst (Alike t) (y .2) (x .2)) in
-    let b = below (length ring) (z .0) (y .0) (cover-seated (length ring) c (v .0) (y .0) (y .1)) (z .1) in
-    let o = corners-of t (named (vertexOf ring) (z .0)) (z .2) in (
-      subst (Names grid) (sym (o .0)) (names (z .0 .first) (b .first-below)),
-      subst (Names grid) (sym (o .1)) (names (z .0 .second) (b .second-below)),
-      subst (Names grid) (sym (o .2)) (names (z .0 .third) (b .third-below)),
-    ))
 
 -- ---- the code's sum
 

@@ -2,11 +2,11 @@
 use Prim.Native.Nat.{ℕ, _+_, _-_, _<_, _≤_}
 use lib.ListN.{length, getD}
 use Rattle.cover_weight.specs.Weight.{Names}
-use Rattle.judge_weigh.proofs.Laws.Weighing.{Weighed, weighed-none, weighed-room, weighed-fits, weighed-more, weighed-ends}
+use Rattle.cover_weigh.proofs.Laws.Weighing.{Weighed, weighed-none, weighed-room, weighed-fits, weighed-more, weighed-ends}
 use borrow.Author.Needs.{needs}
 use native.Mathlib.Omega.{arith}
-use Rattle.judge_weigh.proofs.weigh_set.Statement.{statement}
-use Rattle.judge_weigh.proofs.weigh_set.Tie as tie
+use Rattle.cover_weigh.proofs.weigh_set.Statement.{statement}
+use Rattle.cover_weigh.proofs.weigh_set.Tie as tie
 
 abbrev Inv-loop : tie.InvT-loop
 Inv-loop grid set total₀ q₀ total q = Weighed grid set q total
@@ -30,13 +30,13 @@ room t = weighed-room (t .before .loop .inv) (t .loop-test .taken)
 
 -- and they name points
 corner : (t : Turn) (j : ℕ) → j < t .before .loop .q + 3 → Names (entry t .args .grid .now) (getD (entry t .args .set .now) j 0)
-corner t j l = entry t .pre .1 j (omega (arith, room t))
+corner t j l = entry t .pre .named j (omega (arith, room t))
 
 pub weigh-set-spec : {M : Type 1} → statement M
 weigh-set-spec =
     tie.close
     (tie.spec Inv-loop μ-loop
-    (λ c. search weighed-none)
+    (λ c. let s : tie.Start Inv-loop μ-loop = search in weighed-none (s .pre .whole))
     (λ c. search needs)
     (λ c. search needs)
     (λ c. let t : Turn = search in omega (arith, corner t (t .before .loop .q) (omega arith), entry t .good))
@@ -48,9 +48,9 @@ weigh-set-spec =
     (λ c. omega (arith, room (search)))
     (λ c. omega (arith, room (search)))
     (λ c. let t : Turn = search in omega (arith, corner t (t .before .loop .q + 2) (omega arith), entry t .good))
-    (λ c κs. let t : Turn = search in (entry t .pre .0, corner t _ (omega arith), corner t _ (omega arith), corner t _ (omega arith)))
-    (λ c. let t = turn c in let p = entry t .pre in weighed-fits (t .before .loop .inv) (t .loop-test .taken) (p .0) (c .weigh-named .ensures) (p .3))
+    (λ c κs. let t : Turn = search in (entry t .pre .coordinates, corner t _ (omega arith), corner t _ (omega arith), corner t _ (omega arith)))
+    (λ c. let t = turn c in let p = entry t .pre in weighed-fits (t .before .loop .inv) (t .loop-test .taken) (p .coordinates) (c .weigh-named .ensures) (p .few))
     (λ c. omega (arith, room (turn (search))))
     (λ c. search needs)
-    (λ c. let t = turn c in weighed-more (t .before .loop .inv) (t .loop-test .taken) (entry t .pre .0) (c .weigh-named .ensures))
+    (λ c. let t = turn c in weighed-more (t .before .loop .inv) (t .loop-test .taken) (entry t .pre .coordinates) (c .weigh-named .ensures))
     (λ c. search weighed-ends))

@@ -1,18 +1,13 @@
-// Weighs a patch set: its triangles' weights added.
+// Weighs a list of triangles: their weights added, as whole numbers.
 ghost use mathlib.Core.Path.{_≡_};
-ghost use Prim.Native.Nat.{_*_, _≤_};
-ghost use lib.ListN.{length};
 ghost use Rattle.base_types.specs.Lent.{was};
-ghost use Rattle.base_limits.specs.Limits.{longest};
 ghost use Rattle.surface_rules.specs.Threes.{threes};
-ghost use Rattle.cover_weight.specs.Weight.{Coordinates};
-ghost use Rattle.judge_seat.specs.Workings.Seats.{Threes};
-ghost use Rattle.judge_weigh.specs.Workings.Weighing.{setWeight, AllNamed};
+ghost use Rattle.cover_weigh.specs.Workings.Weighing.{setWeight, WeighRoom};
 use cover_weight::weigh_named;
 
-// What the set weighs.
+// What the triangles weigh whose corners stand in the set, three by three.
 pub fn weigh_set(grid: &[i32], set: &[u16]) -> u64
-    requires { ⌜ Coordinates (now grid) × AllNamed (now grid) (now set) × Threes (now set) × (length (now set) ≤ 3 * longest) ⌝ }
+    requires { ⌜ WeighRoom (now grid) (now set) ⌝ }
     ensures { λ r. ⌜ r ≡ setWeight (was grid) (threes (was set)) ⌝ }
 {
     let mut total = 0;

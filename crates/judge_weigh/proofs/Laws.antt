@@ -1,2 +1,0 @@
--- The laws of what a patch set weighs.
-pub mod Weighing
