@@ -183,13 +183,6 @@ impl State {
 
     pub const RIM: u16 = 4;
 
-    // The state of that number.
-    pub fn of(number: u16) -> State
-        ensures { λ r. ⌜ r .number ≡ number ⌝ }
-    {
-        State { number }
-    }
-
     // The loop is patched.
     pub fn is_patched(self) -> bool
         ensures { λ r. do number ← ⟦Self::PATCHED⟧ .entry; ⌜ r ≡ eqb (self .number) number ⌝ }

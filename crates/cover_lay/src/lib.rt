@@ -26,7 +26,7 @@ pub fn lay_patch(
         return Least::Nothing;
     };
     let end = cover_trace::list(table, ring, out, p, 0, ring.len() - 1);
-    Least::Weight(cover_weigh::weigh_set(grid, &out[p..end]))
+    Least::Weight(cover_sum::weigh_set(grid, &out[p..end]))
 }
 
 // The least weight of the loop's allowed covers, or that it has none: for a caller that lists no patch.

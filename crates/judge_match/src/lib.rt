@@ -10,7 +10,7 @@ ghost use Rattle.base_types.specs.Lent.{was, left};
 ghost use Rattle.base_limits.specs.Limits.{points, longest};
 ghost use Rattle.surface_rules.specs.Threes.{threes};
 ghost use Rattle.cover_bits.specs.Workings.Masks.{bit, Rows};
-ghost use Rattle.cover_weigh.specs.Workings.Triples.{Threes};
+ghost use Rattle.cover_sum.specs.Workings.Triples.{Threes};
 ghost use Rattle.judge_match.specs.Workings.Matching.{Matches};
 ghost use Rattle.judge_match.specs.Workings.Rows.{Matchable, SidesFree, Held, Collects, Closes, Clashes};
 use base_types::Loop;

@@ -46,7 +46,7 @@ fn judge_weight(
     let Least::Weight(weight) = least else {
         return Answer::Done;
     };
-    if weight < cover_weigh::weigh_set(grid, part) {
+    if weight < cover_sum::weigh_set(grid, part) {
         return Answer::Heavy(l);
     }
     Answer::Done

@@ -22,8 +22,8 @@ use Rattle.cover_weight.specs.Weight.{weightOf}
 use Rattle.cover_weight.specs.Edition.{naturals, triOf, along}
 use Rattle.cover_weight.proofs.Laws.Naturals.{naturals-lawful}
 use Rattle.cover_weight.proofs.Laws.Named.{named-on-grid}
-use Rattle.cover_weigh.specs.Workings.Weighing.{setWeight, WeighRoom}
-use Rattle.cover_weigh.proofs.Laws.Patches.{patch-weight, patch-room}
+use Rattle.cover_sum.specs.Workings.Weighing.{setWeight, WeighRoom}
+use Rattle.cover_sum.proofs.Laws.Patches.{patch-weight, patch-room}
 use Rattle.cover_table.specs.declared.Least.{Least}
 use Rattle.cover_table.specs.declared.Least.the-variants.{Weight, Nothing}
 use Rattle.cover_table.specs.Workings.Table.{OnLoop}

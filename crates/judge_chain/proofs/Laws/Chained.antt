@@ -13,8 +13,8 @@ use Rattle.cover_rules.proofs.Laws.Listed.{in-left, in-right, in-cases}
 use Rattle.cover_bars.specs.Workings.Chains.{Edge, edgeOf, firsts, ChainRoom, ChainDone}
 use Rattle.cover_bars.proofs.Laws.Chaining.{Behind, behind-none, behind-room, behind-more, behind-tells}
 use Rattle.cover_bars.proofs.Laws.Triples.{firsts-append, firsts-length}
-use Rattle.cover_weigh.specs.Workings.Triples.{tripleAt}
-use Rattle.cover_weigh.proofs.Laws.Passed.{Passed, passed-none, passed-room, passed-all, passed-more}
+use Rattle.cover_sum.specs.Workings.Triples.{tripleAt}
+use Rattle.cover_sum.proofs.Laws.Passed.{Passed, passed-none, passed-room, passed-all, passed-more}
 use Rattle.judge_seat.specs.declared.Seat.{Seat}
 use Rattle.judge_seat.specs.declared.Seat.the-variants.{Of, Not}
 use Rattle.judge_seat.specs.Workings.Seats.{SeatOf, SeatFound}

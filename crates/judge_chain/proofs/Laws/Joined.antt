@@ -18,7 +18,7 @@ use Rattle.cover_bars.proofs.Laws.Joins.{between-none}
 use Rattle.cover_bars.proofs.Laws.Laid.{laid-same}
 use Rattle.cover_bars.proofs.Laws.Tests.{either-true, or-left, or-right, same-truth}
 use Rattle.cover_bars.proofs.Laws.Triples.{ends-of, between-append, between-one}
-use Rattle.cover_weigh.specs.Workings.Triples.{Threes}
+use Rattle.cover_sum.specs.Workings.Triples.{Threes}
 use Rattle.judge_seat.specs.Workings.Covering.{Covering}
 
 -- u and v are two corners of the triangle

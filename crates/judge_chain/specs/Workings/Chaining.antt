@@ -9,7 +9,7 @@ use Rattle.surface_rules.specs.Threes.{threes}
 use Rattle.cover_rules.specs.Covers.{Cover}
 use Rattle.cover_bars.specs.Bars.{between}
 use Rattle.cover_bars.specs.Workings.Chains.{Tells}
-use Rattle.cover_weigh.specs.Workings.Triples.{Threes}
+use Rattle.cover_sum.specs.Workings.Triples.{Threes}
 use Rattle.judge_seat.specs.Workings.Seats.{Ringed}
 use Rattle.judge_seat.specs.Workings.Covering.{Covering}
 

@@ -15,8 +15,8 @@ use Rattle.cover_rules.specs.Workings.Matching.{In, Parted}
 use Rattle.cover_rules.proofs.Laws.Listed.{in-cases}
 use Rattle.cover_rules.proofs.Laws.Closed.{covered-parts}
 use Rattle.cover_bits.specs.Workings.Masks.{bit}
-use Rattle.cover_weigh.specs.Workings.Triples.{Threes, tripleAt}
-use Rattle.cover_weigh.proofs.Laws.Passed.{Passed, passed-none, passed-room, passed-all, passed-in, passed-more}
+use Rattle.cover_sum.specs.Workings.Triples.{Threes, tripleAt}
+use Rattle.cover_sum.proofs.Laws.Passed.{Passed, passed-none, passed-room, passed-all, passed-in, passed-more}
 use Rattle.judge_seat.specs.declared.Seat.{Seat}
 use Rattle.judge_seat.specs.declared.Seat.the-variants.{Of, Not}
 use Rattle.judge_seat.specs.Workings.Seats.{Ringed, SeatOf, SeatFound}

@@ -8,8 +8,8 @@ use lib.ListN.{length, getD, set, length-set}
 use Rattle.base_limits.specs.Limits as limits
 use Rattle.cover_rules.specs.Covers.{Triangle, vertexOf}
 use Rattle.cover_bits.specs.Workings.Masks.{bit}
-use Rattle.cover_weigh.specs.Workings.Triples.{Threes, tripleAt}
-use Rattle.cover_weigh.proofs.Laws.Passed.{Passed, passed-none, passed-room, passed-all, passed-more}
+use Rattle.cover_sum.specs.Workings.Triples.{Threes, tripleAt}
+use Rattle.cover_sum.proofs.Laws.Passed.{Passed, passed-none, passed-room, passed-all, passed-more}
 use Rattle.judge_seat.specs.declared.Seat.{Seat}
 use Rattle.judge_seat.specs.declared.Seat.the-variants.{Of, Not}
 use Rattle.judge_seat.specs.Workings.Seats.{Ringed, SeatOf, SeatFound}

@@ -15,8 +15,8 @@ use Rattle.cover_rules.specs.Workings.Matching.{Laid}
 use Rattle.cover_rules.proofs.Laws.Chords.{uses-in}
 use Rattle.cover_rules.proofs.Laws.Closed.{Different, covered-once, covered-whole, used-laid, laid-used, closed-covered}
 use Rattle.cover_bits.specs.Workings.Masks.{bit, Rows}
-use Rattle.cover_weigh.specs.Workings.Triples.{Threes}
-use Rattle.cover_weigh.proofs.Laws.Passed.{triples-length}
+use Rattle.cover_sum.specs.Workings.Triples.{Threes}
+use Rattle.cover_sum.proofs.Laws.Passed.{triples-length}
 use Rattle.judge_seat.specs.Workings.Covering.{Covering}
 use Rattle.judge_seat.proofs.Laws.Places.{different}
 use Rattle.judge_match.specs.declared.Match.{Match}

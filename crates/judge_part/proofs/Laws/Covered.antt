@@ -12,10 +12,10 @@ use Rattle.cover_rules.proofs.Laws.Listed.{listed-of}
 use Rattle.cover_rules.proofs.Laws.Closed.{in-named, begun, below, cover-seated}
 use Rattle.cover_weight.specs.Weight.{Names}
 use Rattle.cover_weight.specs.Edition.{naturals, triOf, along}
-use Rattle.cover_weigh.specs.Workings.Triples.{Threes}
-use Rattle.cover_weigh.specs.Workings.Weighing.{setWeight, AllNamed}
-use Rattle.cover_weigh.proofs.Laws.Passed.{every-corner}
-use Rattle.cover_weigh.proofs.Laws.Weighing.{listed-weight, triangles-weight}
+use Rattle.cover_sum.specs.Workings.Triples.{Threes}
+use Rattle.cover_sum.specs.Workings.Weighing.{setWeight, AllNamed}
+use Rattle.cover_sum.proofs.Laws.Passed.{every-corner}
+use Rattle.cover_sum.proofs.Laws.Weighing.{listed-weight, triangles-weight}
 use Rattle.judge_seat.specs.Workings.Covering.{Covering}
 
 pub cover-weight : (grid : List ℤ) (ring : List ℕ) (s : List Triangle) (c : Cover) → Covering ring s c

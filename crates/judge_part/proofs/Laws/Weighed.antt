@@ -16,8 +16,8 @@ use Rattle.surface_rules.specs.Threes.{threes}
 use Rattle.cover_rules.specs.Covers.{Cover, Allowed}
 use Rattle.cover_bits.specs.Workings.Masks.{Rows}
 use Rattle.cover_bars.specs.Bars.{barred}
-use Rattle.cover_weigh.specs.Workings.Triples.{Threes}
-use Rattle.cover_weigh.specs.Workings.Weighing.{setWeight, WeighRoom}
+use Rattle.cover_sum.specs.Workings.Triples.{Threes}
+use Rattle.cover_sum.specs.Workings.Weighing.{setWeight, WeighRoom}
 use Rattle.judge_seat.specs.Workings.Covering.{Covering}
 use Rattle.judge_match.specs.declared.Match.{Match}
 use Rattle.judge_match.specs.declared.Match.the-variants as matched

@@ -10,8 +10,8 @@ use Rattle.cover_rules.specs.Covers.{Cover, Triangle, on, vertexOf}
 use Rattle.cover_rules.specs.Sets.{Alike, named}
 use Rattle.cover_rules.proofs.Laws.Sets.{corners-of, by-corners}
 use Rattle.cover_rules.proofs.Laws.Closed.{Below, begun, below, below-alike, alike-named, seat-alike, covered-seat, cover-seated}
-use Rattle.cover_weigh.specs.Workings.Triples.{tripleAt}
-use Rattle.cover_weigh.proofs.Laws.Passed.{Passed, passed-in}
+use Rattle.cover_sum.specs.Workings.Triples.{tripleAt}
+use Rattle.cover_sum.proofs.Laws.Passed.{Passed, passed-in}
 use Rattle.judge_seat.specs.declared.Seat.{Seat}
 use Rattle.judge_seat.specs.declared.Seat.the-variants.{Of, Not}
 use Rattle.judge_seat.specs.Workings.Seats.{Ringed, Lies, SeatedAs, Fits, SeatOf, SeatFound}

@@ -8,7 +8,7 @@ use Rattle.cover_rules.specs.Covers.{Triangle, on, vertexOf}
 use Rattle.cover_rules.specs.Sets.{Alike, named}
 use Rattle.cover_rules.specs.Workings.Matching.{Seated}
 use Rattle.cover_bars.specs.Workings.Chains.{Stamped}
-use Rattle.cover_weigh.specs.Workings.Triples.{tripleAt}
+use Rattle.cover_sum.specs.Workings.Triples.{tripleAt}
 use Rattle.judge_seat.specs.declared.Seat.{Seat}
 use Rattle.judge_seat.specs.declared.Seat.the-variants.{Of, Not}
 

@@ -21,7 +21,7 @@ use Rattle.cover_rules.proofs.Laws.Sets.{by-corners}
 use Rattle.cover_bars.specs.Bars.{between}
 use Rattle.cover_bars.specs.Workings.Chains.{Tells}
 use Rattle.cover_bars.proofs.Laws.Triples.{ends-of, between-append, between-one}
-use Rattle.cover_weigh.specs.Workings.Triples.{tripleAt}
+use Rattle.cover_sum.specs.Workings.Triples.{tripleAt}
 use Rattle.judge_seat.specs.Workings.Covering.{Covering}
 use Rattle.fill_fates.proofs.Laws.Three.{three-meets}
 use Rattle.fill_fates.proofs.Laws.Sides.{three-tells}

@@ -10,7 +10,7 @@ use Rattle.surface_rules.specs.Threes.{threes}
 use Rattle.cover_rules.specs.Covers.{Triangle, on}
 use Rattle.cover_rules.specs.Workings.Matching.{In}
 use Rattle.cover_rules.proofs.Laws.Listed.{in-right}
-use Rattle.cover_weigh.specs.Workings.Triples.{Threes, tripleAt}
+use Rattle.cover_sum.specs.Workings.Triples.{Threes, tripleAt}
 
 -- the corners before q are those of the triangles in front
 pub record Passed (corners : List ℕ) (q : ℕ) (front : List Triangle) : Type 0 where

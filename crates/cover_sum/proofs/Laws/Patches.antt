@@ -15,8 +15,8 @@ use Rattle.cover_rules.proofs.Laws.Closed.{cover-seated}
 use Rattle.cover_rules.proofs.Laws.Corners.{patch-length}
 use Rattle.cover_weight.specs.Weight.{Coordinates, Names}
 use Rattle.cover_weight.specs.Edition.{naturals, triOf, along}
-use Rattle.cover_weigh.specs.Workings.Weighing.{namedWeight, setWeight, WeighRoom}
-use Rattle.cover_weigh.proofs.Laws.Weighing.{triangles-weight}
+use Rattle.cover_sum.specs.Workings.Weighing.{namedWeight, setWeight, WeighRoom}
+use Rattle.cover_sum.proofs.Laws.Weighing.{triangles-weight}
 
 module _ (grid : List ℤ) (vertex : ℕ → ℕ) where
   corners-weight : (ts : List Triangle) → setWeight grid (threes (cornersOf vertex ts)) ≡ setWeight grid (map (named vertex) ts)

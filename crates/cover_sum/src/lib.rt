@@ -2,7 +2,7 @@
 ghost use mathlib.Core.Path.{_≡_};
 ghost use Rattle.base_types.specs.Lent.{was};
 ghost use Rattle.surface_rules.specs.Threes.{threes};
-ghost use Rattle.cover_weigh.specs.Workings.Weighing.{setWeight, WeighRoom};
+ghost use Rattle.cover_sum.specs.Workings.Weighing.{setWeight, WeighRoom};
 use cover_weight::weigh_named;
 
 // What the triangles weigh whose corners stand in the set, three by three.

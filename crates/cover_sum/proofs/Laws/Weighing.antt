@@ -18,9 +18,9 @@ use Rattle.cover_weight.specs.Weight.{pointOf, Coordinates}
 use Rattle.cover_weight.specs.Edition.{naturals, triOf, along}
 use Rattle.cover_weight.proofs.Laws.Bounds.{heaviest, weight-most, weight-turned}
 use Rattle.cover_weight.proofs.Laws.Named.{named-on-grid}
-use Rattle.cover_weigh.specs.Workings.Triples.{Threes, tripleAt}
-use Rattle.cover_weigh.specs.Workings.Weighing.{namedWeight, setWeight}
-use Rattle.cover_weigh.proofs.Laws.Passed.{Passed, passed-none, passed-room, passed-all, passed-more}
+use Rattle.cover_sum.specs.Workings.Triples.{Threes, tripleAt}
+use Rattle.cover_sum.specs.Workings.Weighing.{namedWeight, setWeight}
+use Rattle.cover_sum.proofs.Laws.Passed.{Passed, passed-none, passed-room, passed-all, passed-more}
 
 module _ (grid : List ℤ) where
   weight-append : (s t : List Triangle) → setWeight grid (s ++ t) ≡ setWeight grid s + setWeight grid t

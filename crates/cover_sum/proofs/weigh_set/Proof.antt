@@ -2,11 +2,11 @@
 use Prim.Native.Nat.{ℕ, _+_, _-_, _<_, _≤_}
 use lib.ListN.{length, getD}
 use Rattle.cover_weight.specs.Weight.{Names}
-use Rattle.cover_weigh.proofs.Laws.Weighing.{Weighed, weighed-none, weighed-room, weighed-fits, weighed-more, weighed-ends}
+use Rattle.cover_sum.proofs.Laws.Weighing.{Weighed, weighed-none, weighed-room, weighed-fits, weighed-more, weighed-ends}
 use borrow.Author.Needs.{needs}
 use native.Mathlib.Omega.{arith}
-use Rattle.cover_weigh.proofs.weigh_set.Statement.{statement}
-use Rattle.cover_weigh.proofs.weigh_set.Tie as tie
+use Rattle.cover_sum.proofs.weigh_set.Statement.{statement}
+use Rattle.cover_sum.proofs.weigh_set.Tie as tie
 
 abbrev Inv-loop : tie.InvT-loop
 Inv-loop grid set total₀ q₀ total q = Weighed grid set q total

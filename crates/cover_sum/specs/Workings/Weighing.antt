@@ -6,7 +6,7 @@ use lib.ListN.{length, getD}
 use Rattle.base_limits.specs.Limits as limits
 use Rattle.cover_rules.specs.Covers.{Triangle}
 use Rattle.cover_weight.specs.Weight.{weightOf, pointOf, Coordinates, Names}
-use Rattle.cover_weigh.specs.Workings.Triples.{Threes}
+use Rattle.cover_sum.specs.Workings.Triples.{Threes}
 
 -- what a triangle weighs whose corners are points of the grid's list
 abbrev pub namedWeight : List ℤ → Triangle → ℕ
