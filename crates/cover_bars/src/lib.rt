@@ -7,7 +7,8 @@ ghost use lib.ListN.{length, getD};
 ghost use lib.Seq.{slice};
 ghost use Rattle.base_types.specs.Lent.{was, left};
 ghost use Rattle.base_limits.specs.Limits.{longest};
-ghost use Rattle.cover_bars.specs.Workings.Chains.{ChainRoom, ChainDone, InputRoom, Tells, LaidRoom, LaidDone, StampRoom, StampDone, RowsRoom, FromDone, AllDone, SidesDone, BarsRoom, BarsDone};
+ghost use Rattle.cover_bars.specs.Workings.Chains.{ChainRoom, ChainDone, InputRoom, Tells, LaidRoom, LaidDone};
+ghost use Rattle.cover_bars.specs.Workings.Chains.{StampRoom, StampDone, RowsRoom, FromDone, AllDone, SidesDone, BarsRoom, BarsDone};
 use base_types::Loop;
 use base_types::Surface;
 

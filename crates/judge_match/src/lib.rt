@@ -35,7 +35,8 @@ pub fn match_cover(
     set: &[u16],
 ) -> Match
     requires { ⌜ Matchable (now ring) (now stamps) base (now bars) (now set) ⌝ }
-    ensures { λ r. ⌜ ((barred : ℕ → ℕ → Bool) → Rows (length (was ring)) barred (was bars) → SidesFree (length (was ring)) barred → Matches (was ring) barred (threes (was set)) r) ⌝ }
+    ensures { λ r. ⌜ ((barred : ℕ → ℕ → Bool) → Rows (length (was ring)) barred (was bars) → SidesFree (length (was ring)) barred
+        → Matches (was ring) barred (threes (was set)) r) ⌝ }
 {
     let n = ring.len();
     let mut has = [0u64; Loop::LONGEST];

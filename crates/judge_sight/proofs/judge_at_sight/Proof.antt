@@ -1,12 +1,11 @@
 -- `judge_at_sight` goes by how long the loop is.
-use mathlib.Core.Path.{_≡_, sym, _∙_}
+use mathlib.Core.Path.{_≡_}
 use mathlib.Core.Bool.{true, false}
 use Prim.Native.Nat.{_<_, _≤_}
-use native.Mathlib.Omega.{arith}
 use lib.ListN.{length}
 use borrow.Author.Needs.{needs}
-use borrow.Author.Tests.{ltb-true, ltb-false}
 use Rattle.base_limits.specs.Limits.{longest}
+use Rattle.fill_scratch.proofs.Laws.Sights.{told-long, told-short}
 use Rattle.judge_sight.proofs.Laws.Threes.{sight-three}
 use Rattle.judge_sight.proofs.judge_at_sight.Statement.{statement}
 use Rattle.judge_sight.proofs.judge_at_sight.Tie as tie
@@ -16,10 +15,10 @@ entry k = search
 
 -- what the test says either way
 long : (k : tie.After-is-long) → k .is-long .result ≡ true → longest < length (entry k .args .ring .now)
-long k t = let of = k .before .of in omega (arith, of .ensures, ltb-true longest (of .result .length) (sym (k .is-long .ensures) ∙ t))
+long k t = told-long (k .before .of .ensures) (k .is-long .ensures) t
 
 short : (k : tie.After-is-long) → k .is-long .result ≡ false → length (entry k .args .ring .now) ≤ longest
-short k f = let of = k .before .of in omega (arith, of .ensures, ltb-false longest (of .result .length) (sym (k .is-long .ensures) ∙ f))
+short k f = told-short (k .before .of .ensures) (k .is-long .ensures) f
 
 pub judge-at-sight-spec : {M : Type 1} → statement M
 judge-at-sight-spec =

@@ -40,4 +40,5 @@ pub record MeasureRoom (grid : List ℤ) (rings lengths runs : List ℕ) : Type 
 
 -- the runs of all loops for which there was a number, whatever loops they are
 pub record Measures (grid : List ℤ) (rings lengths runs runs′ : List ℕ) : Type 0 where
-  pub told : (input : List ℕ) (rs : List (List ℕ)) → Loops grid input rs rings lengths → (l : ℕ) → l < length rs → (getD runs l 0 ≡ 0 → ⊥) → getD runs′ l 0 ≡ ringRun grid (getD rs l [])
+  pub told : (input : List ℕ) (rs : List (List ℕ)) → Loops grid input rs rings lengths
+      → (l : ℕ) → l < length rs → (getD runs l 0 ≡ 0 → ⊥) → getD runs′ l 0 ≡ ringRun grid (getD rs l [])
