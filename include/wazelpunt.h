@@ -1,12 +1,37 @@
-/* Wazelpunt for C: the exported functions of libwazelpunt.a (made by `rt staticlib wazelpunt`, for x86-64).
-   Every function answers for every input; docs/PROMISES.md says what is promised of each.
+/* Wazelpunt for C and C++: finds the gaps (loops of open edges) in a triangle surface and closes them. These are the exported functions of
+   libwazelpunt, which is compiled for x86-64. Every function is proved to keep its promise; docs/PROMISES.md says it, docs/API.md has
+   the rules, the texts and the answers, examples/viewer.c is a whole program.
 
-   The promises hold where the calling thread computes with floats as a program does that changed nothing: rounding to the nearest, a tie
-   to the even one; denormal numbers kept, neither flushed to zero where they come out nor taken for zero where they go in; no exception
-   trapped. A program that is linked with -ffast-math has denormal numbers flushed from its start on (gcc, clang), and by older compilers
-   one that loads a library linked so: then the rest of a coordinate that is denormal itself is told as zero, that of 0x00000005 for one.
-   Under another rounding mode coordinates go to other whole numbers, and so everything may be another. wazelpunt_floats_are_default tells
-   whether floats are as they should be. */
+   A surface is given by its words, three a point, the bits of binary32 numbers in plate units (0.1 mm), and its corners, three a triangle,
+   16-bit numbers of points.
+
+   What holds of every function:
+
+   - It answers for every input. It returns the number of its answer (enum wazelpunt_answer) and leaves the answer's place in *place.
+   - It leaves its results in buffers that the caller lends, each from its start; what lies behind them stays as it was. The length that is
+     given with a lent buffer counts its numbers, not its bytes, and may be greater than is needed.
+   - A refusal, 1 to 10, leaves all lent buffers as they were, 0 in every count, and its place. wazelpunt_coordinate alone has no place.
+   - Threads: the functions keep nothing between calls and have no state, so any number of threads may call them at once, as long as no
+     thread lends a buffer, or points to a result, that another one uses meanwhile.
+   - Overlaps: no lent buffer and no result (*place and the counts) may overlap another one, nor anything that is given. What is given
+     is only read, so it may overlap.
+   - Null: no pointer may be null, not even with a length of 0. With a length of 0 nothing is read or written there, and any pointer
+     that is not null will do, such as that of an array of one number.
+   - Alignment: each pointer is aligned as its type asks. (What was cast from a byte of a file need not be; copy it.)
+   - Memory: nothing is allocated, and no file, signal, environment or locale is touched. Besides what is lent each function needs
+     so many bytes of stack, measured at most, on full sheets and made cases:
+
+         wazelpunt_coordinate       56        wazelpunt_read        20,904        wazelpunt_list_text     197,416
+         wazelpunt_survey       37,240        wazelpunt_read_set    20,808        wazelpunt_judge_texts   199,880
+         wazelpunt_patch       129,816        wazelpunt_write        4,904        wazelpunt_rewrite_text   39,368
+         wazelpunt_judge       140,440
+
+   - Floats: the promises hold where the calling thread computes with floats as a program does that changed nothing: rounding to the
+     nearest, a tie to the even one; denormal numbers kept, neither flushed to zero where they come out nor taken for zero where they go
+     in; no exception trapped. A program that is linked with -ffast-math has denormal numbers flushed from its start on (gcc, clang), and
+     by older compilers one that loads a library linked so: then the rest of a coordinate that is denormal itself is told as zero, that of
+     0x00000005 for one. Under another rounding mode coordinates go to other whole numbers, and so everything may be another.
+     wazelpunt_floats_are_default tells whether they are so, but for exceptions that are trapped. */
 #ifndef WAZELPUNT_H
 #define WAZELPUNT_H
 
@@ -16,6 +41,107 @@
 #ifdef __cplusplus
 extern "C" {
 #endif
+
+/* The version of this header. */
+#define WAZELPUNT_VERSION "1.2.0"
+
+/* What a surface may have at most. */
+#define WAZELPUNT_POINTS 1024
+#define WAZELPUNT_TRIANGLES 1024
+#define WAZELPUNT_WORDS 3072
+#define WAZELPUNT_CORNERS 3072
+
+/* What a patch set may have at most. */
+#define WAZELPUNT_SET_STATES 1024
+#define WAZELPUNT_SET_TRIANGLES 3072
+#define WAZELPUNT_SET_CORNERS 9216
+
+/* The edges of the longest loop that is patched, and how far the grid reaches from 0 on either side. */
+#define WAZELPUNT_LONGEST 64
+#define WAZELPUNT_GREATEST 32767
+
+/* The bytes of the longest text of a sheet and of a patch set, and room that is enough for every listing and for every answer's line. */
+#define WAZELPUNT_SHEET_BYTES 47131
+#define WAZELPUNT_SET_BYTES 56347
+#define WAZELPUNT_LISTING_BYTES 161424
+#define WAZELPUNT_ANSWER_BYTES 48
+
+/* How many numbers each lent buffer needs for a surface of so many words and corners, as refusal 3 counts the buffers: 1 to 6. */
+#define WAZELPUNT_GRID_FOR(words_count) (words_count)
+#define WAZELPUNT_RINGS_FOR(corners_count) (corners_count)
+#define WAZELPUNT_LENGTHS_FOR(corners_count) ((corners_count) / 3)
+#define WAZELPUNT_STATES_FOR(corners_count) ((corners_count) / 3)
+#define WAZELPUNT_WEIGHTS_FOR(corners_count) ((corners_count) / 3)
+#define WAZELPUNT_PATCHES_FOR(corners_count) (3 * (corners_count))
+
+/* The numbers of the answers, and what their places count: 1 to 10 are refusals, 11 to 15 verdicts on a patch set. */
+enum wazelpunt_answer {
+    WAZELPUNT_DONE = 0,          /* 0 */
+    WAZELPUNT_WRONG_WORDS = 1,   /* 0 */
+    WAZELPUNT_WRONG_CORNERS = 2, /* 0 */
+    WAZELPUNT_BUFFER = 3,        /* lent buffers, from 1 */
+    WAZELPUNT_UNNAMED = 4,       /* corners, from 0 as all that follow but for lines */
+    WAZELPUNT_TWICE = 5,         /* triangles */
+    WAZELPUNT_REPEATED = 6,      /* half-edges: h runs from corner h to the next corner of its triangle */
+    WAZELPUNT_NOT_FINITE = 7,    /* words */
+    WAZELPUNT_TOO_FAR = 8,       /* words */
+    WAZELPUNT_WRONG_STATES = 9,  /* how many loops there are */
+    WAZELPUNT_LINE = 10,         /* lines, from 1; those of a set go on after the sheet's last */
+    WAZELPUNT_MISDECLARED = 11,  /* loops */
+    WAZELPUNT_UNCOVERED = 12,    /* loops */
+    WAZELPUNT_BARRED = 13,       /* loops */
+    WAZELPUNT_HEAVY = 14,        /* loops */
+    WAZELPUNT_LEFT_OVER = 15     /* corners of the set */
+};
+
+/* The states of a loop. */
+enum wazelpunt_state {
+    WAZELPUNT_PATCHED = 1, /* closed with the lightest allowed cover */
+    WAZELPUNT_LONG = 2,    /* left open, since it has more than WAZELPUNT_LONGEST edges */
+    WAZELPUNT_OPEN = 3,    /* left open, since it has no allowed cover */
+    WAZELPUNT_RIM = 4      /* the rim of its piece, at any length: it is never patched */
+};
+
+/* A sentence for the number of an answer. It stands on its own, without a capital letter and a full stop, and is never null. */
+static inline const char *wazelpunt_sentence(uint32_t number)
+{
+    switch (number) {
+    case WAZELPUNT_DONE:
+        return "done";
+    case WAZELPUNT_WRONG_WORDS:
+        return "the words are not three a point, or too many";
+    case WAZELPUNT_WRONG_CORNERS:
+        return "the corners are not three a triangle, or too many";
+    case WAZELPUNT_BUFFER:
+        return "a lent buffer is too short";
+    case WAZELPUNT_UNNAMED:
+        return "a corner names no point";
+    case WAZELPUNT_TWICE:
+        return "a triangle names a point twice";
+    case WAZELPUNT_REPEATED:
+        return "two triangles run the same way between the same two points";
+    case WAZELPUNT_NOT_FINITE:
+        return "a coordinate is no finite number";
+    case WAZELPUNT_TOO_FAR:
+        return "a coordinate lies too far out";
+    case WAZELPUNT_WRONG_STATES:
+        return "there are not as many states as loops";
+    case WAZELPUNT_LINE:
+        return "a line of the text is wrong";
+    case WAZELPUNT_MISDECLARED:
+        return "a loop is declared in a state that it is not in";
+    case WAZELPUNT_UNCOVERED:
+        return "a loop is declared patched, and its triangles are missing or are no cover";
+    case WAZELPUNT_BARRED:
+        return "a loop has a cover with a barred diagonal";
+    case WAZELPUNT_HEAVY:
+        return "a loop has an allowed cover, but a lighter one exists";
+    case WAZELPUNT_LEFT_OVER:
+        return "corners are left over after the last loop";
+    default:
+        return "an answer that this header does not know";
+    }
+}
 
 /* Whether the calling thread computes with floats, of 32 bits and of 64, as the promises ask: 1 if it rounds to the nearest, a tie to the
    even one, and keeps denormal numbers; else 0. It asks by computing, so it tells of the arithmetic that the unit is compiled for: on
@@ -92,6 +218,23 @@ uint32_t wazelpunt_write(const uint32_t *words, size_t words_count, const uint16
    *corners_read become how many there are. On a refusal all is as it was and both counts are 0. */
 uint32_t wazelpunt_read_set(const uint8_t *text, size_t text_length, uint16_t before, uint16_t *states, size_t states_length,
                             uint16_t *corners, size_t corners_length, size_t *place, size_t *states_read, size_t *corners_read);
+
+/* The three programs as functions, for one who wants their texts and not the numbers behind them. Each prints into `out` exactly the bytes
+   that the program prints for such an input, from its start, and *bytes becomes how many; what lies behind is as it was. The input may
+   have any length, and any bytes.
+   Returns 0, with *place 0, whatever the text is: an answer on the text is printed (such as answer=10,3). Only if `out` is too
+   short for what can be printed at most, even if this input would need less, it returns 3, with *place 1 and *bytes 0, and `out`
+   is as it was. */
+
+/* The listing of a sheet text: the answer, and after 0 the loops, with rings and patches. Lent are at least WAZELPUNT_LISTING_BYTES. */
+uint32_t wazelpunt_list_text(const uint8_t *text, size_t text_length, uint8_t *out, size_t out_length, size_t *place, size_t *bytes);
+
+/* The answer's line on the text of a patch set for a sheet text. Lent are at least WAZELPUNT_ANSWER_BYTES. */
+uint32_t wazelpunt_judge_texts(const uint8_t *sheet, size_t sheet_length, const uint8_t *set, size_t set_length, uint8_t *out,
+                               size_t out_length, size_t *place, size_t *bytes);
+
+/* A sheet text read and written again, which is the same text, or the answer's line. Lent are at least WAZELPUNT_SHEET_BYTES. */
+uint32_t wazelpunt_rewrite_text(const uint8_t *text, size_t text_length, uint8_t *out, size_t out_length, size_t *place, size_t *bytes);
 
 #ifdef __cplusplus
 }

@@ -1,6 +1,6 @@
 /* Counts, by function, the instructions that an emulated program runs between two marks, and prints them at the second; speed.c has the
-   marks. A plugin of QEMU's user emulator for its interface of version 1, whose part used here is declared by hand, since Debian has no
-   package of it. */
+   marks. With the argument whole=on it also prints on standard error, at the program's end, how many it ran in all. A plugin of QEMU's user
+   emulator for its interface of version 1, whose part used here is declared by hand, since Debian has no package of it. */
 #include <inttypes.h>
 #include <stddef.h>
 #include <stdint.h>
@@ -21,6 +21,7 @@ void qemu_plugin_register_vcpu_tb_trans_cb(qemu_plugin_id_t id, void (*seen)(qem
 void qemu_plugin_register_vcpu_insn_exec_inline(struct qemu_plugin_insn *insn, enum qemu_plugin_op op, void *to, uint64_t added);
 void qemu_plugin_register_vcpu_insn_exec_cb(struct qemu_plugin_insn *insn, void (*run)(unsigned, void *), enum qemu_plugin_cb_flags flags,
                                             void *given);
+void qemu_plugin_register_atexit_cb(qemu_plugin_id_t id, void (*ended)(qemu_plugin_id_t, void *), void *given);
 size_t qemu_plugin_tb_n_insns(const struct qemu_plugin_tb *tb);
 struct qemu_plugin_insn *qemu_plugin_tb_get_insn(const struct qemu_plugin_tb *tb, size_t at);
 const void *qemu_plugin_insn_data(const struct qemu_plugin_insn *insn);
@@ -87,8 +88,16 @@ static void see(qemu_plugin_id_t id, struct qemu_plugin_tb *tb) {
     }
 }
 
+static void ended(qemu_plugin_id_t id, void *given) {
+    (void)id, (void)given;
+    uint64_t sum = 0;
+    for (struct function *f = functions; f != 0; f = f->next) sum += f->count;
+    fprintf(stderr, "%" PRIu64 " instructions\n", sum);
+}
+
 SHOWN int qemu_plugin_install(qemu_plugin_id_t id, const struct qemu_info_t *info, int arguments, char **given) {
-    (void)info, (void)arguments, (void)given;
+    (void)info;
     qemu_plugin_register_vcpu_tb_trans_cb(id, see);
+    if (arguments == 1 && strcmp(given[0], "whole=on") == 0) qemu_plugin_register_atexit_cb(id, ended, 0);
     return 0;
 }

@@ -19,6 +19,7 @@ static struct generated_surface surface;
 static struct generated_set set;
 static uint8_t text[GENERATE_TEXT_ROOM], set_text[GENERATE_TEXT_ROOM], out[GENERATE_TEXT_ROOM];
 static size_t text_length, set_text_length;
+static uint8_t printed[WAZELPUNT_LISTING_BYTES];
 
 /* what is lent */
 static int32_t grid[GENERATE_WORD_ROOM];
@@ -63,13 +64,34 @@ static void work_read_set(void) {
     wazelpunt_read_set(set_text, set_text_length, 0, states, GENERATE_CORNER_ROOM, corners, GENERATE_SET_ROOM, &place, &first, &second);
 }
 
+static void work_list_text(void) {
+    wazelpunt_list_text(text, text_length, printed, sizeof printed, &place, &first);
+}
+
+static void work_judge_texts(void) {
+    wazelpunt_judge_texts(text, text_length, set_text, set_text_length, printed, sizeof printed, &place, &first);
+}
+
+static void work_rewrite_text(void) {
+    wazelpunt_rewrite_text(text, text_length, printed, sizeof printed, &place, &first);
+}
+
 static struct work {
     const char *name;
     void (*work)(void);
     size_t most;
 } works[] = {
-    {"nothing", work_none, 0},     {"wazelpunt_coordinate", work_coordinate, 0}, {"wazelpunt_survey", work_survey, 0}, {"wazelpunt_patch", work_patch, 0},
-    {"wazelpunt_judge", work_judge, 0}, {"wazelpunt_read", work_read, 0},        {"wazelpunt_write", work_write, 0},   {"wazelpunt_read_set", work_read_set, 0},
+    {"nothing", work_none, 0},
+    {"wazelpunt_coordinate", work_coordinate, 0},
+    {"wazelpunt_survey", work_survey, 0},
+    {"wazelpunt_patch", work_patch, 0},
+    {"wazelpunt_judge", work_judge, 0},
+    {"wazelpunt_read", work_read, 0},
+    {"wazelpunt_write", work_write, 0},
+    {"wazelpunt_read_set", work_read_set, 0},
+    {"wazelpunt_list_text", work_list_text, 0},
+    {"wazelpunt_judge_texts", work_judge_texts, 0},
+    {"wazelpunt_rewrite_text", work_rewrite_text, 0},
 };
 
 #define WORKS (sizeof works / sizeof *works)

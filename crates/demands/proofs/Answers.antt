@@ -26,9 +26,12 @@ use Rattle.text_read.specs.Outcome as intake
 use Rattle.text_read_set.specs.Set as set
 use Rattle.text_read_set.specs.Outcome as sets
 use Rattle.text_write.specs.Outcome.{writeRefusal, writes}
+use Rattle.program_rewrite.specs.Rewriting.{Rewrites}
+use Rattle.program_judge.specs.Hears.{HearsLine}
+use Rattle.program_list.specs.Lists.{Prints}
 use Rattle.demands.specs.Answers.{Check, wordCount, cornerCount, shortBuffer, unnamedCorner, stateCount, table, Answered, AnswersDemand}
 use Rattle.demands.proofs.Checks.{answerOf, answerBy, answered, last-of, counts-are, table-is, table-refuses, chosen, then-once}
-use Rattle.demands.proofs.Programs.{sheet-texts, set-texts, hearing-set-wrong, hearing, rewriting-refused, rewriting}
+use Rattle.demands.proofs.Programs.{sheet-texts, set-texts, hearing-set-wrong, hearing, rewriting-refused, rewriting, printing}
 
 -- ---- the entry points
 
@@ -142,4 +145,7 @@ answers-demand = record {
   rewriting-wrong = λ bytes out w. w .of-fault;
   rewriting-refused = rewriting-refused;
   rewriting = rewriting;
+  listing-printed = λ bytes. printing (Prints bytes);
+  hearing-printed = λ sheet patches. printing (HearsLine sheet patches);
+  rewriting-printed = λ bytes. printing (Rewrites bytes);
 }

@@ -1,15 +1,17 @@
--- Demand 1 of the texts that the programs take: any bytes are a text or have a fault; two texts judged; a text written again.
+-- Demand 1 of the texts that the programs take: any bytes are a text or have a fault; two texts judged; a text written again; and what is printed
+-- into a buffer.
 use mathlib.Core.Path.{_≡_, refl, sym, ap, ap₂, _∙_, subst}
-use mathlib.Core.Bool.{Bool, false, cond}
+use mathlib.Core.Bool.{Bool, false, cond, true≢false}
 use mathlib.Core.Logic.{inl, inr}
 use mathlib.Core.List.{List, [], _∷_, _++_}
 use Prim.Native.Nat.{ℕ, _+_, _/_}
 use native.Mathlib.Omega.{arith}
-use lib.Dec.{eqb}
+use lib.Dec.{eqb, leb}
 use lib.ListN.{length}
+use borrow.Author.Tests.{leb-true, leb-false}
 use Rattle.base_answers.specs.Numbers.{refusing}
 use Rattle.base_answers.specs.declared.Answer.{Answer}
-use Rattle.base_answers.specs.declared.Answer.the-variants.{Done, Words, Corners, Unnamed, States, Line}
+use Rattle.base_answers.specs.declared.Answer.the-variants.{Done, Words, Corners, Buffer, Unnamed, States, Line}
 use Rattle.base_types.specs.Counts.{threes}
 use Rattle.base_limits.specs.Limits as limits
 use Rattle.surface_rules.specs.Smallest.{least}
@@ -32,9 +34,10 @@ use Rattle.text_sheet.proofs.Laws.Texts as sheet-laws
 use Rattle.text_read_set.specs.Set as set
 use Rattle.text_read_set.proofs.Laws.Texts as set-laws
 use Rattle.program_lines.specs.Lines.{answerLine}
+use Rattle.program_lines.specs.Printout.{PrintOutcome}
 use Rattle.program_rewrite.specs.Rewriting.{Rewrites}
 use Rattle.program_judge.specs.Hears.{AnswersCounted, AnswersIf, Answers, Hears}
-use Rattle.demands.specs.Answers.{Check, Clear, Due, unnamedCorner, stateCount, sheetChecks, lineAndSheet, Decided, Answered}
+use Rattle.demands.specs.Answers.{Check, Clear, Due, unnamedCorner, stateCount, sheetChecks, lineAndSheet, Decided, Answered, PrintsAnswered}
 use Rattle.demands.proofs.Checks.{answerOf, Refuses, due-is, last-of, counts-are, table-is, table-refuses, chosen, then-once}
 
 -- the counts of what a text says are right
@@ -99,6 +102,14 @@ module _ (bytes out : List ℕ) (w : Rewrites bytes out) (ps ts : List Three) (t
 
   pub rewriting : Clear (unnamedCorner (flat ps) (flat ts)) → out ≡ bytes
   rewriting c = w .of-sheet ps ts t (ap (refuseAt Unnamed) (never-least (unnamedCorner (flat ps) (flat ts) .finds) (length (flat ts)) c))
+
+-- the buffer is the one check
+pub printing : (IsDue : List ℕ → Type 0) → PrintsAnswered IsDue
+printing IsDue most buffer o p =
+    then-once [] tt Done refl (leb most (length buffer)) (Buffer 1) refl (λ a. record { answer = a; count = 0; bytes = buffer }) (λ q. q .answer) o (λ a. refl)
+    (λ h. absurd (true≢false (sym h)))
+    (λ h e. p .too-short (leb-false most (length buffer) e))
+    (λ h e. ap (λ (q : PrintOutcome). refusing (q .answer)) (p .long-enough (leb-true most (length buffer) e) .2))
 
 pub sheet-texts : Decided points triangles
 sheet-texts = record { text-or-fault = sheet-laws.text-or-fault; not-both = λ bytes xs ys line t f. f .none xs ys t; one-fault = λ bytes line other f g. fault-once points triangles f g }

@@ -5,7 +5,7 @@ use mathlib.Core.Bool.{Bool, true, false, not}
 use mathlib.Core.Logic.{_⊎_}
 use mathlib.Core.List.{List, [], _∷_, _++_}
 use Prim.Native.Nat.{ℕ, _+_, _/_, _<_}
-use lib.Dec.{eqb}
+use lib.Dec.{eqb, leb}
 use lib.ListN.{length}
 use Rattle.base_answers.specs.Numbers.{refusing}
 use Rattle.base_answers.specs.declared.Answer.{Answer}
@@ -27,9 +27,10 @@ use Rattle.text_read_set.specs.Set as set
 use Rattle.text_read_set.specs.Outcome as sets
 use Rattle.text_write.specs.Outcome.{writes}
 use Rattle.program_lines.specs.Lines.{answerLine}
+use Rattle.program_lines.specs.Printout.{PrintOutcome, PrintsOver}
 use Rattle.program_rewrite.specs.Rewriting.{Rewrites}
-use Rattle.program_judge.specs.Hears.{Hears}
-use Rattle.program_list.specs.Lists.{Lists}
+use Rattle.program_judge.specs.Hears.{Hears, HearsLine}
+use Rattle.program_list.specs.Lists.{Lists, Prints}
 
 -- ---- the table
 
@@ -70,6 +71,10 @@ cornerCount corners = once (not (threes limits.corners (length corners))) Corner
 -- 3: "a lent buffer is too short", "its number, lowest first"
 abbrev pub shortBuffer : List ℕ → List ℕ → Check
 shortBuffer lent needs = record { places = length needs; finds = short lent needs; gives = λ i. Buffer (i + 1) }
+
+-- the same where one buffer is lent, with room for so many bytes at least
+abbrev pub shortRoom : ℕ → List ℕ → Check
+shortRoom most buffer = once (not (leb most (length buffer))) (Buffer 1)
 
 -- 4: "a corner of the surface names no point"
 abbrev pub unnamedCorner : List ℕ → List ℕ → Check
@@ -123,6 +128,12 @@ pub record Answered {O : Type 0} (checks : List Check) (refused : Answer → O) 
   pub given : (a : Answer) → Due checks a → o ≡ refused a
   pub only : refusing (answer o) ≡ true → Due checks (answer o)
 
+-- Where what is due is printed into a buffer, 3 is given if that is too short, and nothing else is refused.
+abbrev pub PrintsAnswered : (List ℕ → Type 0) → Type 0
+PrintsAnswered IsDue =
+    (most : ℕ) (buffer : List ℕ) (o : PrintOutcome) → PrintsOver most IsDue buffer o
+    → Answered (shortRoom most buffer ∷ []) (λ a. record { answer = a; count = 0; bytes = buffer }) (λ p. p .answer) o
+
 pub record AnswersDemand : Type 0 where
   pub surveying : (words corners : List ℕ) (b : survey.Buffers)
       → Answered (table words corners (survey.lent b) (survey.needs words corners)) (λ a. survey.refused a b) (λ o. o .answer) (survey.surveyOf words corners b)
@@ -171,3 +182,7 @@ pub record AnswersDemand : Type 0 where
       → (a : Answer) → Due (unnamedCorner (flat ps) (flat ts) ∷ []) a → out ≡ answerLine a
   pub rewriting : (bytes out : List ℕ) → Rewrites bytes out → (ps ts : List Three) → TextOf points triangles bytes ps ts
       → Clear (unnamedCorner (flat ps) (flat ts)) → out ≡ bytes
+  -- the same printed into a lent buffer
+  pub listing-printed : (bytes : List ℕ) → PrintsAnswered (Prints bytes)
+  pub hearing-printed : (sheet patches : List ℕ) → PrintsAnswered (HearsLine sheet patches)
+  pub rewriting-printed : (bytes : List ℕ) → PrintsAnswered (Rewrites bytes)

@@ -1,5 +1,5 @@
 -- What is promised of the answer leaves nothing open, and what the program has no room for changes nothing.
-use mathlib.Core.Path.{_≡_, sym, _∙_}
+use mathlib.Core.Path.{_≡_, sym, ap, _∙_}
 use mathlib.Core.Logic.{inl, inr}
 use mathlib.Core.List.{List}
 use Prim.Native.Nat.{ℕ, _<_, _≤_}
@@ -17,7 +17,8 @@ use Rattle.text_sheet.proofs.Theorems.{longest}
 use Rattle.text_read_set.specs.Set as set
 use Rattle.text_read_set.proofs.Laws.Texts as sets
 use Rattle.text_read_set.proofs.Theorems.{set-longest}
-use Rattle.program_judge.specs.Hears.{Hears}
+use Rattle.program_lines.specs.Lines.{answerLine}
+use Rattle.program_judge.specs.Hears.{Hears, HearsLine}
 use Rattle.program_judge.proofs.Laws.Answered.{answers-once}
 
 -- two answers that are allowed are equal
@@ -32,6 +33,11 @@ hears-once sheet patches a b p q = go (sheets.text-or-fault sheet)
     go : Known points triangles sheet → a ≡ b
     go (inl t) = of-sheet (t .0) (t .1) (t .2) (sets.text-or-fault patches)
     go (inr f) = p .of-fault (f .0) (f .1) ∙ sym (q .of-fault (f .0) (f .1))
+
+-- so is its line
+pub hears-line-once : (sheet patches x y : List ℕ) → HearsLine sheet patches x → HearsLine sheet patches y → x ≡ y
+hears-line-once sheet patches x y p q =
+    p .its-line ∙ ap answerLine (hears-once sheet patches (p .answer) (q .answer) (p .heard) (q .heard)) ∙ sym (q .its-line)
 
 -- what is right for the bytes in rooms that are longer than the longest texts is right for what was read into them
 pub hears-front : {room held sheet patches : List ℕ} {n m : ℕ} {a : Answer} → limits.sheet-text < length room → limits.set-text < length held

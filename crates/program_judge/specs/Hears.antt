@@ -20,6 +20,7 @@ use Rattle.text_rules.specs.Text.{TextOf, lines}
 use Rattle.text_rules.specs.Fault.{Fault}
 use Rattle.text_sheet.specs.Sheet.{points, triangles}
 use Rattle.text_read_set.specs.Set as set
+use Rattle.program_lines.specs.Lines.{answerLine}
 
 -- The checker's answer, where no buffer is too short: a refusal of the surface; 9; or the verdict.
 abbrev pub AnswersCounted : Bool → List ℕ → List ℕ → List ℕ → List ℕ → Answer → Type 0
@@ -43,3 +44,9 @@ pub record Hears (sheet patches : List ℕ) (a : Answer) : Type 0 where
       → (line : ℕ) → Fault set.states set.triangles patches line → a ≡ Line (length (lines points triangles ps ts) + line)
   pub of-set : (ps ts : List Three) → TextOf points triangles sheet ps ts
       → (ss : List ℕ) (us : List Three) → TextOf set.states set.triangles patches ss us → Answers (flat ps) (flat ts) ss (flat us) a
+
+-- and its line, which is printed
+pub record HearsLine (sheet patches line : List ℕ) : Type 0 where
+  pub answer : Answer
+  pub heard : Hears sheet patches answer
+  pub its-line : line ≡ answerLine answer

@@ -1,15 +1,53 @@
 // Hears a patch set: a wrong line of the sheet's text, a wrong line of the set's, or what the checker answers.
 ghost use Prim.Native.Nat.{_<_, _≤_};
 ghost use lib.ListN.{length};
-ghost use Rattle.base_types.specs.Lent.{was};
+ghost use Rattle.base_types.specs.Lent.{was, left};
 ghost use Rattle.base_limits.specs.Limits as limits;
-ghost use Rattle.program_judge.specs.Hears.{Answers};
+ghost use Rattle.program_lines.specs.Printout.{printOutcome, PrintsOver};
+ghost use Rattle.program_judge.specs.Hears.{Answers, Hears, HearsLine};
 ghost use Rattle.program_judge.specs.Workings.Taken.{Taken, HearsTaken, HearsSet};
 use base_answers::Answer;
 use base_types::PatchSet;
 use base_types::Surface;
 use judge_answer::Judged;
+use program_lines::LINE;
+use program_lines::Printout;
 use text_rules::Scan;
+
+// Prints the line of the answer on two texts, a sheet's and a patch set's, from the start of a buffer; or refuses a buffer that is too
+// short for some answer's line.
+pub fn print(sheet: &[u8], set: &[u8], out: &mut [u8]) -> Printout
+    ensures { λ r. do most ← ⟦LINE⟧ .entry; ⌜ PrintsOver most (HearsLine (was sheet) (was set)) (was out) (printOutcome r (left out)) ⌝ }
+{
+    if out.len() < LINE {
+        return Printout {
+            answer: Answer::Buffer(1),
+            bytes: 0,
+        };
+    }
+    let answer: Answer = hear_texts(sheet, set);
+    let bytes = program_lines::put_answer(out, answer);
+    Printout {
+        answer: Answer::Done,
+        bytes,
+    }
+}
+
+// The answer on the two texts.
+fn hear_texts(sheet: &[u8], set: &[u8]) -> Answer
+    ensures { λ r. ⌜ Hears (was sheet) (was set) r ⌝ }
+{
+    let mut words = [0u32; Surface::WORDS];
+    let mut corners = [0u16; Surface::CORNERS];
+    match text_read::take_in(sheet, &mut words, &mut corners) {
+        Scan::Wrong(at) => Answer::Line(at),
+        Scan::Whole(points, triangles) => {
+            let w = 3 * points;
+            let c = 3 * triangles;
+            hear_set(&words[..w], &corners[..c], set)
+        }
+    }
+}
 
 // The answer on a sheet that was taken in, and on the text of a set: a program's input, or as much of it as its room holds, the first m bytes.
 // The room is longer than the longest text, so that a longer one is seen to be longer. The sheet's corners may name no point: a wrong line

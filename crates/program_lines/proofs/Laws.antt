@@ -7,3 +7,4 @@ pub mod Widths
 pub mod Answering
 pub mod Nexts
 pub mod Loops
+pub mod Printing

@@ -31,6 +31,12 @@ pub struct Progress {
     pub bytes: usize,
 }
 
+// What a call answers that prints into a lent buffer, with the count of the bytes that it printed.
+pub struct Printout {
+    pub answer: Answer,
+    pub bytes: usize,
+}
+
 // How many digits a number has.
 fn size_of(n: u64) -> usize
     ensures { λ r. ⌜ r ≡ size n ⌝ }

@@ -3,3 +3,4 @@ pub mod Taken
 pub mod Shows
 pub mod Left
 pub mod Printed
+pub mod Printouts

@@ -26,6 +26,8 @@ use Rattle.text_sheet.specs.Sheet.{points, triangles}
 use Rattle.text_sheet.proofs.Laws.Texts.{text-or-fault}
 use Rattle.text_sheet.proofs.Theorems.{longest}
 use Rattle.program_lines.specs.Listing.{Shown, listing}
+use Rattle.program_lines.specs.Printout.{PrintOutcome, PrintsOver}
+use Rattle.program_lines.proofs.Theorems.{print-once}
 use Rattle.program_roll.specs.Sections.{Sections}
 use Rattle.program_roll.proofs.Theorems.{sections-joined}
 use Rattle.program_list.specs.Lists.{Lists, ListsIn, loopsOf, PrintsIf, Prints}
@@ -56,6 +58,10 @@ prints-once bytes out out′ x y = go (text-or-fault bytes)
         let a = sheetRefusal (flat (t .0)) (flat (t .1)) in
         of-text (flat (t .0)) (flat (t .1)) (refusing a) a (x .of-text (t .0) (t .1) (t .2)) (y .of-text (t .0) (t .1) (t .2))
     go (inr f) = x .of-fault (f .0) (f .1) ∙ sym (y .of-fault (f .0) (f .1))
+
+-- so two outcomes of printing into a buffer that are allowed are equal
+pub prints-over-once : {most : ℕ} {bytes buffer : List ℕ} {o p : PrintOutcome} → PrintsOver most (Prints bytes) buffer o → PrintsOver most (Prints bytes) buffer p → o ≡ p
+prints-over-once {bytes = bytes} x y = print-once (prints-once bytes) x y
 
 -- what was left in buffers of the full size tells what is to be printed
 pub lists-printed : (bytes : List ℕ) (b : Buffers) (o : Outcome) → Full b → Lists bytes b o → Printed (refusing (o .answer)) bytes o

@@ -4,10 +4,14 @@ ghost use lib.ListN.{length};
 ghost use Rattle.base_types.specs.Lent.{was, left};
 ghost use Rattle.base_limits.specs.Limits.{sheet-text};
 ghost use Rattle.patch_surface.specs.Outcome.{buffers, outcome};
-ghost use Rattle.program_list.specs.Lists.{Lists, ListsIn};
+ghost use Rattle.program_lines.specs.Printout.{printOutcome, PrintsOver};
+ghost use Rattle.program_list.specs.Lists.{Lists, ListsIn, Prints};
 use base_answers::Answer;
+use base_types::PatchSet;
 use base_types::Surface;
 use patch_surface::Patched;
+use program_lines::Printout;
+use program_roll::LISTING;
 use text_rules::Scan;
 
 // Patches the sheet that a text says, and leaves what the patcher leaves; or refuses a text at its wrong line, and leaves everything as it
@@ -63,4 +67,47 @@ pub fn list_room(
         (outcome r (buffers (left grid) (left rings) (left lengths) (left states) (left weights) (left patches))) ⌝ }
 {
     list(&room[..n], grid, rings, lengths, states, weights, patches)
+}
+
+// Prints the listing of the sheet that a text says, or the answer's line, from the start of a buffer; or refuses a buffer that is too short
+// for some listing.
+pub fn print(text: &[u8], out: &mut [u8]) -> Printout
+    ensures { λ r. do most ← ⟦LISTING⟧ .entry; ⌜ PrintsOver most (Prints (was text)) (was out) (printOutcome r (left out)) ⌝ }
+{
+    if out.len() < LISTING {
+        return Printout {
+            answer: Answer::Buffer(1),
+            bytes: 0,
+        };
+    }
+    let mut grid = [0i32; Surface::WORDS];
+    let mut rings = [0u16; Surface::CORNERS];
+    let mut lengths = [0u16; Surface::TRIANGLES];
+    let mut states = [0u16; Surface::TRIANGLES];
+    let mut weights = [0u64; Surface::TRIANGLES];
+    let mut patches = [0u16; PatchSet::CORNERS];
+    let listed = list(
+        text,
+        &mut grid,
+        &mut rings,
+        &mut lengths,
+        &mut states,
+        &mut weights,
+        &mut patches,
+    );
+    let answer = listed.answer;
+    let bytes = program_roll::put_all(
+        out,
+        answer,
+        listed.loops,
+        &rings[..listed.vertices],
+        &lengths[..listed.loops],
+        &states[..listed.loops],
+        &weights[..listed.loops],
+        &patches[..listed.corners],
+    );
+    Printout {
+        answer: Answer::Done,
+        bytes,
+    }
 }

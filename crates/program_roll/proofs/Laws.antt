@@ -3,3 +3,4 @@ pub mod Beginning
 pub mod Between
 pub mod Filling
 pub mod Going
+pub mod Whole

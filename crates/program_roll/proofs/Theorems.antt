@@ -6,7 +6,7 @@ use Prim.Native.Nat.{ℕ, _+_, _<_, _≤_}
 use native.Mathlib.Nat.{le-antisymm}
 use native.Mathlib.Omega.{arith}
 use lib.Dec.{leb}
-use lib.ListN.{length, take, length-append}
+use lib.ListN.{length, take}
 use lib.Seq.{take-all}
 use borrow.Author.Tests.{leb-true, leb-false}
 use Rattle.base_answers.specs.declared.Answer.{Answer}
@@ -21,6 +21,7 @@ use Rattle.program_lines.specs.Listing.{Shown, loopLines, listing}
 use Rattle.program_roll.specs.Sections.{head, between, Sections, first, next}
 use Rattle.program_roll.specs.Workings.Roll.{Begins, Puts, Fills}
 use Rattle.program_roll.proofs.Laws.Between.{between-joins}
+use Rattle.program_roll.proofs.Laws.Whole.{first-put, first-bytes}
 
 abbrev marked : ℕ → ℕ → ℕ → ℕ → Progress
 marked l v c b = record { loops = l; vertices = v; corners = c; bytes = b }
@@ -63,12 +64,7 @@ fills-once most loops m r s before one two p q =
 -- what stands in the buffer: behind the lines before the loops, or from the start of a buffer that was emptied
 pub first-section : (most count : ℕ) (a : Answer) (loops : List Shown) (m r : Progress) (before one two : List ℕ) → Begins a count m before one → Fills most loops m r one two → take (r .bytes) two ≡ head a count ++ between 0 (r .loops) loops
 first-section most count a loops m r before one two p q =
-    ap (take (r .bytes))
-    (q .puts .put
-    ∙ ap₂ (λ (k : ℕ) (l : List ℕ). laid (m .bytes) (between k (r .loops) loops) l) (p .no-loops) (p .put)
-    ∙ laid-over (head a count) (between 0 (r .loops) loops) before (m .bytes) (p .bytes-are))
-    ∙ start-of (head a count ++ between 0 (r .loops) loops) before (r .bytes)
-    (omega (arith, q .puts .bytes-are, p .bytes-are, length-append (head a count) (between 0 (r .loops) loops), ap (λ (k : ℕ). length (between k (r .loops) loops)) (p .no-loops)))
+    ap (take (r .bytes)) (first-put p q) ∙ start-of (head a count ++ between 0 (r .loops) loops) before (r .bytes) (first-bytes p q)
 
 pub next-section : (most : ℕ) (loops : List Shown) (m r : Progress) (before after : List ℕ) → m .bytes ≡ 0 → Fills most loops m r before after → take (r .bytes) after ≡ between (m .loops) (r .loops) loops
 unfolding over

@@ -4,8 +4,11 @@ ghost use Prim.Native.Nat.{_≤_};
 ghost use lib.ListN.{length};
 ghost use Rattle.base_types.specs.Lent.{was, left};
 ghost use Rattle.program_lines.specs.Workings.Telling.{inventory};
-ghost use Rattle.program_roll.specs.Workings.Roll.{Begins, Going, FillsOn};
+ghost use Rattle.program_roll.specs.Workings.Listed.{Listed};
+ghost use Rattle.program_roll.specs.Workings.Roll.{Begins, Going, FillsOn, Few, PutsAll};
 use base_answers::Answer;
+use base_types::PatchSet;
+use base_types::Surface;
 use program_lines::LINE;
 use program_lines::Progress;
 use program_lines::WIDEST;
@@ -14,6 +17,13 @@ use program_lines::WIDEST;
 pub const HEAD: usize = 2 * LINE;
 
 pub const ROOM: usize = HEAD + WIDEST;
+
+// Room that is enough for every listing, and for the widest loop's lines behind it: `fill` asks for so much before each loop.
+pub const LISTING: usize = HEAD
+    + LINE * Surface::TRIANGLES
+    + 6 * Surface::CORNERS
+    + 8 * PatchSet::CORNERS
+    + WIDEST;
 
 // The progress before any loop is told.
 fn start(bytes: usize) -> Progress
@@ -64,4 +74,34 @@ pub fn fill(
         m = program_lines::put_next(out, m, rings, lengths, states, weights, patches);
     }
     m
+}
+
+// Puts a whole listing at the start of a buffer that has room for every listing, and answers how many bytes it has.
+pub fn put_all(
+    out: &mut [u8],
+    answer: Answer,
+    loops: usize,
+    rings: &[u16],
+    lengths: &[u16],
+    states: &[u16],
+    weights: &[u64],
+    patches: &[u16],
+) -> usize
+    requires { do most ← ⟦LISTING⟧; ⌜ most ≤ length (now out) ⌝ }
+    requires { ⌜ Listed (inventory (now rings) (now lengths) (now states) (now weights) (now patches)) loops ⌝ }
+    requires { ⌜ Few (now rings) (now patches) loops ⌝ }
+    ensures { λ r. ⌜ PutsAll (inventory (was rings) (was lengths) (was states) (was weights) (was patches)) answer loops r (was out) (left out) ⌝ }
+{
+    let progress = begin(out, answer, loops);
+    let told = fill(
+        out,
+        progress,
+        loops,
+        rings,
+        lengths,
+        states,
+        weights,
+        patches,
+    );
+    told.bytes
 }

@@ -1,2 +1,3 @@
 pub mod ForC
 pub mod Texts
+pub mod Prints

@@ -5,9 +5,16 @@ ghost use Rattle.base_types.specs.Lent.{was, left};
 ghost use Rattle.survey_rules.specs.Outcome.{buffers, surveyOf};
 ghost use Rattle.patch_surface.specs.Outcome as patcher;
 ghost use Rattle.text_write.specs.Outcome.{writes};
+ghost use Rattle.base_limits.specs.Limits.{sheet-text};
+ghost use Rattle.program_rewrite.specs.Rewriting.{Rewrites};
+ghost use Rattle.program_judge.specs.Hears.{HearsLine};
+ghost use Rattle.program_list.specs.Lists.{Prints};
 ghost use Rattle.wazelpunt.specs.ForC.{Tells, told, surveyed, JudgesTold, patchTold, PatchesTold};
 ghost use Rattle.wazelpunt.specs.Texts.{textTold, ReadsTold, ReadsSetTold, writeTold, written};
+ghost use Rattle.wazelpunt.specs.Prints.{PrintsTold};
 use grid_coordinate::Coordinate;
+use program_lines::LINE;
+use program_roll::LISTING;
 
 // The answer for the coordinate with these bits: its number is returned, 0 or refusal 7 or 8; the whole number, or 0, is
 // left in `whole`, and in `rest` are left the bits of the rest, or of the value itself where it is too far, or 0.
@@ -192,4 +199,59 @@ pub extern "C" fn wazelpunt_read_set(
     *states_read = read.states;
     *corners_read = read.corners;
     met.number()
+}
+
+// Prints the listing of a sheet's text, or an answer's line, as the listing program does, into the lent buffer; the number of the call's own
+// answer is returned, and its place and how many bytes were printed are left too.
+#[no_mangle]
+pub extern "C" fn wazelpunt_list_text(
+    text: &[u8],
+    out: &mut [u8],
+    place: &mut usize,
+    bytes: &mut usize,
+) -> u32
+    ensures { λ r. do most ← ⟦LISTING⟧ .entry; ⌜ PrintsTold most (Prints (was text)) (was out) (writeTold r (left place) (left bytes) (left out)) ⌝ }
+{
+    let listed = program_list::print(text, out);
+    let own = listed.answer;
+    *place = own.place();
+    *bytes = listed.bytes;
+    own.number()
+}
+
+// Prints the line of the answer on a sheet's text and a patch set's, as the judging program does, into the lent buffer; the number of the
+// call's own answer is returned, and its place and how many bytes were printed are left too.
+#[no_mangle]
+pub extern "C" fn wazelpunt_judge_texts(
+    sheet: &[u8],
+    set: &[u8],
+    out: &mut [u8],
+    place: &mut usize,
+    bytes: &mut usize,
+) -> u32
+    ensures { λ r. do most ← ⟦LINE⟧ .entry; ⌜ PrintsTold most (HearsLine (was sheet) (was set)) (was out) (writeTold r (left place) (left bytes) (left out)) ⌝ }
+{
+    let heard = program_judge::print(sheet, set, out);
+    let own = heard.answer;
+    *place = own.place();
+    *bytes = heard.bytes;
+    own.number()
+}
+
+// Prints a sheet's text written again, or an answer's line, as the rewriting program does, into the lent buffer; the number of the call's
+// own answer is returned, and its place and how many bytes were printed are left too.
+#[no_mangle]
+pub extern "C" fn wazelpunt_rewrite_text(
+    text: &[u8],
+    out: &mut [u8],
+    place: &mut usize,
+    bytes: &mut usize,
+) -> u32
+    ensures { λ r. ⌜ PrintsTold sheet-text (Rewrites (was text)) (was out) (writeTold r (left place) (left bytes) (left out)) ⌝ }
+{
+    let rewritten = program_rewrite::print(text, out);
+    let own = rewritten.answer;
+    *place = own.place();
+    *bytes = rewritten.bytes;
+    own.number()
 }

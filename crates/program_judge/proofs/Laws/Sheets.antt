@@ -34,35 +34,37 @@ taken-from room n words-before corners-before s roomy =
     (room, n, record { roomy = roomy; words-before = words-before; corners-before = corners-before; scanned = s })
 
 -- what is answered on the bytes from which a sheet was taken in, and on others
-abbrev HearsBytes : Scan → List ℕ → List ℕ → List ℕ → Answer → Type 0
-HearsBytes scan words corners patches a = (room : List ℕ) (n : ℕ) → TakenIn room n scan words corners → Hears (take n room) patches a
+abbrev pub HearsBytes : Scan → List ℕ → List ℕ → List ℕ → Answer → Type 0
+HearsBytes scan words corners patches a =
+    (sheet words-before corners-before : List ℕ) → Scanned flat flat (parse sheet) scan words corners words-before corners-before → Hears sheet patches a
 
 -- so on the inputs that were read into the rooms
-hears-inputs : {scan : Scan} {words corners : List ℕ} (held : List ℕ) (m : ℕ) {a : Answer} → limits.set-text < length held → HearsBytes scan words corners (take m held) a → HearsTaken scan words corners held m a
+hears-inputs : (scan : Scan) (words corners held : List ℕ) (m : ℕ) {a : Answer} → limits.set-text < length held → HearsBytes scan words corners (take m held) a → HearsTaken scan words corners held m a
 unfolding HearsTaken
-hears-inputs held m more-roomy h = λ room n t sheet patches in-room in-held. hears-front (t .roomy) more-roomy in-room in-held (h room n t)
+hears-inputs scan words corners held m more-roomy h = λ room n t sheet patches in-room in-held. hears-front (t .roomy) more-roomy in-room in-held (h (take n room) (t .words-before) (t .corners-before) (t .scanned))
 
 -- a text with a fault
-wrong-bytes : (scan : Scan) (words corners patches : List ℕ) (line : ℕ) → scan ≡ Wrong line → HearsBytes scan words corners patches (Line line)
+pub wrong-bytes : (scan : Scan) (words corners patches : List ℕ) (line : ℕ) → scan ≡ Wrong line → HearsBytes scan words corners patches (Line line)
 unfolding Scanned
-wrong-bytes scan words corners patches line e room n t =
+wrong-bytes scan words corners patches line e sheet words-before corners-before s =
     record {
-      of-fault = λ l f. let h : scan ≡ Wrong l = rw (fault-only f) at (t .scanned) in let d : line ≡ l = cc in ap Line d;
-      of-set-fault = λ ps ts x l f. absurd (none ps ts (rw (parse-text x) at (t .scanned)));
-      of-set = λ ps ts x ss us y. absurd (none ps ts (rw (parse-text x) at (t .scanned)));
+      of-fault = λ l f. let h : scan ≡ Wrong l = rw (fault-only f) at s in let d : line ≡ l = cc in ap Line d;
+      of-set-fault = λ ps ts x l f. absurd (none ps ts (rw (parse-text x) at s));
+      of-set = λ ps ts x ss us y. absurd (none ps ts (rw (parse-text x) at s));
     }
   where
-    none : (ps ts : List Three) → Scanned flat flat (said ps ts) scan words corners (t .words-before) (t .corners-before) → ⊥
+    none : (ps ts : List Three) → Scanned flat flat (said ps ts) scan words corners words-before corners-before → ⊥
     none ps ts h = whole-wrong (sym (h .0) ∙ e)
 
 pub wrong-hears : (scan : Scan) (words corners held : List ℕ) (m line : ℕ) → limits.set-text < length held → scan ≡ Wrong line → HearsTaken scan words corners held m (Line line)
-wrong-hears scan words corners held m line more-roomy e = hears-inputs held m more-roomy (wrong-bytes scan words corners (take m held) line e)
+wrong-hears scan words corners held m line more-roomy e = hears-inputs scan words corners held m more-roomy (wrong-bytes scan words corners (take m held) line e)
 
 -- a whole text of n points and m triangles
 module _ {scan : Scan} {n m : ℕ} (e : scan ≡ Whole n m) where
-  module _ {words corners : List ℕ} (t : Taken scan words corners) where
-    here : let s = t .2 in Kept flat flat parse (take (t .1) (t .0)) n m words corners (s .words-before) (s .corners-before)
-    here = let s = t .2 in kept flat flat parse (take (t .1) (t .0)) scan n m words corners (s .words-before) (s .corners-before) (s .scanned) e
+  -- as it was taken in
+  module _ (sheet words corners words-before corners-before : List ℕ) (s : Scanned flat flat (parse sheet) scan words corners words-before corners-before) where
+    here : Kept flat flat parse sheet n m words corners words-before corners-before
+    here = kept flat flat parse sheet scan n m words corners words-before corners-before s e
 
     pub words-small : Fits w64 (3 * n)
     words-small = omega (arith, deliver.few-points here)
@@ -77,10 +79,10 @@ module _ {scan : Scan} {n m : ℕ} (e : scan ≡ Whole n m) where
     pub corners-within : 3 * m ≤ length corners
     corners-within = deliver.corners-in here
 
-    pub words-cut : 3 * n ≡ length (take (3 * n) words)
+    words-cut : 3 * n ≡ length (take (3 * n) words)
     words-cut = sym (length-take-le (3 * n) words words-within)
 
-    pub corners-cut : 3 * m ≡ length (take (3 * m) corners)
+    corners-cut : 3 * m ≡ length (take (3 * m) corners)
     corners-cut = sym (length-take-le (3 * m) corners corners-within)
 
     pub cut-few : (length (take (3 * n) words) ≤ limits.words) × (length (take (3 * m) corners) ≤ limits.corners)
@@ -90,23 +92,22 @@ module _ {scan : Scan} {n m : ℕ} (e : scan ≡ Whole n m) where
   lines-counted : (ps ts : List Three) → length (flat ps) / 3 + length (flat ts) / 3 + 2 ≡ length (lines points triangles ps ts)
   lines-counted ps ts = omega (arith, flat-length ps, flat-length ts, lines-length points triangles ps ts)
 
-  whole-bytes : (words corners patches : List ℕ) (a : Answer) → HearsSet (take (3 * n) words) (take (3 * m) corners) patches a → HearsBytes scan words corners patches a
+  pub whole-bytes : (words corners patches : List ℕ) (a : Answer) → HearsSet (take (3 * n) words) (take (3 * m) corners) patches a → HearsBytes scan words corners patches a
   unfolding Scanned
-  whole-bytes words corners patches a h room many t =
+  whole-bytes words corners patches a h sheet words-before corners-before s =
       record {
-        of-fault = λ l f. absurd (whole-wrong (sym e ∙ rw (fault-only f) at (t .scanned)));
-        of-set-fault = λ ps ts x l f.
-            on ps ts (rw (parse-text x) at (t .scanned)) .of-set-fault l f ∙ ap (λ (k : ℕ). Line (k + l)) (lines-counted ps ts);
-        of-set = λ ps ts x ss us y. on ps ts (rw (parse-text x) at (t .scanned)) .of-set ss us y;
+        of-fault = λ l f. absurd (whole-wrong (sym e ∙ rw (fault-only f) at s));
+        of-set-fault = λ ps ts x l f. on ps ts (rw (parse-text x) at s) .of-set-fault l f ∙ ap (λ (k : ℕ). Line (k + l)) (lines-counted ps ts);
+        of-set = λ ps ts x ss us y. on ps ts (rw (parse-text x) at s) .of-set ss us y;
       }
     where
-      on : (ps ts : List Three) → Scanned flat flat (said ps ts) scan words corners (t .words-before) (t .corners-before) → HearsSet (flat ps) (flat ts) patches a
-      on ps ts s =
-          let d : Whole n m ≡ Whole (length ps) (length ts) = sym e ∙ s .0 in
-          let f : take (3 * n) words ≡ flat ps = front-of ps words (t .words-before) n (s .1) cc in
-          let g : take (3 * m) corners ≡ flat ts = front-of ts corners (t .corners-before) m (s .2) cc in
+      on : (ps ts : List Three) → Scanned flat flat (said ps ts) scan words corners words-before corners-before → HearsSet (flat ps) (flat ts) patches a
+      on ps ts z =
+          let d : Whole n m ≡ Whole (length ps) (length ts) = sym e ∙ z .0 in
+          let f : take (3 * n) words ≡ flat ps = front-of ps words words-before n (z .1) cc in
+          let g : take (3 * m) corners ≡ flat ts = front-of ts corners corners-before m (z .2) cc in
           rw (f, g) at h
 
   pub whole-hears : (words corners held : List ℕ) (k : ℕ) (a : Answer) → limits.set-text < length held
       → HearsSet (take (3 * n) words) (take (3 * m) corners) (take k held) a → HearsTaken scan words corners held k a
-  whole-hears words corners held k a more-roomy h = hears-inputs held k more-roomy (whole-bytes words corners (take k held) a h)
+  whole-hears words corners held k a more-roomy h = hears-inputs scan words corners held k more-roomy (whole-bytes words corners (take k held) a h)

@@ -17,7 +17,7 @@ use Rattle.program_lines.proofs.Laws.Lines.{one-length, two-length}
 use Rattle.program_lines.proofs.put_answer.⟦LINE⟧-asked.Lts as for-line
 
 -- how long the code says that they can be
-abbrev line-most : ℕ
+abbrev pub line-most : ℕ
 line-most = for-line.answer tt tt
 
 two-short : (n p : ℕ) → Fits w32 n → Fits w64 p → length (line answer= (n ∷ p ∷ [])) ≤ line-most

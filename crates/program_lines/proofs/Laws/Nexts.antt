@@ -17,7 +17,7 @@ use Rattle.program_lines.specs.Lines.{PutAt}
 use Rattle.program_lines.specs.Listing.{Shown, loopLines}
 use Rattle.program_lines.specs.Workings.Telling.{Inventory, shown, nothing, next, NextRoom, Tells, TellsNext}
 use Rattle.program_lines.proofs.Laws.Parts.{part-is, part-within, part-next}
-use Rattle.program_lines.proofs.Laws.Widths.{widest, short-part, loop-wide}
+use Rattle.program_lines.proofs.Laws.Widths.{widest, short-part, width, width-most, loop-wide}
 
 -- every number in the buffers is one of its type
 pub record Typed (w : Inventory) : Type 0 where
@@ -110,12 +110,14 @@ module _ {w : Inventory} {m : Progress} (room : NextRoom w m) where
         let y : m .corners + k - m .corners ≡ k = omega arith in
         rw (x, y, ring-is, patch-is, state-is, weight-is)
 
-    pub next-wide : Typed w → length (loopLines (handed w m k)) ≤ widest
-    next-wide t =
+    pub next-width : Typed w → length (loopLines here) ≤ width here
+    next-width t =
         let short = rw ring-is at (short-part (m .vertices) (edges w m) (w .rings) (t .rings-short)) in
         let small = rw patch-is at (short-part (m .corners) k (w .patches) (t .patches-short)) in
-        let wide = loop-wide here (room .fits) short small (rw state-is at (t .states-short (m .loops))) (rw weight-is at (t .weights-long (m .loops))) in
-        omega (arith, wide, ap (λ (s : Shown). length (loopLines s)) handed-is)
+        loop-wide here (room .fits) short small (rw state-is at (t .states-short (m .loops))) (rw weight-is at (t .weights-long (m .loops)))
+
+    pub next-wide : Typed w → length (loopLines (handed w m k)) ≤ widest
+    next-wide t = omega (arith, next-width t, width-most here (room .fits), ap (λ (s : Shown). length (loopLines s)) handed-is)
 
     tells-on : (b : ℕ) (before after : List ℕ) → PutAt (m .bytes) (loopLines (handed w m k)) before b after
         → Tells (room .loops) m (record { loops = m .loops + 1; vertices = m .vertices + edges w m; corners = m .corners + k; bytes = b }) before after

@@ -16,6 +16,7 @@ use Rattle.text_digits.specs.Numeral.{size}
 use Rattle.program_lines.specs.Lines.{line, joined, loop=, ring=, patch=}
 use Rattle.program_lines.specs.Listing.{Shown, patchLines, loopLines}
 use Rattle.program_lines.specs.Workings.Telling.{Fits}
+use Rattle.program_lines.proofs.Laws.Answering.{line-most}
 use Rattle.program_lines.proofs.Laws.Digits.{size-word, size-short}
 use Rattle.program_lines.proofs.put_next.⟦WIDEST⟧-asked.Lts as for-widest
 use Rattle.program_lines.proofs.Laws.Lines.{joined-none, line-length, next-length, last-length, three-length}
@@ -62,9 +63,16 @@ share-few s f = go (eqb (s .state) stated.patched) refl
 abbrev pub widest : ℕ
 widest = for-widest.answer tt tt
 
-pub loop-wide : (s : Shown) → Fits s → Short (s .ring) → Short (s .patch) → val.Fits w16 (s .state) → val.Fits w64 (s .weight) → length (loopLines s) ≤ widest
+-- how wide they are at most, by the vertices of the ring and the corners of the patch
+abbrev pub width : Shown → ℕ
+width s = line-most + 6 * length (s .ring) + 8 * length (s .patch)
+
+pub width-most : (s : Shown) → Fits s → width s ≤ widest
+width-most s f = omega (arith, share-few s f, f .few)
+
+pub loop-wide : (s : Shown) → Fits s → Short (s .ring) → Short (s .patch) → val.Fits w16 (s .state) → val.Fits w64 (s .weight) → length (loopLines s) ≤ width s
 unfolding loopLines
 loop-wide s f a b u v =
     let x = length-append (line loop= (length (s .ring) ∷ s .state ∷ s .weight ∷ [])) (line ring= (s .ring) ++ patchLines (s .patch)) in
     let y = length-append (line ring= (s .ring)) (patchLines (s .patch)) in
-    omega (arith, x, y, three-length loop= (length (s .ring)) (s .state) (s .weight), line-length ring= (s .ring), joined-wide (s .ring) a, patch-wide (s .patch) b, share-few s f, f .few, size-short (length (s .ring)) (omega (arith, f .few)), size-short (s .state) u, size-word (s .weight) v)
+    omega (arith, x, y, three-length loop= (length (s .ring)) (s .state) (s .weight), line-length ring= (s .ring), joined-wide (s .ring) a, patch-wide (s .patch) b, size-short (length (s .ring)) (omega (arith, f .few)), size-short (s .state) u, size-word (s .weight) v)

@@ -8,9 +8,10 @@ use Rattle.base_answers.specs.Numbers.{refusing}
 use Rattle.base_answers.specs.declared.Answer.{Answer}
 use Rattle.base_limits.specs.Limits as limits
 use Rattle.surface_rules.specs.Buffers.{over}
-use Rattle.surface_rules.specs.Threes.{flat}
+use Rattle.surface_rules.specs.Threes.{Three, flat}
 use Rattle.surface_rules.proofs.Laws.Over.{start-of}
-use Rattle.text_sheet.specs.Sheet.{text}
+use Rattle.text_rules.specs.Text.{TextOf}
+use Rattle.text_sheet.specs.Sheet.{points, triangles, text}
 use Rattle.text_read.specs.Outcome.{ReadOutcome, Reads}
 use Rattle.text_write.specs.declared.Written.{Written}
 use Rattle.text_write.specs.Outcome.{WriteOutcome, writeOutcome, writeRefusal, writes}
@@ -81,7 +82,7 @@ module _ {bytes words corners : List ℕ} {o : ReadOutcome} {t : Bool} (r : Read
         of-fault = λ line f. p ∙ ap answerLine (answer-of _ (r .of-fault line f));
       }
 
-  pub written-rewrites : (buffer : List ℕ) {out : List ℕ} → t ≡ false → length bytes ≤ length buffer
+  pub written-rewrites : (buffer : List ℕ) {out : List ℕ} → t ≡ false → ((ps ts : List Three) → TextOf points triangles bytes ps ts → length bytes ≤ length buffer)
       → out ≡ printed (writes (take (o .word-count) (o .words)) (take (o .corner-count) (o .corners)) buffer) → Rewrites bytes out
   unfolding printed
   written-rewrites buffer h k p =
@@ -91,7 +92,7 @@ module _ {bytes words corners : List ℕ} {o : ReadOutcome} {t : Bool} (r : Read
             p
             ∙ ap (λ (q : ReadOutcome). printed (writes (take (q .word-count) (q .words)) (take (q .corner-count) (q .corners)) buffer)) e
             ∙ ap₂ (λ (x y : List ℕ). printed (writes x y buffer)) (start-of (flat ps) words (length (flat ps)) refl) (start-of (flat ts) corners (length (flat ts)) refl)
-            ∙ ap printed (written-whole t buffer k n)
+            ∙ ap printed (written-whole t buffer (k ps ts t) n)
             ∙ start-of bytes buffer (length bytes) refl;
         of-unnamed = λ ps ts i t n. never-so (answer-of _ (r .of-text ps ts t ∙ read-unnamed t words corners hw hc i n)) h refl;
         of-fault = λ line f. never-so (answer-of _ (r .of-fault line f)) h refl;

@@ -51,7 +51,7 @@ returns-2 c =
       out = printed (writes _ _ (s .args .room .now));
       due = λ input held.
           room-enough (s .pre .0) held
-          (written-rewrites (read f .read .ensures) (omega arith) (omega arith) (f .refuses .ensures) _ (t .if1 .left) (start-within (s .args .n) (s .args .room .now)) refl);
+          (written-rewrites (read f .read .ensures) (omega arith) (omega arith) (f .refuses .ensures) _ (t .if1 .left) (λ ps ts x. start-within (s .args .n) (s .args .room .now)) refl);
       many = w .write .ensures .1;
       lies = w .write .ensures .0;
     }

@@ -30,7 +30,7 @@ abbrev pub emptied : Progress → Progress
 emptied m = record { loops = m .loops; vertices = m .vertices; corners = m .corners; bytes = 0 }
 
 module _ {w : Inventory} {count : ℕ} where
-  pub going-begins : {a : Answer} {loops : ℕ} {r : Progress} {before after : List ℕ} → Listed w count → Begins a loops r before after → Going w count r
+  unfoldable pub going-begins : {a : Answer} {loops : ℕ} {r : Progress} {before after : List ℕ} → Listed w count → Begins a loops r before after → Going w count r
   unfolding flatten
   going-begins l b =
       record {

@@ -1,12 +1,13 @@
 -- What is put into a buffer at a listing's beginning, and how it goes on from there.
 use mathlib.Core.Path.{_≡_}
-use mathlib.Core.List.{List}
+use mathlib.Core.List.{List, _++_, map, flatten}
 use Prim.Native.Nat.{ℕ, _+_, _<_, _≤_}
 use lib.ListN.{length}
 use Rattle.base_answers.specs.declared.Answer.{Answer}
+use Rattle.base_limits.specs.Limits as limits
 use Rattle.surface_rules.specs.Buffers.{over, laid}
 use Rattle.program_lines.specs.declared.Progress.{Progress}
-use Rattle.program_lines.specs.Listing.{Shown}
+use Rattle.program_lines.specs.Listing.{Shown, loopLines}
 use Rattle.program_lines.specs.Workings.Telling.{Inventory, Told}
 use Rattle.program_roll.specs.Sections.{head, between}
 use Rattle.program_roll.specs.Workings.Listed.{Listed}
@@ -44,3 +45,18 @@ pub record Fills (most : ℕ) (loops : List Shown) (m r : Progress) (before afte
 -- whichever loops they are that stand in the buffers and of which the first were told
 pub record FillsOn (most : ℕ) (w : Inventory) (count : ℕ) (m r : Progress) (before after : List ℕ) : Type 0 where
   pub fills : (g : Going w count m) → Fills most (g .listed .loops) m r before after
+
+-- no more loops, ring vertices and patch corners than a surface has
+pub record Few (rings patches : List ℕ) (count : ℕ) : Type 0 where
+  pub few-loops : count ≤ limits.triangles
+  pub few-vertices : length rings ≤ limits.corners
+  pub few-corners : length patches ≤ limits.set-corners
+
+-- the lines before the loops, and those of all loops
+abbrev pub whole : Answer → ℕ → List Shown → List ℕ
+whole a count loops = head a count ++ flatten (map loopLines loops)
+
+-- they were put at the buffer's start, whichever loops they are that stand in the buffers, and r is how many bytes they have
+pub record PutsAll (w : Inventory) (a : Answer) (count r : ℕ) (before after : List ℕ) : Type 0 where
+  pub put : (l : Listed w count) → after ≡ over (whole a count (l .loops)) before
+  pub bytes-are : (l : Listed w count) → r ≡ length (whole a count (l .loops))

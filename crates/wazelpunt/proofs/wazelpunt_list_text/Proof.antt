@@ -1,0 +1,15 @@
+-- `wazelpunt_list_text` tells what `print` answers.
+use Rattle.wazelpunt.proofs.Printing.{told-print}
+use borrow.Author.Needs.{needs}
+use Rattle.wazelpunt.proofs.wazelpunt_list_text.Statement.{statement}
+use Rattle.wazelpunt.proofs.wazelpunt_list_text.Tie as tie
+
+pub wazelpunt-list-text-spec : {M : Type 1} → statement M
+wazelpunt-list-text-spec =
+    tie.close
+    (tie.spec
+    (λ c κs. search needs)
+    (λ c κs. search needs)
+    (λ c κs. search needs)
+    (λ c. search needs)
+    (λ c. search told-print))

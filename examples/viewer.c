@@ -1,0 +1,117 @@
+/* Wazelpunt in a viewer: reads a sheet from the file that is named, or from standard input, patches it, and prints what is to be drawn: the
+   points on the grid, the triangles, and each loop with its state, its ring and its patch.
+
+       cc viewer.c -lwazelpunt -o viewer && ./viewer plate.sheet
+
+   Exit status: 0 drawn; 1 the sheet is refused; 2 wrong use, or reading or writing failed. */
+#include <errno.h>
+#include <inttypes.h>
+#include <stdio.h>
+#include <string.h>
+
+#include <wazelpunt.h>
+
+/* A sheet and what is found of it. Buffers for the largest sheet take 68 KB, so they are static and not on the stack. */
+static struct {
+    uint32_t words[WAZELPUNT_WORDS];
+    uint16_t corners[WAZELPUNT_CORNERS];
+    int32_t grid[WAZELPUNT_GRID_FOR(WAZELPUNT_WORDS)];
+    uint16_t rings[WAZELPUNT_RINGS_FOR(WAZELPUNT_CORNERS)];
+    uint16_t lengths[WAZELPUNT_LENGTHS_FOR(WAZELPUNT_CORNERS)];
+    uint16_t states[WAZELPUNT_STATES_FOR(WAZELPUNT_CORNERS)];
+    uint64_t weights[WAZELPUNT_WEIGHTS_FOR(WAZELPUNT_CORNERS)];
+    uint16_t patches[WAZELPUNT_PATCHES_FOR(WAZELPUNT_CORNERS)];
+    size_t words_count, corners_count, loops, vertices, laid;
+} sheet;
+
+/* As many numbers as stand in an array, which is the length that is given with a lent buffer. */
+#define LENGTH(array) (sizeof(array) / sizeof(array)[0])
+
+/* The text of the sheet. One byte more than the longest text is enough: a text that is longer still is refused at the same line. */
+static uint8_t text[WAZELPUNT_SHEET_BYTES + 1];
+
+/* Reads the file into `text`, and returns how many bytes there are, or -1 if it cannot be read. */
+static long load(const char *name)
+{
+    FILE *file = name ? fopen(name, "rb") : stdin;
+    if (!file) return -1;
+    size_t count = fread(text, 1, sizeof text, file);
+    int failed = ferror(file), reason = errno;
+    if (name) fclose(file);
+    errno = reason;
+    return failed ? -1 : (long)count;
+}
+
+/* Reads and patches the sheet of the text. Returns 0, or the number of a refusal with its place; then nothing of the sheet may be used. */
+static uint32_t take(size_t text_length, size_t *place)
+{
+    uint32_t number = wazelpunt_read(text, text_length, sheet.words, LENGTH(sheet.words), sheet.corners, LENGTH(sheet.corners), place,
+                                     &sheet.words_count, &sheet.corners_count);
+    if (number != WAZELPUNT_DONE) return number;
+    return wazelpunt_patch(sheet.words, sheet.words_count, sheet.corners, sheet.corners_count, sheet.grid, LENGTH(sheet.grid), sheet.rings,
+                           LENGTH(sheet.rings), sheet.lengths, LENGTH(sheet.lengths), sheet.states, LENGTH(sheet.states), sheet.weights,
+                           LENGTH(sheet.weights), sheet.patches, LENGTH(sheet.patches), place, &sheet.loops, &sheet.vertices, &sheet.laid);
+}
+
+static const char *state_name(uint16_t state)
+{
+    switch (state) {
+    case WAZELPUNT_PATCHED: return "patched";
+    case WAZELPUNT_LONG: return "long, left open";
+    case WAZELPUNT_OPEN: return "no allowed cover, left open";
+    default: return "rim";
+    }
+}
+
+/* Prints the loops. Rings and patches stand one after another, so each loop begins where the one before ends. */
+static void draw_loops(void)
+{
+    const uint16_t *ring = sheet.rings, *patch = sheet.patches;
+    for (size_t loop = 0; loop < sheet.loops; loop++) {
+        size_t length = sheet.lengths[loop];
+        /* a cover of a ring has two triangles fewer than the ring has vertices */
+        size_t triangles = sheet.states[loop] == WAZELPUNT_PATCHED ? length - 2 : 0;
+        printf("loop %zu: %s; weight %" PRIu64 "; ring", loop, state_name(sheet.states[loop]), sheet.weights[loop]);
+        for (size_t i = 0; i < length; i++) printf(" %u", (unsigned)ring[i]);
+        putchar('\n');
+        for (size_t i = 0; i < triangles; i++, patch += 3)
+            printf("patch of loop %zu: %u %u %u\n", loop, (unsigned)patch[0], (unsigned)patch[1], (unsigned)patch[2]);
+        ring += length;
+    }
+}
+
+static void draw(void)
+{
+    for (size_t point = 0; point < sheet.words_count / 3; point++) {
+        const int32_t *at = sheet.grid + 3 * point;
+        printf("point %zu: %" PRId32 " %" PRId32 " %" PRId32 "\n", point, at[0], at[1], at[2]);
+    }
+    for (size_t triangle = 0; triangle < sheet.corners_count / 3; triangle++) {
+        const uint16_t *corner = sheet.corners + 3 * triangle;
+        printf("triangle %zu: %u %u %u\n", triangle, (unsigned)corner[0], (unsigned)corner[1], (unsigned)corner[2]);
+    }
+    draw_loops();
+}
+
+static int fail(int status, const char *name, const char *said)
+{
+    fprintf(stderr, "viewer: %s: %s\n", name, said);
+    return status;
+}
+
+int main(int count, char **words)
+{
+    const char *name = count == 2 ? words[1] : "standard input";
+    if (count > 2) return fail(2, "wrong use", "name one sheet, or none for standard input");
+    if (!wazelpunt_floats_are_default()) return fail(2, "floats", "they are not set as Wazelpunt needs them; was -ffast-math given?");
+    long length = load(count == 2 ? name : NULL);
+    if (length < 0) return fail(2, name, strerror(errno));
+    size_t place;
+    uint32_t number = take((size_t)length, &place);
+    if (number != WAZELPUNT_DONE) {
+        fprintf(stderr, "viewer: %s: refused, answer %" PRIu32 ",%zu: %s\n", name, number, place, wazelpunt_sentence(number));
+        return 1;
+    }
+    draw();
+    return fflush(stdout) == 0 && !ferror(stdout) ? 0 : fail(2, "standard output", strerror(errno));
+}

@@ -1,0 +1,11 @@
+/* Why a line of a text is wrong, where that can be seen. */
+#ifndef CAUSES_H
+#define CAUSES_H
+
+#include "lines.h"
+#include "output.h"
+
+/* Adds the most telling cause for the first wrong line of a text; nothing where none is seen. */
+void cause_add(const struct text *text, const struct line *line, const struct due *due, struct phrase *cause);
+
+#endif

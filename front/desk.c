@@ -1,0 +1,59 @@
+#include "desk.h"
+
+struct answer desk_read(const struct text *sheet, struct desk *desk)
+{
+    struct answer answer;
+    answer.number = wazelpunt_read(sheet->bytes, sheet->length, desk->words, WAZELPUNT_WORDS, desk->corners, WAZELPUNT_CORNERS,
+                                   &answer.place, &desk->word_count, &desk->corner_count);
+    return answer;
+}
+
+struct answer desk_survey(const struct text *sheet, struct desk *desk)
+{
+    struct answer answer = desk_read(sheet, desk);
+    struct loops *loops = &desk->loops;
+    loops->count = loops->vertices = loops->laid = 0;
+    if (answer.number == WAZELPUNT_DONE) {
+        answer.number = wazelpunt_survey(desk->words, desk->word_count, desk->corners, desk->corner_count, desk->grid, WAZELPUNT_WORDS,
+                                         loops->rings, WAZELPUNT_CORNERS, loops->lengths, WAZELPUNT_TRIANGLES, &answer.place,
+                                         &loops->count, &loops->vertices);
+    }
+    return answer;
+}
+
+struct answer desk_patch(const struct text *sheet, struct desk *desk)
+{
+    struct answer answer = desk_read(sheet, desk);
+    struct loops *loops = &desk->loops;
+    loops->count = loops->vertices = loops->laid = 0;
+    if (answer.number == WAZELPUNT_DONE) {
+        answer.number = wazelpunt_patch(desk->words, desk->word_count, desk->corners, desk->corner_count, desk->grid, WAZELPUNT_WORDS,
+                                        loops->rings, WAZELPUNT_CORNERS, loops->lengths, WAZELPUNT_TRIANGLES,
+                                        loops->states, WAZELPUNT_TRIANGLES, loops->weights, WAZELPUNT_TRIANGLES,
+                                        loops->patches, WAZELPUNT_SET_CORNERS, &answer.place, &loops->count, &loops->vertices,
+                                        &loops->laid);
+    }
+    return answer;
+}
+
+struct answer set_read(const struct text *text, size_t before, struct set *set)
+{
+    struct answer answer;
+    answer.number = wazelpunt_read_set(text->bytes, text->length, (uint16_t)before, set->states, WAZELPUNT_SET_STATES,
+                                       set->corners, WAZELPUNT_SET_CORNERS, &answer.place, &set->state_count, &set->corner_count);
+    return answer;
+}
+
+struct answer desk_judge(const struct desk *desk, const struct set *set)
+{
+    /* where the judge leaves the grid and the loops, which the desk has */
+    static int32_t grid[WAZELPUNT_WORDS];
+    static uint16_t rings[WAZELPUNT_CORNERS];
+    static uint16_t lengths[WAZELPUNT_TRIANGLES];
+    size_t loops, vertices;
+    struct answer answer;
+    answer.number = wazelpunt_judge(desk->words, desk->word_count, desk->corners, desk->corner_count, set->states, set->state_count,
+                                    set->corners, set->corner_count, grid, WAZELPUNT_WORDS, rings, WAZELPUNT_CORNERS, lengths,
+                                    WAZELPUNT_TRIANGLES, &answer.place, &loops, &vertices);
+    return answer;
+}

@@ -1,0 +1,37 @@
+/* A sheet and a set as the library reads and surveys them, for what is not printed: pictures, explanations, summaries. */
+#ifndef DESK_H
+#define DESK_H
+
+#include "input.h"
+#include "listing.h"
+
+struct desk {
+    uint32_t words[WAZELPUNT_WORDS];
+    size_t word_count;
+    uint16_t corners[WAZELPUNT_CORNERS];
+    size_t corner_count;
+    int32_t grid[WAZELPUNT_WORDS];
+    struct loops loops;
+};
+
+struct set {
+    uint16_t states[WAZELPUNT_SET_STATES];
+    size_t state_count;
+    uint16_t corners[WAZELPUNT_SET_CORNERS];
+    size_t corner_count;
+};
+
+/* Reads a sheet, and then patches it, or only finds its loops and leaves them without states, weights and patches. */
+struct answer desk_patch(const struct text *sheet, struct desk *desk);
+struct answer desk_survey(const struct text *sheet, struct desk *desk);
+
+/* Reads a sheet alone. */
+struct answer desk_read(const struct text *sheet, struct desk *desk);
+
+/* Reads a set that comes after so many lines. */
+struct answer set_read(const struct text *text, size_t before, struct set *set);
+
+/* Judges a set for a sheet, both as they were read. */
+struct answer desk_judge(const struct desk *desk, const struct set *set);
+
+#endif

@@ -1,0 +1,282 @@
+#include "draw_labels.h"
+
+#include <stdio.h>
+#include <string.h>
+
+#include "draw_rings.h"
+#include "draw_view.h"
+#include "listing.h"
+#include "output.h"
+
+/* More loops than this are a crowd. */
+enum { CROWD = 60 };
+
+/* What each loop takes up on the paper, and the numbers that are there. */
+static struct box loop_boxes[WAZELPUNT_TRIANGLES], taken[WAZELPUNT_TRIANGLES];
+static size_t taken_count;
+
+/* What is written at a loop, and how large it is. The patch is the loop's own, of length - 2 triangles, where the loop is patched. */
+struct label {
+    const uint16_t *ring, *patch;
+    size_t number, length;
+    uint16_t state;
+    bool flag;
+    char text[32];
+    int64_t width, height;
+};
+
+static bool overlap(const struct box *a, const struct box *b)
+{
+    return a->left < b->right && b->left < a->right && a->top < b->bottom && b->top < a->bottom;
+}
+
+static struct box box_about(int64_t x, int64_t y, int64_t width, int64_t height)
+{
+    struct box box = {x - width / 2, y - height / 2, x - width / 2 + width, y - height / 2 + height};
+    return box;
+}
+
+static void set_loop_boxes(const struct drawn *sheet)
+{
+    const uint16_t *ring = sheet->rings;
+    for (size_t i = 0; i < sheet->loops; ring += sheet->lengths[i], i++) {
+        struct box box = {INT64_MAX, INT64_MAX, INT64_MIN, INT64_MIN};
+        for (size_t j = 0; j < sheet->lengths[i]; j++) {
+            box.left = lesser(box.left, dots[ring[j]].x);
+            box.right = greater(box.right, dots[ring[j]].x);
+            box.top = lesser(box.top, dots[ring[j]].y);
+            box.bottom = greater(box.bottom, dots[ring[j]].y);
+        }
+        loop_boxes[i] = box;
+    }
+}
+
+/* Twice the area of a triangle on the paper, with a sign. */
+static int64_t turn_on_paper(struct dot a, struct dot b, int64_t x, int64_t y)
+{
+    return (b.x - a.x) * (y - a.y) - (b.y - a.y) * (x - a.x);
+}
+
+static bool edge_meets(struct dot a, struct dot b, const struct box *box)
+{
+    struct box own = {lesser(a.x, b.x) - 1, lesser(a.y, b.y) - 1, greater(a.x, b.x) + 1, greater(a.y, b.y) + 1};
+    int sides = sign_of(turn_on_paper(a, b, box->left, box->top)) + sign_of(turn_on_paper(a, b, box->right, box->top)) +
+                sign_of(turn_on_paper(a, b, box->left, box->bottom)) + sign_of(turn_on_paper(a, b, box->right, box->bottom));
+    return overlap(&own, box) && size_of(sides) < 4;
+}
+
+static bool ring_crosses(const uint16_t *ring, size_t length, const struct box *box)
+{
+    for (size_t i = 0; i < length; i++) {
+        if (edge_meets(dots[ring[i]], dots[ring[(i + 1) % length]], box)) {
+            return true;
+        }
+    }
+    return false;
+}
+
+/* Whether a ring runs round the middle of a box. */
+static bool ring_surrounds(const uint16_t *ring, size_t length, const struct box *box)
+{
+    int64_t x = (box->left + box->right) / 2, y = (box->top + box->bottom) / 2;
+    bool inside = false;
+    for (size_t i = 0; i < length; i++) {
+        struct dot a = dots[ring[i]], b = dots[ring[(i + 1) % length]];
+        if ((a.y <= y) != (b.y <= y)) {
+            inside ^= (turn_on_paper(a, b, x, y) > 0) == (b.y > a.y);
+        }
+    }
+    return inside;
+}
+
+/* Whether a label may stand there: within the panel, so far from all other labels, and on no loop but its own and rims. */
+static bool is_free(const struct drawn *sheet, const struct label *label, const struct box *box, int64_t apart)
+{
+    struct box room = {box->left - apart, box->top - apart / 2, box->right + apart, box->bottom + apart / 2};
+    if (box->left < 60 || box->right > 10 * PANEL_WIDTH - 60 || box->top < AREA_TOP - 120 || box->bottom > AREA_BOTTOM + 120) {
+        return false;
+    }
+    for (size_t i = 0; i < taken_count; i++) {
+        if (overlap(&room, &taken[i])) {
+            return false;
+        }
+    }
+    const uint16_t *ring = sheet->rings;
+    for (size_t i = 0; i < sheet->loops; ring += sheet->lengths[i], i++) {
+        bool harmless = i == label->number || sheet->states[i] == WAZELPUNT_RIM || !overlap(box, &loop_boxes[i]);
+        if (!harmless && (ring_crosses(ring, sheet->lengths[i], box) || ring_surrounds(ring, sheet->lengths[i], box))) {
+            return false;
+        }
+    }
+    return true;
+}
+
+/* Looks for a place beside a box, `gap` away from it: below, to the right, left, above, then at its corners. */
+static bool find_beside(const struct drawn *sheet, const struct label *label, const struct box *own, int64_t gap, struct box *box)
+{
+    static const int ways[8][2] = {{0, 1}, {1, 0}, {-1, 0}, {0, -1}, {1, 1}, {-1, 1}, {1, -1}, {-1, -1}};
+    for (size_t i = 0; i < 8; i++) {
+        int64_t across = (own->right - own->left + label->width) / 2 + gap, down = (own->bottom - own->top + label->height) / 2 + gap;
+        *box = box_about((own->left + own->right) / 2 + ways[i][0] * across, (own->top + own->bottom) / 2 + ways[i][1] * down, label->width,
+                         label->height);
+        if (is_free(sheet, label, box, !label->flag && sheet->loops > CROWD ? 400 : 20)) {
+            return true;
+        }
+    }
+    return false;
+}
+
+/* The lowest vertex of a ring on the paper, the leftmost of several. */
+static struct box lowest_of(const struct label *label)
+{
+    struct dot low = dots[label->ring[0]];
+    for (size_t i = 1; i < label->length; i++) {
+        struct dot dot = dots[label->ring[i]];
+        if (dot.y > low.y || (dot.y == low.y && dot.x < low.x)) {
+            low = dot;
+        }
+    }
+    struct box box = {low.x, low.y, low.x, low.y};
+    return box;
+}
+
+/* The middle of the largest triangle of a loop's patch on the paper: it lies within the loop, as the middle of the loop's box need not. */
+static struct dot patch_middle(const struct label *label)
+{
+    struct dot middle = dots[label->ring[0]];
+    int64_t largest = 0;
+    for (size_t i = 0; i + 2 < label->length; i++) {
+        struct dot a = dots[label->patch[3 * i]], b = dots[label->patch[3 * i + 1]], c = dots[label->patch[3 * i + 2]];
+        int64_t area = size_of(turn_on_paper(a, b, c.x, c.y));
+        if (area > largest) {
+            largest = area;
+            middle = (struct dot){(a.x + b.x + c.x) / 3, (a.y + b.y + c.y) / 3};
+        }
+    }
+    return middle;
+}
+
+/* Looks for a place within a loop: in the middle of its box, where the ring leaves room; or on its patch, where the loop is as large as the
+   label. */
+static bool find_within(const struct drawn *sheet, const struct label *label, struct box *box)
+{
+    const struct box *own = &loop_boxes[label->number];
+    int64_t x = (own->left + own->right) / 2, y = (own->top + own->bottom) / 2, margin = label->flag ? 160 : 0;
+    struct box room = box_about(x, y, label->width + margin, label->height + margin);
+    *box = box_about(x, y, label->width, label->height);
+    bool inside = !ring_crosses(label->ring, label->length, &room) && ring_surrounds(label->ring, label->length, box);
+    if (inside && is_free(sheet, label, box, 20)) {
+        return true;
+    }
+    if (label->state != WAZELPUNT_PATCHED || own->right - own->left < label->width || own->bottom - own->top < label->height) {
+        return false;
+    }
+    struct dot middle = patch_middle(label);
+    *box = box_about(middle.x, middle.y, label->width, label->height);
+    return is_free(sheet, label, box, 20);
+}
+
+static bool find_place(const struct drawn *sheet, const struct label *label, struct box *box)
+{
+    struct box own = loop_boxes[label->number];
+    if (label->state == WAZELPUNT_RIM) {
+        own = lowest_of(label);
+        return find_beside(sheet, label, &own, 20, box);
+    }
+    if (find_within(sheet, label, box)) {
+        return true;
+    }
+    for (int64_t gap = label->flag ? 120 : 10; gap <= (label->flag ? 1200 : 10); gap += 120) {
+        if (find_beside(sheet, label, &own, gap, box)) {
+            return true;
+        }
+    }
+    return false;
+}
+
+/* The vertex of the ring that is nearest to the middle of a box. */
+static struct dot nearest_of(const struct label *label, struct dot middle)
+{
+    struct dot nearest = dots[label->ring[0]];
+    int64_t least = INT64_MAX;
+    for (size_t i = 0; i < label->length; i++) {
+        struct dot dot = dots[label->ring[i]];
+        int64_t far = (dot.x - middle.x) * (dot.x - middle.x) + (dot.y - middle.y) * (dot.y - middle.y);
+        if (far < least) {
+            least = far;
+            nearest = dot;
+        }
+    }
+    return nearest;
+}
+
+static void put_label(const struct label *label, const struct box *box)
+{
+    struct dot middle = {(box->left + box->right) / 2, (box->top + box->bottom) / 2};
+    if (label->flag) {
+        output("<path class=\"stem %s-flag\" d=\"", state_name(label->state));
+        put_move(middle);
+        put_line(middle, nearest_of(label, middle));
+        output("\"/><rect class=\"%s-flag\"", state_name(label->state));
+        put_length("x", box->left);
+        put_length("y", box->top);
+        put_length("width", label->width);
+        put_length("height", label->height);
+        output(" rx=\"3\"/>");
+    }
+    output("<text class=\"%s\"", label->flag ? "flag" : label->state == WAZELPUNT_RIM ? "number rim-number" : "number");
+    put_length("x", middle.x);
+    put_length("y", middle.y + (label->flag ? 40 : 32));
+    output(">%s</text>\n", label->text);
+    taken[taken_count++] = *box;
+}
+
+/* The flags are short where there are so many that long ones would hide the sheet. */
+static struct label make_label(const struct drawn *sheet, const uint16_t *ring, const uint16_t *patch, size_t number, bool brief)
+{
+    struct label label = {ring, patch, number, sheet->lengths[number], sheet->states[number], stays_open(sheet->states[number]), "", 0, 0};
+    bool words = label.flag && !brief;
+    snprintf(label.text, sizeof label.text, "%zu%s%s", number, words ? " " : "", words ? state_name(label.state) : "");
+    label.width = (int64_t)strlen(label.text) * (label.flag ? 64 : 52) + (label.flag ? 80 : 10);
+    label.height = label.flag ? 150 : 84;
+    return label;
+}
+
+/* Puts the numbers of the loops in a state, or of all that are not left open where it is 0. Gives how many have no room. */
+static size_t put_numbers(const struct drawn *sheet, uint16_t state, bool brief)
+{
+    size_t without = 0;
+    const uint16_t *ring = sheet->rings, *patch = sheet->patches;
+    for (size_t i = 0; i < sheet->loops; i++) {
+        struct label label = make_label(sheet, ring, patch, i, brief);
+        struct box box;
+        ring += label.length;
+        patch += label.state == WAZELPUNT_PATCHED ? 3 * (label.length - 2) : 0;
+        if (state != 0 ? label.state != state : label.flag) {
+            continue;
+        }
+        bool found = find_place(sheet, &label, &box);
+        if (!found && label.flag) {
+            int64_t x = lesser(loop_boxes[i].right + label.width / 2 + 120, 10 * PANEL_WIDTH - 60 - label.width / 2);
+            box = box_about(x, (loop_boxes[i].top + loop_boxes[i].bottom) / 2, label.width, label.height);
+        }
+        if (found || label.flag) {
+            put_label(&label, &box);
+        } else {
+            without++;
+        }
+    }
+    return without;
+}
+
+size_t put_all_numbers(const struct drawn *sheet)
+{
+    size_t open = count_state(sheet->states, sheet->loops, WAZELPUNT_OPEN);
+    bool brief = open + count_state(sheet->states, sheet->loops, WAZELPUNT_LONG) > 24;
+    taken_count = 0;
+    set_loop_boxes(sheet);
+    output("<g class=\"numbers\">\n");
+    size_t without = put_numbers(sheet, WAZELPUNT_OPEN, brief) + put_numbers(sheet, WAZELPUNT_LONG, brief) + put_numbers(sheet, 0, brief);
+    output("</g>\n");
+    return without;
+}

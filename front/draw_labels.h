@@ -1,0 +1,15 @@
+/* The numbers of loops, each at its loop.
+
+   Loops that are left open have theirs always, in a flag: first the open ones, then the long ones. The others follow in their order, each
+   where its number lies within its loop, or beside it without touching another loop; a rim's number stands at its lowest vertex. One that
+   would touch a number that is there already is left out. Where there are more than 60 loops, numbers beside their loops keep so far apart
+   that they stay few. */
+#ifndef DRAW_LABELS_H
+#define DRAW_LABELS_H
+
+#include "draw.h"
+
+/* Writes the numbers, after view_sheet. Gives how many are left out. */
+size_t put_all_numbers(const struct drawn *sheet);
+
+#endif

@@ -1,0 +1,225 @@
+#include "help.h"
+
+#include <string.h>
+
+#include "output.h"
+
+/* Lines have at most 80 signs. */
+
+#define STATUSES \
+    "Exit status:\n" \
+    "  0  done\n" \
+    "  1  a sheet or a set was refused, or a set does not pass\n" \
+    "  2  wrong use, or something could not be read or written\n"
+
+#define STATUS_CLOSED \
+    "  3  only with --closed: a loop that is no rim stays open (state 2 or 3)\n"
+
+#define STATUS_ORDER \
+    "Of several sheets the worst decides: 2 before 1 before 0. What is wrong, where\n" \
+    "and why is told on standard error.\n"
+
+#define STATUS_ORDER_CLOSED \
+    "Of several sheets the worst decides: 2 before 1 before 3 before 0. What is\n" \
+    "refused, does not pass or fails is told on standard error; with --json only\n" \
+    "what fails, and the rest in the objects. With --quiet nothing is said of loops\n" \
+    "that stay open.\n"
+
+#define STATES \
+    "States of a loop:\n" \
+    "  1  patched  closed with the lightest triangles that are allowed\n" \
+    "  2  long     it has more than 64 edges: LEFT OPEN\n" \
+    "  3  open     nothing that closes it is allowed, since all of it would need an\n" \
+    "              edge that is there already: LEFT OPEN\n" \
+    "  4  rim      the border of its piece that runs furthest: it stays open by rule\n"
+
+#define SHEETS \
+    "SHEET is a file, or - for standard input; without any, standard input is read.\n" \
+    "A file whose name begins with - is given as ./-NAME or after --.\n"
+
+#define HEADINGS \
+    "With several sheets each output comes after a line `# NAME`.\n"
+
+static const char all[] =
+    "wazelpunt: find the gaps in a triangle surface and close them\n"
+    "\n"
+    "  wazelpunt list [SHEET...]             the loops of sheets and their patches\n"
+    "      [--quiet] [--json [--patches]] [--closed]\n"
+    "  wazelpunt check SHEET [PATCHES]       judge a patch set for a sheet\n"
+    "  wazelpunt check --beside SHEET...     judge the set beside each sheet\n"
+    "      [--quiet] [--json] [--closed]\n"
+    "  wazelpunt rewrite [SHEET...]          read sheets and write them again\n"
+    "      [--quiet]\n"
+    "  wazelpunt draw [SHEET...]             a picture (SVG) of sheets and patches\n"
+    "      [--quiet] [--plan]\n"
+    "  wazelpunt example [patches]           a sample sheet, or its patch set\n"
+    "  wazelpunt help [COMMAND]              this, or more on a command\n"
+    "  wazelpunt --version                   the version\n"
+    "\n"
+    "The short forms of --help, --quiet and --version are -h, -q and -V. Results go\n"
+    "to standard output, and what is said of them to standard error.\n"
+    "\n"
+    "To begin with:\n"
+    "  wazelpunt example >plate.sheet\n"
+    "  wazelpunt list plate.sheet\n"
+    "  wazelpunt draw plate.sheet >plate.svg\n"
+    "\n"
+    STATES
+    "\n"
+    STATUSES
+    STATUS_CLOSED
+    STATUS_ORDER_CLOSED;
+
+static const char list[] =
+    "wazelpunt list [--quiet] [--json [--patches]] [--closed] [SHEET...]\n"
+    "\n"
+    "Lists the loops of open edges of sheets, and the triangles that close them.\n"
+    SHEETS
+    HEADINGS
+    "\n"
+    "  -q, --quiet    say nothing of a sheet that is listed\n"
+    "      --json     an object a line for each sheet, instead of its listing\n"
+    "      --patches  with --json: each loop also has the triangles that close it\n"
+    "      --closed   end with status 3 if a loop that is no rim stays open\n"
+    "\n"
+    "A listing:\n"
+    "  answer=0,0     the answer's number and place: 0,0 is done\n"
+    "  loops=2        how many loops there are; they are counted from 0\n"
+    "  loop=3,1,100   a loop: how many edges it has, its state, its patch's weight\n"
+    "  ring=4,3,5     the points around it\n"
+    "  patch=4,5,3    a triangle that closes it; a line for each\n"
+    "\n"
+    STATES
+    "\n"
+    "Examples:\n"
+    "  wazelpunt list plate.sheet\n"
+    "  wazelpunt list --quiet --closed *.sheet >listings && echo all holes are closed\n"
+    "\n"
+    STATUSES
+    STATUS_CLOSED
+    STATUS_ORDER_CLOSED;
+
+static const char check[] =
+    "wazelpunt check [--quiet] [--json] [--closed] SHEET [PATCHES]\n"
+    "wazelpunt check [--quiet] [--json] [--closed] --beside SHEET...\n"
+    "\n"
+    "Judges a patch set for a sheet, and prints the answer's number and place:\n"
+    "answer=0,0 if the set passes.\n"
+    "SHEET and PATCHES are files; one of them may be - for standard input. Without\n"
+    "PATCHES the set beside the sheet is judged: plate.patches for plate.sheet. A\n"
+    "file whose name begins with - is given as ./-NAME or after --.\n"
+    "\n"
+    "  -q, --quiet    say nothing of a set that passes\n"
+    "      --json     an object a line for each sheet, instead of its answer\n"
+    "      --closed   end with status 3 if a set that passes leaves a loop open that\n"
+    "                 is no rim\n"
+    "      --beside   any number of sheets, each with the set beside it; with several\n"
+    "                 each answer comes after a line `# NAME`\n"
+    "\n"
+    "A patch set:\n"
+    "  states=2       as many states as the sheet has loops\n"
+    "  s=4            the state of a loop, in the order in which list lists them\n"
+    "  s=1\n"
+    "  triangles=1    the triangles of all patched loops, loop after loop\n"
+    "  t=4,5,3        a triangle: three points, by their numbers\n"
+    "\n"
+    STATES
+    "\n"
+    "Examples:\n"
+    "  wazelpunt check plate.sheet plate.patches\n"
+    "  wazelpunt check --quiet --beside *.sheet\n"
+    "\n"
+    STATUSES
+    STATUS_CLOSED
+    STATUS_ORDER_CLOSED;
+
+static const char rewrite[] =
+    "wazelpunt rewrite [--quiet] [SHEET...]\n"
+    "\n"
+    "Reads sheets and writes their texts again. A text that is accepted comes out as\n"
+    "it was, byte for byte; of another one the answer is printed. Loops are not\n"
+    "looked for.\n"
+    SHEETS
+    HEADINGS
+    "\n"
+    "  -q, --quiet    changes nothing: of a sheet that is written nothing is said\n"
+    "\n"
+    "A sheet has up to 1,024 points and 1,024 triangles, each line ended by a line\n"
+    "feed and without blanks:\n"
+    "  points=3       how many points there are\n"
+    "  p=00000000,00000000,00000000\n"
+    "  p=3f800000,00000000,00000000\n"
+    "  p=00000000,3f800000,00000000\n"
+    "                 a point: x, y and z, each by the bits of a binary32 number in\n"
+    "                 eight digits (0-9, a-f); 3f800000 is 1\n"
+    "  triangles=1    how many triangles there are\n"
+    "  t=0,1,2        a triangle: three points, by their numbers from 0\n"
+    "\n"
+    "Example:\n"
+    "  wazelpunt rewrite plate.sheet | cmp - plate.sheet\n"
+    "\n"
+    STATUSES
+    STATUS_ORDER;
+
+static const char draw[] =
+    "wazelpunt draw [--quiet] [--plan] [SHEET...]\n"
+    "\n"
+    "Draws sheets with their loops and patches: one picture, in SVG, on standard\n"
+    "output.\n"
+    SHEETS
+    "Several sheets get a panel each, with its name; one that is refused or cannot\n"
+    "be read, a panel that says so. Alone, such a sheet is not drawn.\n"
+    "\n"
+    "  -q, --quiet    say nothing of a sheet that is drawn\n"
+    "      --plan     seen straight from above\n"
+    "\n"
+    STATES
+    "\n"
+    "Examples:\n"
+    "  wazelpunt draw plate.sheet >plate.svg\n"
+    "  wazelpunt draw --plan *.sheet >all.svg\n"
+    "\n"
+    STATUSES
+    STATUS_ORDER;
+
+static const char example[] =
+    "wazelpunt example [patches]\n"
+    "\n"
+    "Prints a sample sheet, a plate with a hole, or its patch set.\n"
+    "\n"
+    "Examples:\n"
+    "  wazelpunt example | wazelpunt list\n"
+    "  wazelpunt example >plate.sheet\n"
+    "  wazelpunt example patches | wazelpunt check plate.sheet -\n"
+    "\n"
+    "Exit status:\n"
+    "  0  done\n"
+    "  2  wrong use, or it could not be written\n";
+
+static const char help[] =
+    "wazelpunt help [COMMAND]\n"
+    "wazelpunt COMMAND --help\n"
+    "\n"
+    "Prints what there is, or more on a command: list, check, rewrite, draw, example.\n";
+
+void help_print_all(void)
+{
+    output_bytes(all, sizeof all - 1);
+}
+
+bool help_print(const char *command)
+{
+    static const struct {
+        const char *command;
+        const char *text;
+    } texts[] = {
+        {"list", list}, {"check", check}, {"rewrite", rewrite}, {"draw", draw}, {"example", example}, {"help", help},
+    };
+    for (size_t t = 0; t < sizeof texts / sizeof texts[0]; t++) {
+        if (strcmp(command, texts[t].command) == 0) {
+            output_bytes(texts[t].text, strlen(texts[t].text));
+            return true;
+        }
+    }
+    return false;
+}

@@ -1,0 +1,148 @@
+#include "json.h"
+
+#include <string.h>
+
+#include "lines.h"
+#include "output.h"
+
+/* ---- Strings ---- */
+
+static void put_string(const char *text)
+{
+    const uint8_t *at = (const uint8_t *)text;
+    output("\"");
+    while (*at != 0) {
+        size_t length = utf_8_length(at);
+        if (length == 0) {
+            output("\\udc%02x", (unsigned)*at);
+            length = 1;
+        } else if (*at == '"' || *at == '\\') {
+            output("\\%c", *at);
+        } else if (*at == '\n' || *at == '\t') {
+            output("\\%c", *at == '\n' ? 'n' : 't');
+        } else if (*at < 32 || *at == 127) {
+            output("\\u%04x", (unsigned)*at);
+        } else {
+            output_bytes(at, length);
+        }
+        at += length;
+    }
+    output("\"");
+}
+
+static void put_member(const char *before, const char *name, const char *text)
+{
+    output("%s\"%s\":", before, name);
+    put_string(text);
+}
+
+/* ---- Objects ---- */
+
+static void begin(const char *sheet, const char *set)
+{
+    put_member("{", "file", sheet);
+    if (set != NULL) {
+        put_member(",", "patches", set);
+    }
+}
+
+static void put_answer(struct answer answer)
+{
+    output(",\"answer\":{\"number\":%u,\"place\":%zu", (unsigned)answer.number, answer.place);
+    put_member(",", "sentence", wazelpunt_sentence(answer.number));
+    output("}");
+}
+
+static void put_numbers(const uint16_t *numbers, size_t count)
+{
+    output("[");
+    for (size_t n = 0; n < count; n++) {
+        output("%s%u", n == 0 ? "" : ",", numbers[n]);
+    }
+    output("]");
+}
+
+static void put_patches(const uint16_t *corners, size_t triangles)
+{
+    output(",\"patches\":[");
+    for (size_t t = 0; t < triangles; t++) {
+        output("%s", t == 0 ? "" : ",");
+        put_numbers(corners + 3 * t, 3);
+    }
+    output("]");
+}
+
+/* The numbers of the loops that stay open though they are no rims. */
+static void put_left_open(const struct loops *loops)
+{
+    const char *before = "";
+    output(",\"left_open\":[");
+    for (size_t loop = 0; loop < loops->count; loop++) {
+        if (stays_open(loops->states[loop])) {
+            output("%s%zu", before, loop);
+            before = ",";
+        }
+    }
+    output("]");
+}
+
+void json_listed(const struct text *sheet, const struct loops *loops, bool patches)
+{
+    const uint16_t *ring = loops->rings;
+    const uint16_t *laid = loops->patches;
+    begin(sheet->name, NULL);
+    put_answer((struct answer){WAZELPUNT_DONE, 0});
+    output(",\"points\":%zu,\"triangles\":%zu", count_first(sheet), count_triangles(sheet));
+    put_left_open(loops);
+    output(",\"loops\":[");
+    for (size_t loop = 0; loop < loops->count; loop++) {
+        size_t cover = cover_of(loops->lengths[loop], loops->states[loop]);
+        output("%s{\"length\":%u,\"state\":%u,\"name\":\"%s\",\"weight\":%llu,\"ring\":", loop == 0 ? "" : ",", loops->lengths[loop],
+               loops->states[loop], state_name(loops->states[loop]), (unsigned long long)loops->weights[loop]);
+        put_numbers(ring, loops->lengths[loop]);
+        if (patches) {
+            put_patches(laid, cover);
+        }
+        output("}");
+        ring += loops->lengths[loop];
+        laid += 3 * cover;
+    }
+    output("]}\n");
+}
+
+void json_passed(const struct text *sheet, const struct text *set, const struct loops *loops)
+{
+    begin(sheet->name, set->name);
+    put_answer((struct answer){WAZELPUNT_DONE, 0});
+    put_left_open(loops);
+    output("}\n");
+}
+
+void json_explained(const struct text *sheet, const struct text *set, struct answer answer, const struct explanation *told)
+{
+    begin(sheet->name, set == NULL ? NULL : set->name);
+    put_answer(answer);
+    put_member(",\"explanation\":{", "said", told->said);
+    output(",\"lines\":[");
+    for (size_t l = 0; l < told->line_count; l++) {
+        put_member(l == 0 ? "{" : ",{", "file", told->lines[l].file);
+        output(",\"line\":%zu", told->lines[l].number);
+        put_member(",", "text", told->lines[l].text);
+        output("}");
+    }
+    output("]");
+    if (told->due[0] != 0) {
+        put_member(",", "due", told->due);
+    }
+    if (told->cause[0] != 0) {
+        put_member(",", "cause", told->cause);
+    }
+    output("}}\n");
+}
+
+void json_unread(const char *sheet, const char *set, const char *error)
+{
+    begin(sheet, set);
+    put_member(",", "error", error);
+    output("}\n");
+}

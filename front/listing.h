@@ -1,0 +1,51 @@
+/* The loops of a sheet, as wazelpunt_patch leaves them and as a printed listing has them, and what is said of them. */
+#ifndef LISTING_H
+#define LISTING_H
+
+#include <stdbool.h>
+
+#include "output.h"
+#include "wazelpunt.h"
+
+struct answer {
+    uint32_t number;
+    size_t place;
+};
+
+struct loops {
+    size_t count;
+    uint16_t lengths[WAZELPUNT_TRIANGLES];
+    uint16_t states[WAZELPUNT_TRIANGLES];
+    uint64_t weights[WAZELPUNT_TRIANGLES];
+    uint16_t rings[WAZELPUNT_CORNERS];       /* loop after loop */
+    size_t vertices;
+    uint16_t patches[WAZELPUNT_SET_CORNERS]; /* the corners of all triangles laid, loop after loop */
+    size_t laid;
+};
+
+/* Takes the answer out of printed bytes; false if they do not begin with an answer's line. */
+bool answer_take(const uint8_t *bytes, size_t count, struct answer *answer);
+
+/* Takes a printed listing apart; false if the bytes are none. After an answer that is not 0 there are no loops. */
+bool listing_take(const uint8_t *bytes, size_t count, struct answer *answer, struct loops *loops);
+
+/* What a state is called: `rim`; `no state` where it is none. */
+const char *state_name(uint16_t state);
+
+/* How many of so many states are this one. */
+size_t count_state(const uint16_t *states, size_t count, uint16_t state);
+
+/* How many triangles cover a loop of a length in a state. */
+size_t cover_of(size_t length, uint16_t state);
+
+/* What is said of a sheet without loops. */
+const char *no_loops(bool has_triangles);
+
+/* Whether a loop in a state stays open though it is no rim, and whether some loop does. */
+bool stays_open(uint16_t state);
+bool loops_stay_open(const struct loops *loops);
+
+/* Adds what became of the loops: `2 loops: 1 rim; 1 closed with 1 triangle`. */
+void loops_add(struct phrase *phrase, const struct loops *loops, bool has_triangles);
+
+#endif

@@ -1,0 +1,529 @@
+/* The command wazelpunt, for people: sheets and sets are read, the proved library answers, and what it means is said. */
+
+#define _POSIX_C_SOURCE 200809L
+
+#include <stdlib.h>
+#include <string.h>
+#include <unistd.h>
+
+#include "desk.h"
+#include "draw.h"
+#include "explain.h"
+#include "help.h"
+#include "input.h"
+#include "json.h"
+#include "lines.h"
+#include "listing.h"
+#include "output.h"
+#include "sample.h"
+#include "wazelpunt.h"
+
+/* ---- A call ---- */
+
+enum options { QUIET = 1, JSON = 2, PATCHES = 4, CLOSED = 8, BESIDE = 16, PLAN = 32, HELP = 64, VERSION = 128 };
+
+struct call {
+    const struct command *command;
+    unsigned options;
+    char **names;
+    size_t count;
+};
+
+struct command {
+    const char *name;
+    unsigned options;
+    enum status (*run)(const struct call *call);
+};
+
+static bool has(const struct call *call, enum options option)
+{
+    return (call->options & option) != 0;
+}
+
+static enum status wrong_use(const struct call *call, const char *sentence)
+{
+    say("%s: %s; see wazelpunt %s --help", call->command->name, sentence, call->command->name);
+    return STATUS_FAILED;
+}
+
+/* How often standard input is named. */
+static size_t count_inputs(const struct call *call)
+{
+    size_t times = 0;
+    for (size_t n = 0; n < call->count; n++) {
+        times += strcmp(call->names[n], "-") == 0;
+    }
+    return times;
+}
+
+/* The worse of two: 2 before 1 before 3 before 0. */
+static enum status worse(enum status one, enum status other)
+{
+    static const int rank[] = {[STATUS_DONE] = 0, [STATUS_OPEN] = 1, [STATUS_ANSWERED] = 2, [STATUS_FAILED] = 3};
+    return rank[one] > rank[other] ? one : other;
+}
+
+/* ---- One sheet ---- */
+
+static struct text sheet;
+static struct text set;
+static uint8_t printed[WAZELPUNT_LISTING_BYTES];
+static size_t printed_bytes;
+static struct desk desk;
+static struct set declared;
+static struct explanation explanation;
+
+/* Where there are several sheets, the line with the name that comes before the output of each. */
+static void print_heading(const struct call *call, const char *name)
+{
+    if (call->count > 1) {
+        output("# ");
+        const char *shown = shown_name(name);
+        output_bytes(shown, strlen(shown));
+        output("\n");
+    }
+}
+
+/* A sheet that cannot be read or, where it is named, the set of a sheet. */
+static enum status tell_unread(const struct call *call, const char *name, const char *set_name, const char *error)
+{
+    if (has(call, JSON)) {
+        json_unread(name, set_name, error);
+    }
+    const char *said = said_name(name);
+    if (error == input_closed) {
+        say("%s", error);
+    } else if (set_name == NULL) {
+        say("%s: %s", said, error);
+    } else {
+        say("%s: %s: %s", said, said_name(set_name), error);
+    }
+    return STATUS_FAILED;
+}
+
+/* What the library printed is not what it promises. */
+static enum status tell_unknown(const struct call *call, const char *name)
+{
+    return tell_unread(call, name, NULL, "the library printed what is not known here");
+}
+
+/* An answer that is not 0, on the sheet or on the set. */
+static enum status tell_answer(const struct call *call, const struct text *of_set, struct answer answer)
+{
+    explain(&sheet, of_set, answer, &explanation);
+    if (has(call, JSON)) {
+        json_explained(&sheet, of_set, answer, &explanation);
+    } else {
+        explanation_say(&sheet, of_set, answer, &explanation);
+    }
+    return STATUS_ANSWERED;
+}
+
+/* Says what became of the loops, by a listing or by the states that a set declares, and gives the status. */
+static enum status tell_loops(const struct call *call, const struct text *of_set, const struct loops *loops)
+{
+    static char said[4096];
+    struct phrase phrase = {said, sizeof said, 0};
+    if (!has(call, QUIET) && !has(call, JSON)) {
+        loops_add(&phrase, loops, count_triangles(&sheet) > 0);
+        const char *name = said_name(sheet.name);
+        if (of_set == NULL) {
+            say("%s: %s", name, said);
+        } else {
+            say("%s: %s passes: %s", name, said_name(of_set->name), said);
+        }
+    }
+    return has(call, CLOSED) && loops_stay_open(loops) ? STATUS_OPEN : STATUS_DONE;
+}
+
+/* ---- list ---- */
+
+static enum status list_sheet(const struct call *call, const char *name)
+{
+    struct answer answer;
+    size_t place;
+    const char *error = input_read(SHEET, name, &sheet);
+    if (error != NULL) {
+        return tell_unread(call, name, NULL, error);
+    }
+    if (wazelpunt_list_text(sheet.bytes, sheet.length, printed, sizeof printed, &place, &printed_bytes) != WAZELPUNT_DONE ||
+        !listing_take(printed, printed_bytes, &answer, &desk.loops)) {
+        return tell_unknown(call, name);
+    }
+    if (!has(call, JSON)) {
+        print_heading(call, name);
+        output_bytes(printed, printed_bytes);
+    } else if (answer.number == WAZELPUNT_DONE) {
+        json_listed(&sheet, &desk.loops, has(call, PATCHES));
+    }
+    return answer.number == WAZELPUNT_DONE ? tell_loops(call, NULL, &desk.loops) : tell_answer(call, NULL, answer);
+}
+
+/* ---- rewrite ---- */
+
+static enum status rewrite_sheet(const struct call *call, const char *name)
+{
+    struct answer answer;
+    size_t place;
+    const char *error = input_read(SHEET, name, &sheet);
+    if (error != NULL) {
+        return tell_unread(call, name, NULL, error);
+    }
+    if (wazelpunt_rewrite_text(sheet.bytes, sheet.length, printed, sizeof printed, &place, &printed_bytes) != WAZELPUNT_DONE) {
+        return tell_unknown(call, name);
+    }
+    print_heading(call, name);
+    output_bytes(printed, printed_bytes);
+    /* a sheet that is written again begins otherwise */
+    return answer_take(printed, printed_bytes, &answer) ? tell_answer(call, NULL, answer) : STATUS_DONE;
+}
+
+/* ---- check ---- */
+
+/* The name of the set beside a sheet: .patches instead of .sheet, or behind the name if it has no such ending. The caller frees it. */
+static char *name_beside(const char *name)
+{
+    static const char ending[] = ".sheet";
+    static const char other[] = ".patches";
+    size_t length = strlen(name);
+    size_t cut = sizeof ending - 1;
+    if (length >= cut && strcmp(name + length - cut, ending) == 0) {
+        length -= cut;
+    }
+    char *beside = malloc(length + sizeof other);
+    if (beside != NULL) {
+        memcpy(beside, name, length);
+        memcpy(beside + length, other, sizeof other);
+    }
+    return beside;
+}
+
+/* The loops with the states that the set declares, which passed. */
+static enum status tell_passed(const struct call *call)
+{
+    desk_survey(&sheet, &desk);
+    set_read(&set, lines_ended(&sheet), &declared);
+    memcpy(desk.loops.states, declared.states, declared.state_count * sizeof declared.states[0]);
+    if (has(call, JSON)) {
+        json_passed(&sheet, &set, &desk.loops);
+    }
+    return tell_loops(call, &set, &desk.loops);
+}
+
+static enum status check_sheet(const struct call *call, const char *name, const char *set_name)
+{
+    struct answer answer;
+    size_t place;
+    const char *error = input_read(SHEET, name, &sheet);
+    if (error != NULL) {
+        return tell_unread(call, name, NULL, error);
+    }
+    error = input_read(SET, set_name, &set);
+    if (error != NULL) {
+        return tell_unread(call, name, set_name, error);
+    }
+    if (wazelpunt_judge_texts(sheet.bytes, sheet.length, set.bytes, set.length, printed, sizeof printed, &place, &printed_bytes) !=
+            WAZELPUNT_DONE ||
+        !answer_take(printed, printed_bytes, &answer)) {
+        return tell_unknown(call, name);
+    }
+    if (!has(call, JSON)) {
+        print_heading(call, name);
+        output_bytes(printed, printed_bytes);
+    }
+    return answer.number == WAZELPUNT_DONE ? tell_passed(call) : tell_answer(call, &set, answer);
+}
+
+static enum status check_beside(const struct call *call, const char *name)
+{
+    char *set_name = name_beside(name);
+    if (set_name == NULL) {
+        return tell_unread(call, name, NULL, "there is no memory for the name of its set");
+    }
+    enum status status = check_sheet(call, name, set_name);
+    free(set_name);
+    return status;
+}
+
+/* ---- draw ---- */
+
+static void draw_desk(const char *name)
+{
+    const struct loops *loops = &desk.loops;
+    struct drawn drawn = {
+        .name = name,
+        .points = desk.word_count / 3,
+        .triangles = desk.corner_count / 3,
+        .loops = loops->count,
+        .grid = desk.grid,
+        .corners = desk.corners,
+        .rings = loops->rings,
+        .lengths = loops->lengths,
+        .states = loops->states,
+        .patches = loops->patches,
+        .laid = loops->laid,
+    };
+    draw_sheet(&drawn);
+}
+
+/* A sheet that stands alone gets a picture only if it is drawn; among several each has its panel. */
+static enum status draw_one(const struct call *call, const char *name)
+{
+    bool alone = call->count == 1;
+    const char *title = strcmp(name, "-") == 0 ? "standard input" : name;
+    const char *error = input_read(SHEET, name, &sheet);
+    if (error != NULL) {
+        if (!alone) {
+            draw_unread(title);
+        }
+        return tell_unread(call, name, NULL, error);
+    }
+    struct answer answer = desk_patch(&sheet, &desk);
+    if (answer.number != WAZELPUNT_DONE) {
+        if (!alone) {
+            draw_refused(title, answer.number, answer.place);
+        }
+        return tell_answer(call, NULL, answer);
+    }
+    if (alone) {
+        draw_begin(1, has(call, PLAN));
+    }
+    draw_desk(title);
+    if (alone) {
+        draw_end();
+    }
+    return tell_loops(call, NULL, &desk.loops);
+}
+
+/* ---- The commands ---- */
+
+static enum status each(const struct call *call, enum status (*one)(const struct call *call, const char *name))
+{
+    enum status status = STATUS_DONE;
+    for (size_t n = 0; n < call->count; n++) {
+        status = worse(status, one(call, call->names[n]));
+    }
+    return status;
+}
+
+/* The names of a call that takes any number of sheets: where there is none, standard input. False if that is a terminal. */
+static bool take_sheets(struct call *call)
+{
+    static char standard_input[] = "-";
+    static char *names[] = {standard_input};
+    if (call->count > 0) {
+        return true;
+    }
+    if (isatty(STDIN_FILENO)) {
+        say("no sheet is given; name a file, or - for standard input");
+        return false;
+    }
+    call->names = names;
+    call->count = 1;
+    return true;
+}
+
+static enum status list(const struct call *call)
+{
+    struct call sheets = *call;
+    if (has(call, PATCHES) && !has(call, JSON)) {
+        return wrong_use(call, "--patches goes with --json");
+    }
+    return take_sheets(&sheets) ? each(&sheets, list_sheet) : STATUS_FAILED;
+}
+
+static enum status rewrite(const struct call *call)
+{
+    struct call sheets = *call;
+    return take_sheets(&sheets) ? each(&sheets, rewrite_sheet) : STATUS_FAILED;
+}
+
+static enum status draw(const struct call *call)
+{
+    struct call sheets = *call;
+    if (!take_sheets(&sheets)) {
+        return STATUS_FAILED;
+    }
+    if (sheets.count == 1) {
+        return draw_one(&sheets, sheets.names[0]);
+    }
+    draw_begin(sheets.count, has(call, PLAN));
+    enum status status = each(&sheets, draw_one);
+    draw_end();
+    return status;
+}
+
+static enum status check(const struct call *call)
+{
+    if (call->count == 0) {
+        return wrong_use(call, "no sheet is given");
+    }
+    if (has(call, BESIDE) || call->count == 1) {
+        return count_inputs(call) == 0 ? each(call, check_beside) : wrong_use(call, "no set is beside standard input");
+    }
+    if (call->count > 2) {
+        return wrong_use(call, "more than a sheet and a set are named; with --beside each sheet is judged with the set beside it");
+    }
+    struct call one = *call;
+    one.count = 1;
+    return check_sheet(&one, call->names[0], call->names[1]);
+}
+
+static enum status example(const struct call *call)
+{
+    bool patches = call->count == 1 && strcmp(call->names[0], "patches") == 0;
+    if (call->count > 0 && !patches) {
+        return wrong_use(call, "it takes nothing, or the word patches");
+    }
+    output("%s", patches ? sample_patches : sample_sheet);
+    return STATUS_DONE;
+}
+
+static enum status help_with(const char *command)
+{
+    if (help_print(command)) {
+        return STATUS_DONE;
+    }
+    say("there is no command %s; see wazelpunt --help", shown_name(command));
+    return STATUS_FAILED;
+}
+
+static enum status help_all(void)
+{
+    help_print_all();
+    return STATUS_DONE;
+}
+
+static enum status help(const struct call *call)
+{
+    if (call->count > 1) {
+        return wrong_use(call, "it takes one command");
+    }
+    return call->count == 0 ? help_all() : help_with(call->names[0]);
+}
+
+static const struct command commands[] = {
+    {"list", QUIET | JSON | PATCHES | CLOSED, list},
+    {"check", QUIET | JSON | CLOSED | BESIDE, check},
+    {"rewrite", QUIET, rewrite},
+    {"draw", QUIET | PLAN, draw},
+    {"example", 0, example},
+    {"help", 0, help},
+};
+
+/* ---- The command line ---- */
+
+struct option {
+    const char *name;
+    const char *brief;      /* "" where there is no short form */
+    enum options option;
+};
+
+static const struct option known[] = {
+    {"--quiet", "-q", QUIET}, {"--json", "", JSON},    {"--patches", "", PATCHES}, {"--closed", "", CLOSED},
+    {"--beside", "", BESIDE}, {"--plan", "", PLAN},    {"--help", "-h", HELP},     {"--version", "-V", VERSION},
+};
+
+static const struct option *find_option(const char *word)
+{
+    for (size_t o = 0; o < sizeof known / sizeof known[0]; o++) {
+        if (strcmp(word, known[o].name) == 0 || strcmp(word, known[o].brief) == 0) {
+            return &known[o];
+        }
+    }
+    return NULL;
+}
+
+/* Takes the options out of the words, so that names are left, the command's first; false if there is an unknown one. */
+static bool take_words(struct call *call, int count, char **words)
+{
+    bool only_names = false;
+    for (int w = 1; w < count; w++) {
+        char *word = words[w];
+        if (only_names || word[0] != '-' || word[1] == 0) {
+            call->names[call->count++] = word;
+        } else if (strcmp(word, "--") == 0) {
+            only_names = true;
+        } else {
+            const struct option *option = find_option(word);
+            if (option == NULL) {
+                const char *shown = shown_name(word);
+                say("unknown option %s; see wazelpunt --help. A file of that name is given as ./%s or after --", shown, shown);
+                return false;
+            }
+            call->options |= (unsigned)option->option;
+        }
+    }
+    return true;
+}
+
+static bool find_command(struct call *call)
+{
+    for (size_t c = 0; c < sizeof commands / sizeof commands[0]; c++) {
+        if (strcmp(call->names[0], commands[c].name) == 0) {
+            call->command = &commands[c];
+            call->names++;
+            call->count--;
+            return true;
+        }
+    }
+    say("there is no command %s; see wazelpunt --help", shown_name(call->names[0]));
+    return false;
+}
+
+/* Whether the command has all options that are given. */
+static bool takes_options(const struct call *call)
+{
+    for (size_t o = 0; o < sizeof known / sizeof known[0]; o++) {
+        if (has(call, known[o].option) && (call->command->options & (unsigned)known[o].option) == 0) {
+            say("%s has no option %s; see wazelpunt %s --help", call->command->name, known[o].name, call->command->name);
+            return false;
+        }
+    }
+    return true;
+}
+
+/* Standard input can be read once. */
+static bool takes_input_once(const struct call *call)
+{
+    size_t times = count_inputs(call);
+    if (times > 1) {
+        say("- is given %zu times, and standard input can be read once", times);
+    }
+    return times <= 1;
+}
+
+static enum status run(struct call *call)
+{
+    if (has(call, VERSION)) {
+        output("wazelpunt %s\n", WAZELPUNT_VERSION);
+        return STATUS_DONE;
+    }
+    if (call->count == 0 && has(call, HELP)) {
+        return help_all();
+    }
+    if (call->count == 0) {
+        say("no command is given; see wazelpunt --help");
+        return STATUS_FAILED;
+    }
+    if (!find_command(call)) {
+        return STATUS_FAILED;
+    }
+    if (has(call, HELP)) {
+        return help_with(call->command->name);
+    }
+    return takes_options(call) && takes_input_once(call) ? call->command->run(call) : STATUS_FAILED;
+}
+
+int main(int count, char **words)
+{
+    struct call call = {.names = words};
+    output_begin();
+    if (!wazelpunt_floats_are_default()) {
+        say("this process computes with floats in another way than the library's promises ask for, so it does not answer");
+        return STATUS_FAILED;
+    }
+    enum status status = take_words(&call, count, words) ? run(&call) : STATUS_FAILED;
+    output_end();
+    return (int)status;
+}

@@ -1,0 +1,267 @@
+"""How the front is used: commands, options, names, standard input, and the exit statuses with their order."""
+import itertools
+import os
+import pty
+import re
+import shutil
+import subprocess
+
+from calls import HOME, read, write
+
+COMMANDS = ('list', 'check', 'rewrite', 'draw', 'example')
+NO_SHEET = b'wazelpunt: no sheet is given; name a file, or - for standard input\n'
+
+
+class Bench:
+    """A folder with a sheet of each kind, and calls that are made there."""
+
+    def __init__(self, front, tally, room):
+        self.front = front
+        self.tally = tally
+        self.folder = os.path.join(room, 'bench')
+        os.mkdir(self.folder)
+        examples, cases = f'{HOME}/examples', f'{HOME}/tests/programs/cases'
+        for name, source in (('plate', f'{examples}/plate'), ('rim', f'{examples}/sample'), ('open', f'{examples}/plate-crossed'),
+                             ('long', f'{cases}/hole-65'), ('refused', f'{cases}/upper-case'), ('cone', f'{examples}/plate-cone'),
+                             ('closed', f'{cases}/closed'), ('nothing', f'{examples}/nothing')):
+            for ending in ('sheet', 'patches'):
+                shutil.copy(f'{source}.{ending}', f'{self.folder}/{name}.{ending}')
+        # what the patcher leaves passes, so these sets pass with loops that stay open
+        for name in ('open', 'long', 'cone'):
+            self.make_set(name)
+        shutil.copy(f'{cases}/set-declared-open.patches', f'{self.folder}/misdeclared.patches')
+        shutil.copy(f'{cases}/set-declared-open.sheet', f'{self.folder}/misdeclared.sheet')
+        self.plate = read(f'{self.folder}/plate.sheet')
+        self.listing = read(f'{cases}/plate.listing')
+
+    def make_set(self, name):
+        """Writes the set that the listing of a sheet lays."""
+        lines = self.call('list', '--quiet', f'{name}.sheet').out.decode().split('\n')
+        states = [line.split(',')[1] for line in lines if line.startswith('loop=')]
+        laid = [line[len('patch='):] for line in lines if line.startswith('patch=')]
+        text = [f'states={len(states)}'] + [f's={state}' for state in states]
+        text += [f'triangles={len(laid)}'] + [f't={three}' for three in laid]
+        write(f'{self.folder}/{name}.patches', ('\n'.join(text) + '\n').encode())
+
+    def call(self, *arguments, **more):
+        return self.front(*arguments, cwd=self.folder, **more)
+
+    def status(self, due, *arguments, **more):
+        got = self.call(*arguments, **more)
+        self.tally.same(f'the status of {arguments}', got.status, due)
+        return got
+
+    def wrong_use(self, *arguments, says=(), **more):
+        """Wrong use: status 2, nothing printed, and a sentence with these parts."""
+        got = self.status(2, *arguments, **more)
+        self.tally.true(f'{arguments}', got.out == b'' and got.err != b'' and all(part in got.err for part in says), repr(got))
+        return got
+
+    def right_use(self, out, *arguments, err=b'', **more):
+        got = self.call(*arguments, **more)
+        self.tally.same(f'{arguments}', (got.status, got.out, got.err), (0, out, err))
+
+
+def try_help(bench):
+    version = re.search(rb'#define WAZELPUNT_VERSION "([^"]+)"', read(f'{HOME}/include/wazelpunt.h'))
+    for arguments in (('--help',), ('-h',), ('help',)):
+        got = bench.status(0, *arguments)
+        is_whole = all(name.encode() in got.out for name in COMMANDS)
+        bench.tally.true(f'{arguments} names the commands', got.err == b'' and is_whole, repr(got))
+    for name in COMMANDS:
+        texts = {bench.status(0, *arguments).out for arguments in ((name, '--help'), (name, '-h'), ('help', name))}
+        text = texts.pop()
+        bench.tally.true(f'the help of {name}', not texts and b'wazelpunt ' + name.encode() in text, repr(text))
+        # asked for among names, it is the help that is given, and no file is looked for
+        got = bench.status(0, name, 'plate.sheet', '--help')
+        bench.tally.same(f'{name} plate.sheet --help', (got.out, got.err), (text, b''))
+    bench.tally.true('the header has a version', version)
+    for option in ('--version', '-V'):
+        got = bench.status(0, option)
+        bench.tally.same(option, (got.out, got.err), (b'wazelpunt ' + version[1] + b'\n' if version else b'', b''))
+
+
+def try_wrong_use(bench):
+    bench.wrong_use()
+    bench.wrong_use('')
+    bench.wrong_use('mend', says=[b'mend'])
+    bench.wrong_use('LIST', 'plate.sheet')
+    bench.wrong_use('lis', 'plate.sheet')
+    bench.wrong_use('help', 'mend', says=[b'mend'])
+    bench.wrong_use('--frob', says=[b'--frob'])
+    for name in COMMANDS:
+        bench.wrong_use(name, '--frob', says=[b'--frob'])
+        bench.wrong_use(name, 'plate.sheet', '-Q', says=[b'-Q'])
+        bench.wrong_use(name, '--quiet=yes', 'plate.sheet', says=[b'--quiet'])
+    for arguments in (('rewrite', '--json'), ('rewrite', '--closed'), ('rewrite', '--patches'), ('rewrite', '--plan'), ('list', '--plan'),
+                      ('list', '--beside'), ('check', '--plan'), ('check', '--json', '--patches'), ('draw', '--json'), ('draw', '--closed'),
+                      ('draw', '--beside'), ('example', '--json'), ('example', '--closed')):
+        bench.wrong_use(*arguments, 'plate.sheet' if arguments[0] != 'example' else 'patches', says=[arguments[-1].encode()])
+    # patches are told in objects alone
+    bench.wrong_use('list', '--patches', 'plate.sheet', says=[b'--patches', b'--json'])
+    bench.wrong_use('check', 'plate.sheet', 'plate.patches', 'open.sheet', says=[b'--beside'])
+    bench.wrong_use('check', '-', '-', given=bench.plate)
+    bench.wrong_use('check', '-', given=bench.plate)
+    bench.wrong_use('check', '--beside', '-', given=bench.plate)
+    bench.wrong_use('check', '--beside', '-', 'plate.sheet', '-', given=bench.plate)
+    for name in ('list', 'rewrite', 'draw'):
+        bench.wrong_use(name, '-', '-', given=bench.plate)
+        bench.wrong_use(name, '-', 'plate.sheet', '-', given=bench.plate)
+    bench.wrong_use('example', 'plate')
+    bench.wrong_use('example', 'patches', 'patches')
+
+
+def try_names(bench):
+    """Options before and behind, what begins with -, and what is named after --."""
+    said = b'wazelpunt: plate.sheet: 2 loops: 1 rim; 1 closed with 1 triangle\n'
+    bench.right_use(bench.listing, 'list', 'plate.sheet', err=said)
+    for option in ('--quiet', '-q'):
+        bench.right_use(bench.listing, 'list', option, 'plate.sheet')
+        bench.right_use(bench.listing, 'list', 'plate.sheet', option)
+        bench.right_use(bench.listing, option, 'list', 'plate.sheet')
+        bench.right_use(bench.listing, 'list', option, '--', 'plate.sheet')
+        bench.right_use(bench.listing, 'list', option, option, '-', given=bench.plate)
+        bench.right_use(bench.plate, 'rewrite', option, 'plate.sheet')
+        bench.right_use(b'answer=0,0\n', 'check', 'plate.sheet', option, 'plate.patches')
+    bench.right_use(bench.plate, 'rewrite', 'plate.sheet')
+    bench.right_use(b'answer=0,0\n', 'check', 'plate.sheet', err=b'wazelpunt: plate.sheet: plate.patches passes: '
+                    b'2 loops: 1 rim; 1 closed with 1 triangle\n')
+    bench.right_use(bench.listing, 'list', '-', given=bench.plate, err=said.replace(b'plate.sheet', b'standard input'))
+    for name in ('-x.sheet', '--', '--quiet', '-'):
+        shutil.copy(f'{bench.folder}/plate.sheet', f'{bench.folder}/{name}')
+        bench.right_use(bench.listing, 'list', f'./{name}', err=said.replace(b'plate.sheet', b'./' + name.encode()))
+    bench.wrong_use('list', '-x.sheet', says=[b'./-x.sheet', b'--'])
+    for name in ('-x.sheet', '--', '--quiet'):
+        bench.right_use(bench.listing, 'list', '--', name, err=said.replace(b'plate.sheet', name.encode()))
+    # a set is looked for beside a name, whatever the name is
+    shutil.copy(f'{bench.folder}/plate.sheet', f'{bench.folder}/bare')
+    shutil.copy(f'{bench.folder}/plate.patches', f'{bench.folder}/bare.patches')
+    shutil.copy(f'{bench.folder}/plate.patches', f'{bench.folder}/-x.patches')
+    bench.right_use(b'answer=0,0\n', 'check', '-q', 'bare')
+    bench.right_use(b'answer=0,0\n', 'check', '-q', './-x.sheet')
+    bench.right_use(b'answer=0,0\n', 'check', '-q', '--', '-x.sheet')
+    bench.right_use(b'answer=0,0\n', 'check', '-q', '--', '-x.sheet', '-x.patches')
+    bench.right_use(b'# bare\nanswer=0,0\n# plate.sheet\nanswer=0,0\n', 'check', '--beside', 'bare', 'plate.sheet', '-q')
+    bench.right_use(b'answer=0,0\n', 'check', '--beside', 'bare', '-q')
+    shutil.copy(f'{bench.folder}/plate.sheet', f'{bench.folder}/lonely.sheet')
+    for more in ((), ('--quiet',), ('--beside',)):
+        bench.wrong_use('check', 'lonely.sheet', *more, says=[b'lonely.patches', b'No such file or directory'])
+    # the name of standard input parts outputs as -
+    bench.right_use(b'# -\n' + bench.listing + b'# plate.sheet\n' + bench.listing, 'list', '-q', '-', 'plate.sheet', given=bench.plate)
+    # what cannot be read has no output, so nothing stands before one
+    got = bench.status(2, 'list', '-q', 'missing.sheet', 'plate.sheet')
+    bench.tally.same('a missing sheet and another', got.out, b'# plate.sheet\n' + bench.listing)
+    # the same sheet twice is two sheets
+    bench.right_use((b'# plate.sheet\n' + bench.listing) * 2, 'list', '-q', 'plate.sheet', 'plate.sheet')
+
+
+def try_sample(bench):
+    bench.right_use(read(f'{HOME}/examples/plate.sheet'), 'example')
+    bench.right_use(read(f'{HOME}/examples/plate.patches'), 'example', 'patches')
+    # nothing is taken unasked: what is given is an empty text
+    for name in ('list', 'rewrite'):
+        got = bench.status(1, name)
+        bench.tally.same(f'{name} of nothing', got.out, b'answer=10,1\n')
+    got = bench.status(1, 'draw')
+    bench.tally.same('draw of nothing', got.out, b'')
+
+
+def try_order(bench):
+    """Where messages go where outputs go, each stands behind the output that it speaks of."""
+    said = b'wazelpunt: plate.sheet: 2 loops: 1 rim; 1 closed with 1 triangle\n'
+    refusal = bench.call('list', 'refused.sheet').err
+    got = bench.call('list', 'plate.sheet', 'refused.sheet', 'plate.sheet', stderr=subprocess.STDOUT)
+    plate = b'# plate.sheet\n' + bench.listing + said
+    bench.tally.same('outputs and messages in one', got.out, plate + b'# refused.sheet\nanswer=10,3\n' + refusal + plate)
+    got = bench.call('list', 'plate.sheet', stderr=subprocess.STDOUT)
+    bench.tally.same('an output and its message in one', got.out, bench.listing + said)
+
+
+def try_statuses(bench):
+    """Each set of sheets of every kind, in both orders: 2 before 1 before 3 before 0."""
+    kinds = {'missing.sheet': 2, 'refused.sheet': 1, 'open.sheet': 3, 'plate.sheet': 0}
+    for count in range(1, len(kinds) + 1):
+        for names in itertools.combinations(kinds, count):
+            for order in (names, names[::-1]):
+                for closed in (True, False):
+                    due = next(status for status in (2, 1, 3, 0) if status in {kinds[name] for name in names})
+                    due = 0 if due == 3 and not closed else due
+                    options = ['--closed'] if closed else []
+                    got = bench.status(due, 'list', *options, *order)
+                    # those that can be read are all done
+                    listed = sum(name != 'missing.sheet' for name in names)
+                    bench.tally.same(f'how many answers there are of {order}', got.out.count(b'answer='), listed)
+                    if count > 1:
+                        bench.status(due, 'list', '--json', *options, *order)
+            due = min((kinds[name] for name in names), key=(2, 1, 3, 0).index) % 3
+            bench.status(due, 'rewrite', *names)
+            bench.status(due, 'draw', *names)
+
+
+def try_check_statuses(bench):
+    kinds = {'missing.sheet': 2, 'misdeclared.sheet': 1, 'open.sheet': 3, 'plate.sheet': 0, 'refused.sheet': 1, 'lonely.sheet': 2}
+    for count in range(1, 4):
+        for names in itertools.combinations(kinds, count):
+            for closed in (True, False):
+                due = next(status for status in (2, 1, 3, 0) if status in {kinds[name] for name in names})
+                due = 0 if due == 3 and not closed else due
+                got = bench.status(due, 'check', '--beside', *(['--closed'] if closed else []), *names[::-1])
+                judged = sum(kinds[name] != 2 for name in names)
+                bench.tally.same(f'how many answers there are of {names}', got.out.count(b'answer='), judged)
+
+
+def try_closed(bench):
+    """A loop that stays open is a long one or one without a cover; a rim is none."""
+    for name, due in (('plate', 0), ('rim', 0), ('closed', 0), ('nothing', 0), ('open', 3), ('long', 3), ('refused', 1)):
+        got = bench.status(due, 'list', '--closed', f'{name}.sheet')
+        bench.tally.same(f'what is printed of {name} with --closed', got.out, bench.call('list', '-q', f'{name}.sheet').out)
+        bench.status(1 if due == 1 else 0, 'list', f'{name}.sheet')
+    for name, due in (('plate', 0), ('open', 3), ('long', 3), ('cone', 0), ('misdeclared', 1)):
+        got = bench.status(due, 'check', '--closed', f'{name}.sheet')
+        bench.status(1 if due == 1 else 0, 'check', f'{name}.sheet')
+        bench.tally.true(f'check of {name} with --closed', due == 1 or got.out == b'answer=0,0\n', repr(got))
+
+
+def try_refused_pictures(bench):
+    """A refused sheet: alone, nothing on standard output; among several, a panel."""
+    got = bench.status(1, 'draw', 'refused.sheet')
+    bench.tally.true('draw of a refused sheet', got.out == b'' and b'refused, answer 10,' in got.err, repr(got))
+    got = bench.status(1, 'draw', 'refused.sheet', 'plate.sheet')
+    bench.tally.true('draw of a refused sheet and another', got.out.count(b'<svg') == 1 and b'refused.sheet' in got.out, repr(got))
+    got = bench.status(0, 'draw', '--quiet', 'plate.sheet')
+    bench.tally.true('draw --quiet', got.err == b'' and got.out.count(b'<svg') == 1, repr(got))
+
+
+def on_a_terminal(bench, *arguments, typed=b'\x04'):
+    """A call whose standard input is a terminal, where these bytes are typed: an end alone, if nothing else."""
+    ours, theirs = pty.openpty()
+    os.write(ours, typed)
+    try:
+        return bench.call(*arguments, stdin=theirs)
+    finally:
+        os.close(theirs)
+        os.close(ours)
+
+
+def try_terminal(bench):
+    for name in ('list', 'rewrite', 'draw'):
+        for options in ((), ('--quiet',)):
+            got = on_a_terminal(bench, name, *options)
+            bench.tally.same(f'{name} on a terminal', (got.status, got.out, got.err), (2, b'', NO_SHEET))
+    # the set of a sheet that is typed cannot stand beside it, so check asks for a name anyway
+    got = on_a_terminal(bench, 'check')
+    bench.tally.true('check on a terminal', got.status == 2 and got.out == b'' and b'no sheet is given' in got.err, repr(got))
+    got = on_a_terminal(bench, 'list', '--json')
+    bench.tally.same('list --json on a terminal', (got.status, got.err), (2, NO_SHEET))
+    # what is asked for is read, up to the end that is typed
+    got = on_a_terminal(bench, 'list', '-q', '-', typed=bench.plate + b'\x04')
+    bench.tally.same('list - on a terminal', (got.status, got.out), (0, bench.listing))
+    got = on_a_terminal(bench, 'list', '-q', 'plate.sheet')
+    bench.tally.same('list of a file on a terminal', (got.status, got.out), (0, bench.listing))
+
+
+def try_use(front, tally, room):
+    bench = Bench(front, tally, room)
+    for part in (try_help, try_wrong_use, try_names, try_sample, try_order, try_statuses, try_check_statuses, try_closed,
+                 try_refused_pictures, try_terminal):
+        part(bench)

@@ -1,0 +1,137 @@
+#!/usr/bin/env python3
+"""constants.py PRINTED: holds include/wazelpunt.h, of which header.c printed the constants, against the sources that it stands for:
+
+- the limits and lengths, computed from the constants of base_types, program_lines and program_roll;
+- the answers and states, by their names and numbers in base_answers and base_types;
+- the declarations, against the signatures of the exported functions in the crate wazelpunt;
+- how much stack each function takes, against what docs/SPEED.md says was measured;
+- the constants and sentences that python/wazelpunt.py has again.
+"""
+
+import ast
+import pathlib
+import re
+import sys
+
+tried = wrong = 0
+
+
+def expect(what, found, due):
+    global tried, wrong
+    tried += 1
+    if found != due:
+        wrong += 1
+        print(f"constants: {what}: {found!r}, and due is {due!r}")
+
+
+def rattle_constants(*crates):
+    """The constants of these crates, as NAME or TYPE::NAME, each computed from its expression."""
+    known = {}
+    for crate in crates:
+        source = re.sub(r"//.*", "", pathlib.Path(f"crates/{crate}/src/lib.rt").read_text(encoding="utf-8"))
+        owner = ""
+        for found in re.finditer(r"^impl (\w+)|^(\})|^ *pub const (\w+): \w+ =\s*([^;]+);", source, re.M):
+            opened, closed, name, expression = found.groups()
+            if opened or closed:
+                owner = opened + "::" if opened else ""
+                continue
+            # the names of crates are small; what is left of a path is the type, if there is one, and the name
+            expression = re.sub(r"\b[a-z_]+::", "", expression).replace("Self::", owner)
+            expression = re.sub(r"[A-Z]\w*(::\w+)?", lambda path: str(known[path[0]]), expression).replace("_", "")
+            if not re.fullmatch(r"[0-9\s()+*/-]+", expression):
+                sys.exit(f"constants: {crate} has {name}, which is not understood: {expression}")
+            known[owner + name] = eval(" ".join(expression.replace("/", "//").split()))
+    return known
+
+
+def rattle_exports():
+    """The exported functions, by the types of their parameters in C."""
+    scalars = {"u8": "uint8_t", "u16": "uint16_t", "u32": "uint32_t", "u64": "uint64_t", "i32": "int32_t", "usize": "size_t"}
+    exports = {}
+    for path in pathlib.Path("crates/wazelpunt/src").glob("*.rt"):
+        source = re.sub(r"//.*", "", path.read_text(encoding="utf-8"))
+        for name, parameters in re.findall(r'pub extern "C" fn (\w+)\(([^)]*)\) -> u32', source):
+            types = []
+            for kind in re.findall(r":\s*([^,]+?)\s*(?:,|$)", parameters):
+                lent, slice_of, one = re.fullmatch(r"(&mut |&)?(?:\[(\w+)\]|(\w+))", kind).groups()
+                types.append(("const " if lent == "&" else "") + scalars[slice_of or one] + (" *" if lent else ""))
+                types += ["size_t"] if slice_of else []
+            exports[name] = types
+    return exports
+
+
+def header_functions():
+    header = pathlib.Path("include/wazelpunt.h").read_text(encoding="utf-8")
+    plain = re.sub(r"/\*.*?\*/", "", header, flags=re.S)
+    functions = {}
+    for name, parameters in re.findall(r"^uint32_t (wazelpunt_\w+)\(([^)]*)\);", plain, re.M):
+        functions[name] = [re.sub(r"\w+$", "", " ".join(each.split())).strip() for each in parameters.split(",")]
+    return functions
+
+
+def stack_figures(path, pattern):
+    """The bytes of stack by function, as a file tells them."""
+    return dict(re.findall(pattern, pathlib.Path(path).read_text(encoding="utf-8")))
+
+
+def answer_name(name):
+    """Three answers would have the name of a limit."""
+    upper = re.sub(r"(?<=[a-z])(?=[A-Z])", "_", name).upper()
+    return "WRONG_" + upper if upper in ("WORDS", "CORNERS", "STATES") else upper
+
+
+def main(printed):
+    lines = pathlib.Path(printed).read_text(encoding="utf-8").splitlines()
+    said = dict(line.split("=", 1) for line in lines)
+    header = {name[len("WAZELPUNT_"):]: value for name, value in said.items() if name.startswith("WAZELPUNT_")}
+    sentences = [said[f"sentence {number}"] for number in range(18)]
+
+    known = rattle_constants("base_types", "program_lines", "program_roll")
+    due = {
+        "POINTS": "Surface::POINTS", "TRIANGLES": "Surface::TRIANGLES", "WORDS": "Surface::WORDS", "CORNERS": "Surface::CORNERS",
+        "SET_STATES": "PatchSet::STATES", "SET_TRIANGLES": "PatchSet::TRIANGLES", "SET_CORNERS": "PatchSet::CORNERS",
+        "LONGEST": "Loop::LONGEST", "GREATEST": "Grid::GREATEST", "SHEET_BYTES": "Surface::TEXT", "SET_BYTES": "PatchSet::TEXT",
+        "ANSWER_BYTES": "LINE", "LISTING_BYTES": "LISTING",
+    }
+    for name, source in due.items():
+        expect(f"WAZELPUNT_{name}", header.pop(name), str(known.get(source, f"no constant {source}")))
+
+    answers = pathlib.Path("crates/base_answers/src/lib.rt").read_text(encoding="utf-8")
+    numbers = re.findall(r"Answer::(\w+)(?:\(_\))? => (\d+),", answers.split("fn number", 1)[1].split("fn refuses", 1)[0])
+    expect("how many answers base_answers has", len(numbers), 16)
+    for name, number in numbers:
+        expect(f"WAZELPUNT_{answer_name(name)}", header.pop(answer_name(name), None), number)
+    for state in ("PATCHED", "LONG", "OPEN", "RIM"):
+        expect(f"WAZELPUNT_{state}", header.pop(state), str(known[f"State::{state}"]))
+
+    expect("sentences of numbers 0 to 15 that are not like another", len(set(sentences[:16])), 16)
+    expect("sentences of other numbers", set(sentences[16:]), {"an answer that this header does not know"})
+
+    exports, functions = rattle_exports(), header_functions()
+    expect("functions that are declared", sorted(functions), sorted(exports))
+    for name in sorted(set(exports) & set(functions)):
+        expect(f"the parameters of {name}", functions[name], exports[name])
+
+    said_stack = stack_figures("include/wazelpunt.h", r"(wazelpunt_\w+) {2,}([\d,]+|[A-Z-]+)")
+    measured = stack_figures("docs/SPEED.md", r"\| `(wazelpunt_\w+)` \| ([\d,]+) \|\n")
+    for name in sorted(set(functions) | set(said_stack)):
+        expect(f"the stack of {name}", said_stack.get(name), measured.get(name, "a figure in docs/SPEED.md"))
+
+    module = {}
+    for step in ast.parse(pathlib.Path("python/wazelpunt.py").read_text(encoding="utf-8")).body:
+        if isinstance(step, ast.Assign) and isinstance(step.value, (ast.Constant, ast.Tuple)) and isinstance(step.targets[0], ast.Name):
+            try:
+                module[step.targets[0].id] = ast.literal_eval(step.value)
+            except ValueError:
+                pass  # no constant
+    expect("VERSION of python/wazelpunt.py", module.get("VERSION"), header.pop("VERSION"))
+    for name in due:
+        expect(f"{name} of python/wazelpunt.py", str(module.get(name)), said["WAZELPUNT_" + name])
+    expect("the sentences of python/wazelpunt.py", module.get("_SENTENCES"), tuple(sentences[:16]))
+    expect("what header.c printed besides", header, {})
+
+    print(f"{tried} tried, {wrong} wrong")
+    return 1 if wrong else 0
+
+
+sys.exit(main(sys.argv[1]))

@@ -1,0 +1,58 @@
+/* Prints what include/wazelpunt.h says: every constant, enumerator and sentence. It is compiled as C99, as C11 and as C++. */
+#include "wazelpunt.h"
+
+#include <stdio.h>
+
+#define SAY(name) printf("%s=%lu\n", #name, (unsigned long)(name))
+
+static void say_limits(void)
+{
+    SAY(WAZELPUNT_POINTS);
+    SAY(WAZELPUNT_TRIANGLES);
+    SAY(WAZELPUNT_WORDS);
+    SAY(WAZELPUNT_CORNERS);
+    SAY(WAZELPUNT_SET_STATES);
+    SAY(WAZELPUNT_SET_TRIANGLES);
+    SAY(WAZELPUNT_SET_CORNERS);
+    SAY(WAZELPUNT_LONGEST);
+    SAY(WAZELPUNT_GREATEST);
+    SAY(WAZELPUNT_SHEET_BYTES);
+    SAY(WAZELPUNT_SET_BYTES);
+    SAY(WAZELPUNT_LISTING_BYTES);
+    SAY(WAZELPUNT_ANSWER_BYTES);
+}
+
+static void say_answers(void)
+{
+    SAY(WAZELPUNT_DONE);
+    SAY(WAZELPUNT_WRONG_WORDS);
+    SAY(WAZELPUNT_WRONG_CORNERS);
+    SAY(WAZELPUNT_BUFFER);
+    SAY(WAZELPUNT_UNNAMED);
+    SAY(WAZELPUNT_TWICE);
+    SAY(WAZELPUNT_REPEATED);
+    SAY(WAZELPUNT_NOT_FINITE);
+    SAY(WAZELPUNT_TOO_FAR);
+    SAY(WAZELPUNT_WRONG_STATES);
+    SAY(WAZELPUNT_LINE);
+    SAY(WAZELPUNT_MISDECLARED);
+    SAY(WAZELPUNT_UNCOVERED);
+    SAY(WAZELPUNT_BARRED);
+    SAY(WAZELPUNT_HEAVY);
+    SAY(WAZELPUNT_LEFT_OVER);
+    SAY(WAZELPUNT_PATCHED);
+    SAY(WAZELPUNT_LONG);
+    SAY(WAZELPUNT_OPEN);
+    SAY(WAZELPUNT_RIM);
+}
+
+int main(void)
+{
+    printf("WAZELPUNT_VERSION=%s\n", WAZELPUNT_VERSION);
+    say_limits();
+    say_answers();
+    /* one number more than there are answers, and the greatest */
+    for (uint32_t number = 0; number <= 16; number++) printf("sentence %u=%s\n", (unsigned)number, wazelpunt_sentence(number));
+    printf("sentence 17=%s\n", wazelpunt_sentence(UINT32_MAX));
+    return wazelpunt_floats_are_default() ? 0 : 1;
+}

@@ -1,0 +1,35 @@
+#!/usr/bin/env python3
+"""viewed.py SHEET LISTING: prints what examples/viewer.c has to print for a sheet that is not refused, from the sheet's own lines and from
+its listing."""
+
+import struct
+import sys
+
+STATES = {"1": "patched", "2": "long, left open", "3": "no allowed cover, left open", "4": "rim"}
+
+
+def values(path):
+    with open(path, encoding="ascii") as file:
+        return [line.rstrip("\n").split("=") for line in file]
+
+
+point = triangle = 0
+for key, value in values(sys.argv[1]):
+    if key == "p":
+        # round takes a tie to the even number, as the grid does
+        floats = struct.unpack(">3f", bytes.fromhex(value.replace(",", "")))
+        print(f"point {point}:", *map(round, floats))
+        point += 1
+    elif key == "t":
+        print(f"triangle {triangle}:", *value.split(","))
+        triangle += 1
+
+loop = -1
+for key, value in values(sys.argv[2]):
+    if key == "loop":
+        loop += 1
+        _, state, weight = value.split(",")
+    elif key == "ring":
+        print(f"loop {loop}: {STATES[state]}; weight {weight}; ring", *value.split(","))
+    elif key == "patch":
+        print(f"patch of loop {loop}:", *value.split(","))
