@@ -1,6 +1,6 @@
-# make            what is installed: the front, the shared library, the three programs; proved, compiled and linked by front/build
+# make            what is installed: the front, the shared library, the four programs; proved, compiled and linked by front/build
 # make front      target/front/wazelpunt alone          make shared    target/front/libwazelpunt.so, with its links
-# make archive    target/staticlib/libwazelpunt.a       make programs  target/bin/listing, judging, rewriting
+# make archive    target/staticlib/libwazelpunt.a       make programs  target/bin/{listing,judging,rewriting,importing}
 # make install    puts it all below PREFIX (/usr/local); DESTDIR, if given, stands before every path
 # make uninstall  takes it away from there again        make clean     removes target/front; what is proved stays
 # CC, CFLAGS and LDFLAGS go to the compiler. GNU make.
@@ -17,7 +17,7 @@ VERSION := $(shell sed -n 's/^.define WAZELPUNT_VERSION "\([0-9][0-9.]*\)".*/\1/
 SONAME = libwazelpunt.so.$(firstword $(subst ., ,$(VERSION)))
 SHARED = libwazelpunt.so.$(VERSION)
 # The programs' own names would be too general among all commands of a machine.
-PROGRAMS = listing judging rewriting
+PROGRAMS = listing judging rewriting importing
 
 # A path as sed takes it for what it puts in.
 quoted = $(subst |,\|,$(subst &,\&,$(subst \,\\,$(1))))
@@ -41,7 +41,7 @@ install: all
 	sed -i -e 's|@PREFIX@|$(call quoted,$(PREFIX))|' -e 's|@LIBDIR@|$(call quoted,$(LIBDIR))|' \
 	    -e 's|@INCLUDEDIR@|$(call quoted,$(INCLUDEDIR))|' -e 's|@VERSION@|$(VERSION)|' "$(DESTDIR)$(LIBDIR)/pkgconfig/wazelpunt.pc"
 	install -m 644 front/wazelpunt.1 "$(DESTDIR)$(MANDIR)/man1"
-	install -m 644 examples/*.sheet examples/*.patches examples/*.c "$(DESTDIR)$(DATADIR)/wazelpunt/examples"
+	install -m 644 examples/*.sheet examples/*.patches examples/*.stl examples/*.c "$(DESTDIR)$(DATADIR)/wazelpunt/examples"
 	install -m 644 python/wazelpunt.py "$(DESTDIR)$(DATADIR)/wazelpunt/python"
 	@# so that a program finds the shared library at once; another user, or who makes a package, does that on their own
 	[ -n "$(DESTDIR)" ] || [ "$$(id -u)" -ne 0 ] || $(LDCONFIG) || :

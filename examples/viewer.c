@@ -1,5 +1,5 @@
 /* Wazelpunt in a viewer: reads a sheet from the file that is named, or from standard input, patches it, and prints what is to be drawn: the
-   points on the grid, the triangles, and each loop with its state, its ring and its patch.
+   points on the grid, the triangles, and each loop with its state, its ring and its patch. The file is a sheet text or a binary STL.
 
        cc viewer.c -lwazelpunt -o viewer && ./viewer plate.sheet
 
@@ -27,26 +27,65 @@ static struct {
 /* As many numbers as stand in an array, which is the length that is given with a lent buffer. */
 #define LENGTH(array) (sizeof(array) / sizeof(array)[0])
 
-/* The text of the sheet. One byte more than the longest text is enough: a text that is longer still is refused at the same line. */
-static uint8_t text[WAZELPUNT_SHEET_BYTES + 1];
+/* The file's first bytes. There is room for the longest of both kinds; of a text that is longer still this much is refused at the same
+   line, and a file of facets that is longer has too many. */
+static uint8_t bytes[WAZELPUNT_STL_BYTES];
 
-/* Reads the file into `text`, and returns how many bytes there are, or -1 if it cannot be read. */
+/* How many facets a file of facets says that it has. */
+static uint32_t said_facets(void)
+{
+    return (uint32_t)bytes[80] | (uint32_t)bytes[81] << 8 | (uint32_t)bytes[82] << 16 | (uint32_t)bytes[83] << 24;
+}
+
+/* Reads the file into `bytes`, and returns how long all of it is, or -1 if it cannot be read. What has no NUL byte is taken for a text, and
+   what is longer than its count of facets says is no file of facets: neither is counted to its end. */
 static long load(const char *name)
 {
+    static uint8_t passed[65536];
     FILE *file = name ? fopen(name, "rb") : stdin;
     if (!file) return -1;
-    size_t count = fread(text, 1, sizeof text, file);
+    size_t count = fread(bytes, 1, sizeof bytes, file), more = memchr(bytes, 0, count) ? count : 0;
+    size_t due = WAZELPUNT_STL_FRONT + (size_t)WAZELPUNT_STL_FACET_BYTES * said_facets();
+    for (; more > 0 && count <= due; count += more) more = fread(passed, 1, sizeof passed, file);
     int failed = ferror(file), reason = errno;
     if (name) fclose(file);
     errno = reason;
     return failed ? -1 : (long)count;
 }
 
-/* Reads and patches the sheet of the text. Returns 0, or the number of a refusal with its place; then nothing of the sheet may be used. */
-static uint32_t take(size_t text_length, size_t *place)
+/* What a file of facets of that length is answered for its size. It is 16 for every text: the bytes of letters and digits make a count of
+   more than 100 million facets, of which no text has the length. */
+static uint32_t size_as_facets(size_t length)
 {
-    uint32_t number = wazelpunt_read(text, text_length, sheet.words, LENGTH(sheet.words), sheet.corners, LENGTH(sheet.corners), place,
-                                     &sheet.words_count, &sheet.corners_count);
+    return wazelpunt_size_stl(length, said_facets());
+}
+
+/* Whether something whose length fits no file of facets is one all the same: no text has a NUL byte. But what begins as a sheet text is
+   read as one, and its wrong line is told. */
+static int is_misfit(size_t held) { return memchr(bytes, 0, held) && memcmp(bytes, "points=", 7) != 0; }
+
+/* Reads the sheet, a file of facets or a text. */
+static uint32_t read_sheet(size_t length, size_t *place)
+{
+    size_t held = length < sizeof bytes ? length : sizeof bytes;
+    *place = 0;
+    switch (size_as_facets(length)) {
+    case WAZELPUNT_DONE:
+        return wazelpunt_read_stl(bytes, held, sheet.words, LENGTH(sheet.words), sheet.corners, LENGTH(sheet.corners), place,
+                                  &sheet.words_count, &sheet.corners_count);
+    case WAZELPUNT_WRONG_CORNERS:
+        return WAZELPUNT_WRONG_CORNERS;
+    default:
+        if (is_misfit(held)) return WAZELPUNT_MISFIT;
+        return wazelpunt_read(bytes, held, sheet.words, LENGTH(sheet.words), sheet.corners, LENGTH(sheet.corners), place,
+                              &sheet.words_count, &sheet.corners_count);
+    }
+}
+
+/* Reads and patches the sheet. Returns 0, or the number of a refusal with its place; then nothing of the sheet may be used. */
+static uint32_t take(size_t length, size_t *place)
+{
+    uint32_t number = read_sheet(length, place);
     if (number != WAZELPUNT_DONE) return number;
     return wazelpunt_patch(sheet.words, sheet.words_count, sheet.corners, sheet.corners_count, sheet.grid, LENGTH(sheet.grid), sheet.rings,
                            LENGTH(sheet.rings), sheet.lengths, LENGTH(sheet.lengths), sheet.states, LENGTH(sheet.states), sheet.weights,

@@ -4,7 +4,9 @@
 #include <stdlib.h>
 #include <string.h>
 
-/* A wrong line: all lines before it are right. */
+#include "stl.h"
+
+/* A wrong line: all lines before it are right. A file of another kind is told by its first line. */
 struct wrong {
     const struct text *text;
     const struct line *line;
@@ -124,43 +126,69 @@ static bool is_empty(const struct wrong *wrong)
 /* Adds that the text is of another kind than the one that is due. */
 static bool tell_kind(const struct wrong *wrong, const char *is)
 {
-    phrase_add(wrong->cause, "this is %s, and a %s is due", is, wrong->text->kind == SHEET ? "sheet" : "set");
+    static const char *const due[] = {[SHEET] = "sheet or a binary STL file", [SET] = "set", [FACETS] = "binary STL file"};
+    phrase_add(wrong->cause, "this is %s, and a %s is due", is, due[wrong->text->kind]);
     return true;
 }
 
-static bool is_gzip(const struct wrong *wrong)
+/* Marks that are long enough to be sure, since the header of an STL file may have any bytes. */
+static bool has_mark_of_kind(const struct wrong *wrong)
 {
-    return TEXT_BEGINS(wrong, "\x1f\x8b") && tell_kind(wrong, "a gzip file");
+    static const struct {
+        const char *bytes;
+        size_t count;
+        const char *is;
+    } marks[] = {
+        {"PK\3\4", 4, "a zip file (unpack it, or export binary STL where it is 3MF)"},
+        {"\x1f\x8b\x08", 3, "a gzip file"},
+        {"\xfd" "7zXZ\0", 6, "an xz file"},
+        {"7z\xbc\xaf\x27\x1c", 6, "a 7z file"},
+        {"%PDF-", 5, "a PDF file"},
+        {"\x89PNG\r\n\x1a\n", 8, "a PNG picture"},
+        {"\xff\xd8\xff", 3, "a JPEG picture"},
+    };
+    for (size_t m = 0; m < sizeof marks / sizeof marks[0]; m++) {
+        if (text_begins(wrong, marks[m].bytes, marks[m].count)) {
+            return tell_kind(wrong, marks[m].is);
+        }
+    }
+    return false;
 }
 
-/* By its mark, or by a NUL in every second byte. */
+/* Its fourth byte is a digit that tells how it was packed. */
+static bool is_bzip2(const struct wrong *wrong)
+{
+    static const char block[] = "1AY&SY";
+    return TEXT_BEGINS(wrong, "BZh") && wrong->text->length >= 4 + sizeof block - 1 &&
+           memcmp(wrong->text->bytes + 4, block, sizeof block - 1) == 0 && tell_kind(wrong, "a bzip2 file");
+}
+
+/* By a NUL in every second of the first bytes, or of all where there are fewer; a mark of two bytes may come before. */
 static bool is_utf_16(const struct wrong *wrong)
 {
     const uint8_t *bytes = wrong->text->bytes;
-    bool marked = TEXT_BEGINS(wrong, "\xff\xfe") || TEXT_BEGINS(wrong, "\xfe\xff");
-    bool spaced = wrong->text->length >= 4 && wrong->line->number == 1 && (bytes[0] == 0) != (bytes[1] == 0) &&
-                  (bytes[0] == 0) == (bytes[2] == 0) && (bytes[1] == 0) == (bytes[3] == 0);
-    return (marked || spaced) && tell_kind(wrong, "a text in UTF-16");
+    size_t start = TEXT_BEGINS(wrong, "\xff\xfe") || TEXT_BEGINS(wrong, "\xfe\xff") ? 2 : 0;
+    size_t end = wrong->text->length < start + 12 ? wrong->text->length : start + 12;
+    bool spaced = wrong->line->number == 1 && end >= start + 4;
+    for (size_t b = start + 1; spaced && b < end; b++) {
+        spaced = (bytes[b] == 0) != (bytes[b - 1] == 0);
+    }
+    return spaced && tell_kind(wrong, "a text in UTF-16");
 }
 
 static bool has_mark(const struct wrong *wrong)
 {
-    if (!TEXT_BEGINS(wrong, "\xef\xbb\xbf")) {
+    if (!has_byte_order_mark(wrong->text)) {
         return false;
     }
     phrase_add(wrong->cause, "a byte order mark (bytes ef bb bf) stands before the first line");
     return true;
 }
 
-/* 80 bytes of any kind, the count of triangles, 50 bytes a triangle. */
+/* Given for a sheet it is taken for one, and no cause is looked for. */
 static bool is_binary_stl(const struct wrong *wrong)
 {
-    if (wrong->line->number != 1 || wrong->text->length < 84) {
-        return false;
-    }
-    const uint8_t *count = wrong->text->bytes + 80;
-    uint64_t triangles = count[0] | (uint64_t)count[1] << 8 | (uint64_t)count[2] << 16 | (uint64_t)count[3] << 24;
-    return wrong->text->size == 84 + 50 * triangles && tell_kind(wrong, "an STL file (binary)");
+    return wrong->line->number == 1 && stl_is_well_sized(wrong->text) && tell_kind(wrong, "an STL file (binary)");
 }
 
 /* Whether a line begins with a whole word; only where it may stand alone can the line end behind it. */
@@ -178,12 +206,31 @@ static bool begins_with_word(const struct line *line, const char *word, bool alo
 
 static bool is_ascii_stl(const struct wrong *wrong)
 {
-    return wrong->line->number == 1 && begins_with_word(wrong->line, "solid", true) && tell_kind(wrong, "an STL file (ASCII)");
+    if (wrong->line->number != 1 || !stl_is_ascii(wrong->text)) {
+        return false;
+    }
+    if (wrong->text->kind == SET) {
+        return tell_kind(wrong, "an STL file (ASCII)");
+    }
+    phrase_add(wrong->cause, "this is ASCII STL, which is not read; save it as binary STL: "
+               "admesh --no-check --write-binary-stl=OUT.stl IN.stl, or in MeshLab's export dialog tick \"Binary encoding\"");
+    return true;
 }
 
+/* Whether it is the first line, and that of a text: the header of an STL file may begin with any word. */
+static bool is_first_of_text(const struct wrong *wrong)
+{
+    return wrong->line->number == 1 && !has_nul(wrong->text);
+}
+
+/* A binary one is told by its second line. */
 static bool is_ply(const struct wrong *wrong)
 {
-    return wrong->line->number == 1 && begins_with_word(wrong->line, "ply", true) && tell_kind(wrong, "a PLY file");
+    if (wrong->line->number != 1 || !begins_with_word(wrong->line, "ply", true)) {
+        return false;
+    }
+    struct line second = line_after(wrong->text, wrong->line);
+    return (is_first_of_text(wrong) || line_begins(&second, "format ")) && tell_kind(wrong, "a PLY file");
 }
 
 /* The first line that is neither empty nor a note behind #, as OBJ and OFF files have them. */
@@ -210,29 +257,36 @@ static bool is_off(const struct wrong *wrong)
 {
     static const char *const words[] = {"OFF", "COFF", "NOFF", "CNOFF", "STOFF", "4OFF", "nOFF", NULL};
     struct line line = line_behind_notes(wrong);
-    return wrong->line->number == 1 && begins_with_any(&line, words, true) && tell_kind(wrong, "an OFF file");
+    return is_first_of_text(wrong) && begins_with_any(&line, words, true) && tell_kind(wrong, "an OFF file");
 }
 
 static bool is_obj(const struct wrong *wrong)
 {
     static const char *const words[] = {"v", "vn", "vt", "f", "o", "g", "s", "mtllib", "usemtl", NULL};
     struct line line = line_behind_notes(wrong);
-    return wrong->line->number == 1 && begins_with_any(&line, words, false) && tell_kind(wrong, "an OBJ file");
+    return is_first_of_text(wrong) && begins_with_any(&line, words, false) && tell_kind(wrong, "an OBJ file");
 }
 
 static bool is_sheet(const struct wrong *wrong)
 {
-    return wrong->text->kind == SET && TEXT_BEGINS(wrong, "points=") && tell_kind(wrong, "a sheet");
+    if (wrong->text->kind == SHEET || !is_first_of_text(wrong) || !begins_as_sheet(wrong->text)) {
+        return false;
+    }
+    if (wrong->text->kind == SET) {
+        return tell_kind(wrong, "a sheet");
+    }
+    phrase_add(wrong->cause, "this begins as the text of a sheet does: texts are for list, check, draw and rewrite");
+    return true;
 }
 
 static bool is_set(const struct wrong *wrong)
 {
-    return wrong->text->kind == SHEET && TEXT_BEGINS(wrong, "states=") && tell_kind(wrong, "a set");
+    return wrong->text->kind != SET && is_first_of_text(wrong) && TEXT_BEGINS(wrong, "states=") && tell_kind(wrong, "a set");
 }
 
 static bool is_listing(const struct wrong *wrong)
 {
-    return TEXT_BEGINS(wrong, "answer=") && tell_kind(wrong, "a listing");
+    return is_first_of_text(wrong) && TEXT_BEGINS(wrong, "answer=") && tell_kind(wrong, "a listing");
 }
 
 /* ---- Ends of lines ---- */
@@ -466,7 +520,8 @@ static bool has_large_number(const struct wrong *wrong)
         if (field.length > 4 || line_number(wrong->line, f) > most) {
             phrase_add(wrong->cause, "a %s that is too large, ", corner ? "number" : "count");
             add_field(wrong, &field);
-            phrase_add(wrong->cause, ": more than %zu,%03zu", most / 1000, most % 1000);
+            phrase_add(wrong->cause, ": more than ");
+            phrase_add_number(wrong->cause, most);
             return true;
         }
     }
@@ -482,13 +537,12 @@ static bool goes_on_behind_the_end(const struct wrong *wrong)
     return true;
 }
 
-/* ---- All causes, in the order in which they are tried ---- */
+/* ---- All causes, in the order in which they are tried, each list to its NULL ---- */
 
-static bool (*const causes[])(const struct wrong *wrong) = {
-    is_empty,
-    is_gzip,
+static bool (*const kinds[])(const struct wrong *wrong) = {
+    has_mark_of_kind,
+    is_bzip2,
     is_utf_16,
-    has_mark,
     is_binary_stl,
     is_ascii_stl,
     is_ply,
@@ -497,6 +551,12 @@ static bool (*const causes[])(const struct wrong *wrong) = {
     is_sheet,
     is_set,
     is_listing,
+    NULL,
+};
+
+static bool (*const within_text[])(const struct wrong *wrong) = {
+    is_empty,
+    has_mark,
     has_carriage_return,
     is_empty_line,
     ends_early,
@@ -511,14 +571,28 @@ static bool (*const causes[])(const struct wrong *wrong) = {
     has_large_number,
     lacks_line_feed,
     goes_on_behind_the_end,
+    NULL,
 };
+
+static bool try_each(bool (*const *causes)(const struct wrong *wrong), const struct wrong *wrong)
+{
+    while (*causes != NULL && !(*causes)(wrong)) {
+        causes++;
+    }
+    return *causes != NULL;
+}
 
 void cause_add(const struct text *text, const struct line *line, const struct due *due, struct phrase *cause)
 {
     struct wrong wrong = {text, line, due, cause};
-    for (size_t c = 0; c < sizeof causes / sizeof causes[0]; c++) {
-        if (causes[c](&wrong)) {
-            return;
-        }
+    if (!try_each(kinds, &wrong)) {
+        try_each(within_text, &wrong);
     }
+}
+
+bool kind_add(const struct text *file, struct phrase *cause)
+{
+    struct line line = line_of(file, 1);
+    struct wrong wrong = {file, &line, NULL, cause};
+    return try_each(kinds, &wrong);
 }

@@ -57,3 +57,17 @@ struct answer desk_judge(const struct desk *desk, const struct set *set)
                                     WAZELPUNT_TRIANGLES, &answer.place, &loops, &vertices);
     return answer;
 }
+
+size_t edge_after(size_t edge)
+{
+    return edge % 3 == 2 ? edge - 2 : edge + 1;
+}
+
+size_t find_edge(const uint16_t *corners, size_t count, uint16_t from, uint16_t to)
+{
+    size_t edge = 0;
+    while (edge < count && (corners[edge] != from || corners[edge_after(edge)] != to)) {
+        edge++;
+    }
+    return edge;
+}

@@ -34,4 +34,10 @@ struct answer set_read(const struct text *text, size_t before, struct set *set);
 /* Judges a set for a sheet, both as they were read. */
 struct answer desk_judge(const struct desk *desk, const struct set *set);
 
+/* The half-edge that follows another in its triangle. */
+size_t edge_after(size_t edge);
+
+/* The first half-edge of the corners, of so many, that runs from one point to another; the count if there is none. */
+size_t find_edge(const uint16_t *corners, size_t count, uint16_t from, uint16_t to);
+
 #endif

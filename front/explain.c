@@ -1,10 +1,12 @@
 #include "explain.h"
 
+#include <math.h>
 #include <stdlib.h>
 #include <string.h>
 
 #include "causes.h"
 #include "desk.h"
+#include "facets.h"
 #include "lines.h"
 #include "output.h"
 
@@ -109,28 +111,12 @@ static void explain_twice(struct subject *subject)
     show_line(subject, subject->sheet, line_of_triangle(subject->sheet, triangle));
 }
 
-/* The half-edge that follows another in its triangle. */
-static size_t following(size_t edge)
-{
-    return edge % 3 == 2 ? edge - 2 : edge + 1;
-}
-
-/* The first half-edge of the corners, of so many, that runs from one point to another; the count if there is none. */
-static size_t find_edge(const uint16_t *corners, size_t count, uint16_t from, uint16_t to)
-{
-    size_t edge = 0;
-    while (edge < count && (corners[edge] != from || corners[following(edge)] != to)) {
-        edge++;
-    }
-    return edge;
-}
-
 static void explain_repeated(struct subject *subject)
 {
     size_t edge = subject->answer.place;
     desk_read(subject->sheet, &desk);
     uint16_t from = desk.corners[edge];
-    uint16_t to = desk.corners[following(edge)];
+    uint16_t to = desk.corners[edge_after(edge)];
     size_t earlier = find_edge(desk.corners, edge, from, to);
     phrase_add(&subject->said, "two triangles run from point %u to point %u: one of them is turned over, or they lie on one another",
                from, to);
@@ -145,26 +131,22 @@ static float float_of(uint32_t word)
     return value;
 }
 
-/* Both 7 and 8 are of one coordinate. */
-static void add_coordinate(struct subject *subject)
+void value_add(struct phrase *phrase, float value)
+{
+    if (isfinite(value)) {
+        phrase_add(phrase, "%.9g: the grid goes from -32,767 to 32,767", (double)value);
+    } else {
+        phrase_add(phrase, "no finite number (%s)", isinf(value) ? "infinite" : "not a number");
+    }
+}
+
+static void explain_coordinate(struct subject *subject)
 {
     size_t word = subject->answer.place;
     desk_read(subject->sheet, &desk);
     phrase_add(&subject->said, "the %c of point %zu is ", "xyz"[word % 3], word / 3);
+    value_add(&subject->said, float_of(desk.words[word]));
     show_line(subject, subject->sheet, line_of_first(subject->sheet, word / 3));
-}
-
-static void explain_not_finite(struct subject *subject)
-{
-    add_coordinate(subject);
-    bool infinite = (desk.words[subject->answer.place] & 0x007fffff) == 0;
-    phrase_add(&subject->said, "no finite number (%s)", infinite ? "infinite" : "not a number");
-}
-
-static void explain_too_far(struct subject *subject)
-{
-    add_coordinate(subject);
-    phrase_add(&subject->said, "%.9g: the grid goes from -32,767 to 32,767", (double)float_of(desk.words[subject->answer.place]));
 }
 
 /* ---- 9 and 11 to 15, a set that does not pass ---- */
@@ -300,7 +282,7 @@ static void explain_barred(struct subject *subject)
     phrase_add(&subject->said, "its cover has a barred diagonal");
     for (size_t edge = 0; edge < 3 * (loop.length - 2); edge++) {
         uint16_t from = cover[edge];
-        uint16_t to = cover[following(edge)];
+        uint16_t to = cover[edge_after(edge)];
         bool in_sheet = has_edge(desk.corners, desk.corner_count, from, to);
         if (!is_ring_edge(&loop, from, to) && (in_sheet || has_edge(set_read_in.corners, 3 * loop.first, from, to))) {
             phrase_add(&subject->said, ", %u to %u: %s has an edge there", from, to, in_sheet ? "the sheet" : "a patch before it");
@@ -327,8 +309,8 @@ static uint64_t weight_of(const uint16_t *corners)
 static bool has_triangle(const uint16_t *corners, size_t count, const uint16_t *triangle)
 {
     for (size_t edge = 0; edge < count; edge++) {
-        size_t next = following(edge);
-        if (corners[edge] == triangle[0] && corners[next] == triangle[1] && corners[following(next)] == triangle[2]) {
+        size_t next = edge_after(edge);
+        if (corners[edge] == triangle[0] && corners[next] == triangle[1] && corners[edge_after(next)] == triangle[2]) {
             return true;
         }
     }
@@ -380,8 +362,8 @@ static void (*const explainers[])(struct subject *subject) = {
     [WAZELPUNT_UNNAMED] = explain_unnamed,
     [WAZELPUNT_TWICE] = explain_twice,
     [WAZELPUNT_REPEATED] = explain_repeated,
-    [WAZELPUNT_NOT_FINITE] = explain_not_finite,
-    [WAZELPUNT_TOO_FAR] = explain_too_far,
+    [WAZELPUNT_NOT_FINITE] = explain_coordinate,
+    [WAZELPUNT_TOO_FAR] = explain_coordinate,
     [WAZELPUNT_WRONG_STATES] = explain_states,
     [WAZELPUNT_LINE] = explain_line,
     [WAZELPUNT_MISDECLARED] = explain_misdeclared,
@@ -395,8 +377,11 @@ void explain(const struct text *sheet, const struct text *set, struct answer ans
 {
     *told = (struct explanation){.fault = FAULT_OF_SHEET};
     struct subject subject = {sheet, set, answer, {told->said, sizeof told->said, 0}, told};
-    if (answer.number == WAZELPUNT_WRONG_STATES || answer.number > WAZELPUNT_LINE) {
+    if (answer.number == WAZELPUNT_WRONG_STATES || (answer.number > WAZELPUNT_LINE && answer.number < WAZELPUNT_MISFIT)) {
         told->fault = FAULT_BETWEEN;
+    }
+    if (sheet->stl != NULL && facets_explain(sheet, answer, told)) {
+        return;
     }
     if (answer.number < sizeof explainers / sizeof explainers[0] && explainers[answer.number] != NULL) {
         explainers[answer.number](&subject);
@@ -418,6 +403,10 @@ void explanation_say(const struct text *sheet, const struct text *set, struct an
     const char *whose = told->fault == FAULT_BETWEEN ? " of the set" : "";
     for (size_t l = 0; l < told->line_count; l++) {
         say_more("line %zu%s: %s", told->lines[l].number, whose, told->lines[l].text);
+    }
+    for (size_t f = 0; f < told->facet_count; f++) {
+        const struct shown_facet *facet = &told->facets[f];
+        say_more("facet %zu, bytes %zu to %zu: %s", facet->number, facet->first, facet->last, facet->text);
     }
     if (told->due[0] != 0) {
         say_more("due: %s", told->due);

@@ -1,4 +1,4 @@
-/* What an answer that is not 0 means, by the lines of the files. */
+/* What an answer that is not 0 means, by the lines of the texts and by the facets of binary STL files. */
 #ifndef EXPLAIN_H
 #define EXPLAIN_H
 
@@ -12,6 +12,14 @@ struct shown_line {
     char text[320];
 };
 
+/* A facet of a binary STL file that is shown: its number, where its bytes are, counted from 0, and its corners. */
+struct shown_facet {
+    size_t number;
+    size_t first;
+    size_t last;
+    char text[240];
+};
+
 /* Whose fault it is: the sheet is refused, the set is refused, or the set does not pass. */
 enum fault { FAULT_OF_SHEET, FAULT_OF_SET, FAULT_BETWEEN };
 
@@ -20,9 +28,14 @@ struct explanation {
     char said[512];
     struct shown_line lines[2];
     size_t line_count;
+    struct shown_facet facets[2];
+    size_t facet_count;
     char due[160];          /* "" where nothing is due */
     char cause[320];        /* "" where none is seen */
 };
+
+/* Adds what is wrong with a coordinate of this value: it is not finite, or too far. */
+void value_add(struct phrase *phrase, float value);
 
 /* Explains the answer on a sheet, or, where `set` is not NULL, on a set for it. */
 void explain(const struct text *sheet, const struct text *set, struct answer answer, struct explanation *told);

@@ -9,7 +9,7 @@
 #define STATUSES \
     "Exit status:\n" \
     "  0  done\n" \
-    "  1  a sheet or a set was refused, or a set does not pass\n" \
+    "  1  a sheet, an STL file or a set was refused, or a set does not pass\n" \
     "  2  wrong use, or something could not be read or written\n"
 
 #define STATUS_CLOSED \
@@ -33,9 +33,16 @@
     "              edge that is there already: LEFT OPEN\n" \
     "  4  rim      the border of its piece that runs furthest: it stays open by rule\n"
 
-#define SHEETS \
-    "SHEET is a file, or - for standard input; without any, standard input is read.\n" \
+#define NAMES \
+    " is a file, or - for standard input; without any, standard input is read.\n" \
     "A file whose name begins with - is given as ./-NAME or after --.\n"
+
+#define EITHER \
+    "A sheet is given as its text, or as a binary STL file of up to 1,024 facets; its\n" \
+    "bytes tell which it is.\n"
+
+#define SHEETS \
+    "SHEET" NAMES EITHER
 
 #define HEADINGS \
     "With several sheets each output comes after a line `# NAME`.\n"
@@ -50,11 +57,15 @@ static const char all[] =
     "      [--quiet] [--json] [--closed]\n"
     "  wazelpunt rewrite [SHEET...]          read sheets and write them again\n"
     "      [--quiet]\n"
+    "  wazelpunt import [FILE...]            binary STL files as texts of sheets\n"
+    "      [--quiet]\n"
     "  wazelpunt draw [SHEET...]             a picture (SVG) of sheets and patches\n"
     "      [--quiet] [--plan]\n"
     "  wazelpunt example [patches]           a sample sheet, or its patch set\n"
     "  wazelpunt help [COMMAND]              this, or more on a command\n"
     "  wazelpunt --version                   the version\n"
+    "\n"
+    EITHER
     "\n"
     "The short forms of --help, --quiet and --version are -h, -q and -V. Results go\n"
     "to standard output, and what is said of them to standard error.\n"
@@ -106,8 +117,9 @@ static const char check[] =
     "Judges a patch set for a sheet, and prints the answer's number and place:\n"
     "answer=0,0 if the set passes.\n"
     "SHEET and PATCHES are files; one of them may be - for standard input. Without\n"
-    "PATCHES the set beside the sheet is judged: plate.patches for plate.sheet. A\n"
-    "file whose name begins with - is given as ./-NAME or after --.\n"
+    "PATCHES the set beside the sheet is judged: plate.patches for plate.sheet, and\n"
+    "for plate.stl. A file whose name begins with - is given as ./-NAME or after --.\n"
+    EITHER
     "\n"
     "  -q, --quiet    say nothing of a set that passes\n"
     "      --json     an object a line for each sheet, instead of its answer\n"
@@ -137,12 +149,13 @@ static const char rewrite[] =
     "wazelpunt rewrite [--quiet] [SHEET...]\n"
     "\n"
     "Reads sheets and writes their texts again. A text that is accepted comes out as\n"
-    "it was, byte for byte; of another one the answer is printed. Loops are not\n"
-    "looked for.\n"
+    "it was, byte for byte; of a binary STL file the text of its sheet is printed,\n"
+    "and of what is refused the answer. Loops are not looked for.\n"
     SHEETS
     HEADINGS
     "\n"
-    "  -q, --quiet    changes nothing: of a sheet that is written nothing is said\n"
+    "  -q, --quiet    say nothing of a binary STL file that is written as a sheet; of\n"
+    "                 other sheets nothing is said anyway\n"
     "\n"
     "A sheet has up to 1,024 points and 1,024 triangles, each line ended by a line\n"
     "feed and without blanks:\n"
@@ -157,6 +170,42 @@ static const char rewrite[] =
     "\n"
     "Example:\n"
     "  wazelpunt rewrite plate.sheet | cmp - plate.sheet\n"
+    "\n"
+    STATUSES
+    STATUS_ORDER;
+
+static const char import[] =
+    "wazelpunt import [--quiet] [FILE...]\n"
+    "\n"
+    "Reads binary STL files and prints the texts of their sheets. Each is taken for\n"
+    "binary STL whatever it looks like; where it is none, the answer is printed.\n"
+    "FILE" NAMES
+    "With several files each output comes after a line `# NAME`.\n"
+    "\n"
+    "  -q, --quiet    say nothing of a file that is read\n"
+    "\n"
+    "Such a file has up to 1,024 facets, and its length has to fit:\n"
+    "  80 bytes       of any kind; they are not looked at\n"
+    "  4 bytes        how many facets there are, lowest byte first\n"
+    "  50 bytes       a facet: its normal, three corners of three binary32 numbers,\n"
+    "                 and an attribute; normal and attribute are not looked at\n"
+    "\n"
+    "Facet k becomes triangle k. Corners with the same three numbers, by their bits,\n"
+    "are one point, -0 being 0; there may be up to 1,024, numbered as they are met. A\n"
+    "number of the file is taken as one of the sheet, in units of 0.1 mm; nothing is\n"
+    "converted.\n"
+    "\n"
+    "A pipe is read to its end, or until it is longer than its count says, which may\n"
+    "be after 214 GB.\n"
+    "\n"
+    "ASCII STL is not read. It is made binary by\n"
+    "  admesh --no-check --write-binary-stl=OUT.stl IN.stl\n"
+    "which leaves the facets as they are, or by MeshLab, with \"Binary encoding\"\n"
+    "ticked in its export dialog. MeshLab drops facets with equal corners, and takes\n"
+    "a file of several solids, of which admesh writes nothing.\n"
+    "\n"
+    "Example:\n"
+    "  wazelpunt import part.stl >part.sheet\n"
     "\n"
     STATUSES
     STATUS_ORDER;
@@ -200,7 +249,8 @@ static const char help[] =
     "wazelpunt help [COMMAND]\n"
     "wazelpunt COMMAND --help\n"
     "\n"
-    "Prints what there is, or more on a command: list, check, rewrite, draw, example.\n";
+    "Prints what there is, or more on a command: list, check, rewrite, import, draw,\n"
+    "example.\n";
 
 void help_print_all(void)
 {
@@ -213,7 +263,8 @@ bool help_print(const char *command)
         const char *command;
         const char *text;
     } texts[] = {
-        {"list", list}, {"check", check}, {"rewrite", rewrite}, {"draw", draw}, {"example", example}, {"help", help},
+        {"list", list}, {"check", check},     {"rewrite", rewrite}, {"import", import},
+        {"draw", draw}, {"example", example}, {"help", help},
     };
     for (size_t t = 0; t < sizeof texts / sizeof texts[0]; t++) {
         if (strcmp(command, texts[t].command) == 0) {

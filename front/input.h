@@ -1,4 +1,4 @@
-/* Texts as they are read from files and from standard input. */
+/* Texts and binary STL files as they are read from files and from standard input. */
 #ifndef INPUT_H
 #define INPUT_H
 
@@ -8,22 +8,37 @@
 
 #include "wazelpunt.h"
 
-enum kind { SHEET, SET };
+/* What is asked for: a sheet, as its text or as a binary STL file; a set; or a binary STL file whatever it looks like. */
+enum kind { SHEET, SET, FACETS };
 
-/* A text of a kind, as much of it as was read: at most the longest text of its kind and one byte, since more changes no answer. */
+/* A text of a kind, as much of it as was read: at least the longest text of its kind and one byte, since more changes no answer. */
 struct text {
     enum kind kind;
-    const char *name;   /* as it was given; `-` is standard input */
+    const char *name;       /* as it was given; `-` is standard input */
     uint8_t *bytes;
     size_t length;
-    bool cut;           /* there may be more than was read */
-    uint64_t size;      /* how long the whole is, or 0 where that is not known */
+    bool cut;               /* there may be more than was read */
+    uint64_t size;          /* how long the whole is, or 0 where that is not known */
+    const struct stl *stl;  /* the file that this text of a sheet was made of; NULL where the text itself was given */
 };
 
-/* Reads a sheet or a set. The bytes stand in a static room, one for each kind. Gives NULL, or what went wrong. */
+/* Why something is taken for a binary STL file: it was asked for as one, its length fits its count, it has a NUL byte, which no text has,
+   or its name says so. */
+enum why { ASKED_FOR, WELL_SIZED, HAS_NUL, NAMED_SO };
+
+/* A binary STL file. The text that was made of it is what importing prints: the sheet's text, or the answer's line. */
+struct stl {
+    struct text file;
+    bool longer;            /* its size is not known: it is longer than its count says, and was not counted to its end */
+    enum why why;
+    uint32_t refusal;       /* the number of the answer, whose place is 0; 0 where it is not refused */
+};
+
+/* Reads what is asked for. The bytes stand in static rooms, one set of them for sheets and one for sets. Gives NULL, or what went wrong. */
 const char *input_read(enum kind kind, const char *name, struct text *text);
 
-/* What input_read gives where standard input was closed at the start. */
+/* What input_read gives where standard input was closed at the start, and where the library printed what it does not promise. */
 extern const char input_closed[];
+extern const char input_unknown[];
 
 #endif

@@ -4,6 +4,7 @@
 
 #include "lines.h"
 #include "output.h"
+#include "stl.h"
 
 /* ---- Strings ---- */
 
@@ -38,7 +39,7 @@ static void put_member(const char *before, const char *name, const char *text)
 
 /* ---- Objects ---- */
 
-static void begin(const char *sheet, const char *set)
+static void put_names(const char *sheet, const char *set)
 {
     put_member("{", "file", sheet);
     if (set != NULL) {
@@ -46,11 +47,39 @@ static void begin(const char *sheet, const char *set)
     }
 }
 
+/* How many facets and points a binary STL file has, as far as that is known. */
+static void put_stl(const struct text *sheet)
+{
+    if (sheet->stl == NULL) {
+        return;
+    }
+    output(",\"stl\":{\"facets\":");
+    if (sheet->stl->refusal == WAZELPUNT_MISFIT) {
+        output("null");
+    } else {
+        output("%u", (unsigned)stl_count(sheet->stl->file.bytes));
+    }
+    output(",\"points\":");
+    if (sheet->stl->refusal != WAZELPUNT_DONE) {
+        output("null");
+    } else {
+        output("%zu", count_first(sheet));
+    }
+    output("}");
+}
+
 static void put_answer(struct answer answer)
 {
     output(",\"answer\":{\"number\":%u,\"place\":%zu", (unsigned)answer.number, answer.place);
     put_member(",", "sentence", wazelpunt_sentence(answer.number));
     output("}");
+}
+
+static void begin(const struct text *sheet, const struct text *set, struct answer answer)
+{
+    put_names(sheet->name, set == NULL ? NULL : set->name);
+    put_stl(sheet);
+    put_answer(answer);
 }
 
 static void put_numbers(const uint16_t *numbers, size_t count)
@@ -90,8 +119,7 @@ void json_listed(const struct text *sheet, const struct loops *loops, bool patch
 {
     const uint16_t *ring = loops->rings;
     const uint16_t *laid = loops->patches;
-    begin(sheet->name, NULL);
-    put_answer((struct answer){WAZELPUNT_DONE, 0});
+    begin(sheet, NULL, (struct answer){WAZELPUNT_DONE, 0});
     output(",\"points\":%zu,\"triangles\":%zu", count_first(sheet), count_triangles(sheet));
     put_left_open(loops);
     output(",\"loops\":[");
@@ -112,16 +140,26 @@ void json_listed(const struct text *sheet, const struct loops *loops, bool patch
 
 void json_passed(const struct text *sheet, const struct text *set, const struct loops *loops)
 {
-    begin(sheet->name, set->name);
-    put_answer((struct answer){WAZELPUNT_DONE, 0});
+    begin(sheet, set, (struct answer){WAZELPUNT_DONE, 0});
     put_left_open(loops);
     output("}\n");
 }
 
+/* The facets that an explanation is about, where there are some. */
+static void put_facets(const struct text *sheet, const struct explanation *told)
+{
+    for (size_t f = 0; f < told->facet_count; f++) {
+        const struct shown_facet *facet = &told->facets[f];
+        put_member(f == 0 ? ",\"facets\":[{" : ",{", "file", sheet->name);
+        output(",\"facet\":%zu,\"bytes\":[%zu,%zu]", facet->number, facet->first, facet->last);
+        put_member(",", "text", facet->text);
+        output("}%s", f + 1 == told->facet_count ? "]" : "");
+    }
+}
+
 void json_explained(const struct text *sheet, const struct text *set, struct answer answer, const struct explanation *told)
 {
-    begin(sheet->name, set == NULL ? NULL : set->name);
-    put_answer(answer);
+    begin(sheet, set, answer);
     put_member(",\"explanation\":{", "said", told->said);
     output(",\"lines\":[");
     for (size_t l = 0; l < told->line_count; l++) {
@@ -131,6 +169,7 @@ void json_explained(const struct text *sheet, const struct text *set, struct ans
         output("}");
     }
     output("]");
+    put_facets(sheet, told);
     if (told->due[0] != 0) {
         put_member(",", "due", told->due);
     }
@@ -142,7 +181,7 @@ void json_explained(const struct text *sheet, const struct text *set, struct ans
 
 void json_unread(const char *sheet, const char *set, const char *error)
 {
-    begin(sheet, set);
+    put_names(sheet, set);
     put_member(",", "error", error);
     output("}\n");
 }

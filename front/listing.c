@@ -51,7 +51,7 @@ static bool take_points(struct reading *reading, uint16_t *points, size_t count)
 static bool take_answer(struct reading *reading, struct answer *answer)
 {
     uint64_t number, place;
-    if (!take_word(reading, "answer=") || !take_number(reading, WAZELPUNT_LEFT_OVER, &number) || !take_word(reading, ",") ||
+    if (!take_word(reading, "answer=") || !take_number(reading, WAZELPUNT_MISFIT, &number) || !take_word(reading, ",") ||
         !take_number(reading, SIZE_MAX, &place) || !take_word(reading, "\n")) {
         return false;
     }
@@ -168,11 +168,6 @@ bool loops_stay_open(const struct loops *loops)
     return count_in(loops, WAZELPUNT_LONG) + count_in(loops, WAZELPUNT_OPEN) > 0;
 }
 
-static void add_many(struct phrase *phrase, const char *before, size_t count, const char *one)
-{
-    phrase_add(phrase, "%s%zu %s%s", before, count, one, count == 1 ? "" : "s");
-}
-
 /* Loops of a state that stay open, and where the first of them are. */
 static void add_open(struct phrase *phrase, const char *before, const struct loops *loops, uint16_t state, const char *how)
 {
@@ -208,14 +203,14 @@ void loops_add(struct phrase *phrase, const struct loops *loops, bool has_triang
         return;
     }
     const char *before = ": ";
-    add_many(phrase, "", loops->count, "loop");
+    phrase_add_many(phrase, "", loops->count, "loop");
     if (count_in(loops, WAZELPUNT_RIM) > 0) {
-        add_many(phrase, before, count_in(loops, WAZELPUNT_RIM), "rim");
+        phrase_add_many(phrase, before, count_in(loops, WAZELPUNT_RIM), "rim");
         before = "; ";
     }
     if (count_in(loops, WAZELPUNT_PATCHED) > 0) {
         phrase_add(phrase, "%s%zu closed with ", before, count_in(loops, WAZELPUNT_PATCHED));
-        add_many(phrase, "", count_laid(loops), "triangle");
+        phrase_add_many(phrase, "", count_laid(loops), "triangle");
         before = "; ";
     }
     if (count_in(loops, WAZELPUNT_LONG) > 0) {

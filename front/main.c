@@ -1,4 +1,4 @@
-/* The command wazelpunt, for people: sheets and sets are read, the proved library answers, and what it means is said. */
+/* The command wazelpunt, for people: sheets, STL files and sets are read, the proved library answers, and what it means is said. */
 
 #define _POSIX_C_SOURCE 200809L
 
@@ -16,6 +16,7 @@
 #include "listing.h"
 #include "output.h"
 #include "sample.h"
+#include "stl.h"
 #include "wazelpunt.h"
 
 /* ---- A call ---- */
@@ -104,7 +105,7 @@ static enum status tell_unread(const struct call *call, const char *name, const 
 /* What the library printed is not what it promises. */
 static enum status tell_unknown(const struct call *call, const char *name)
 {
-    return tell_unread(call, name, NULL, "the library printed what is not known here");
+    return tell_unread(call, name, NULL, input_unknown);
 }
 
 /* An answer that is not 0, on the sheet or on the set. */
@@ -119,6 +120,40 @@ static enum status tell_answer(const struct call *call, const struct text *of_se
     return STATUS_ANSWERED;
 }
 
+/* Whether a sheet is a binary STL file that is refused, so that there is no text of it but the answer's line. */
+static bool is_refused(void)
+{
+    return sheet.stl != NULL && sheet.stl->refusal != WAZELPUNT_DONE;
+}
+
+static struct answer refusal(void)
+{
+    return (struct answer){sheet.stl->refusal, 0};
+}
+
+/* Prints the answer's line of such a file, and tells it. */
+static enum status tell_refused(const struct call *call, const struct text *of_set)
+{
+    if (!has(call, JSON)) {
+        print_heading(call, sheet.name);
+        output_bytes(sheet.bytes, sheet.length);
+    }
+    return tell_answer(call, of_set, refusal());
+}
+
+/* What a sheet was made of, where that is a binary STL file: `: binary STL, 12 facets, 8 points`. */
+static const char *made_of(void)
+{
+    static char made[80];
+    struct phrase phrase = {made, sizeof made, 0};
+    made[0] = 0;
+    if (sheet.stl != NULL) {
+        phrase_add_many(&phrase, ": binary STL, ", count_triangles(&sheet), "facet");
+        phrase_add_many(&phrase, ", ", count_first(&sheet), "point");
+    }
+    return made;
+}
+
 /* Says what became of the loops, by a listing or by the states that a set declares, and gives the status. */
 static enum status tell_loops(const struct call *call, const struct text *of_set, const struct loops *loops)
 {
@@ -128,9 +163,9 @@ static enum status tell_loops(const struct call *call, const struct text *of_set
         loops_add(&phrase, loops, count_triangles(&sheet) > 0);
         const char *name = said_name(sheet.name);
         if (of_set == NULL) {
-            say("%s: %s", name, said);
+            say("%s%s: %s", name, made_of(), said);
         } else {
-            say("%s: %s passes: %s", name, said_name(of_set->name), said);
+            say("%s%s: %s passes: %s", name, made_of(), said_name(of_set->name), said);
         }
     }
     return has(call, CLOSED) && loops_stay_open(loops) ? STATUS_OPEN : STATUS_DONE;
@@ -146,6 +181,9 @@ static enum status list_sheet(const struct call *call, const char *name)
     if (error != NULL) {
         return tell_unread(call, name, NULL, error);
     }
+    if (is_refused()) {
+        return tell_refused(call, NULL);
+    }
     if (wazelpunt_list_text(sheet.bytes, sheet.length, printed, sizeof printed, &place, &printed_bytes) != WAZELPUNT_DONE ||
         !listing_take(printed, printed_bytes, &answer, &desk.loops)) {
         return tell_unknown(call, name);
@@ -159,7 +197,30 @@ static enum status list_sheet(const struct call *call, const char *name)
     return answer.number == WAZELPUNT_DONE ? tell_loops(call, NULL, &desk.loops) : tell_answer(call, NULL, answer);
 }
 
-/* ---- rewrite ---- */
+/* ---- rewrite and import ---- */
+
+/* Says of a sheet that is printed what it was made of. */
+static enum status tell_made(const struct call *call)
+{
+    if (sheet.stl != NULL && !has(call, QUIET)) {
+        say("%s%s", said_name(sheet.name), made_of());
+    }
+    return STATUS_DONE;
+}
+
+static enum status import_file(const struct call *call, const char *name)
+{
+    const char *error = input_read(FACETS, name, &sheet);
+    if (error != NULL) {
+        return tell_unread(call, name, NULL, error);
+    }
+    if (is_refused()) {
+        return tell_refused(call, NULL);
+    }
+    print_heading(call, name);
+    output_bytes(sheet.bytes, sheet.length);
+    return tell_made(call);
+}
 
 static enum status rewrite_sheet(const struct call *call, const char *name)
 {
@@ -169,27 +230,37 @@ static enum status rewrite_sheet(const struct call *call, const char *name)
     if (error != NULL) {
         return tell_unread(call, name, NULL, error);
     }
+    if (is_refused()) {
+        return tell_refused(call, NULL);
+    }
     if (wazelpunt_rewrite_text(sheet.bytes, sheet.length, printed, sizeof printed, &place, &printed_bytes) != WAZELPUNT_DONE) {
         return tell_unknown(call, name);
     }
     print_heading(call, name);
     output_bytes(printed, printed_bytes);
     /* a sheet that is written again begins otherwise */
-    return answer_take(printed, printed_bytes, &answer) ? tell_answer(call, NULL, answer) : STATUS_DONE;
+    return answer_take(printed, printed_bytes, &answer) ? tell_answer(call, NULL, answer) : tell_made(call);
 }
 
 /* ---- check ---- */
 
-/* The name of the set beside a sheet: .patches instead of .sheet, or behind the name if it has no such ending. The caller frees it. */
-static char *name_beside(const char *name)
+/* How long a name is without the ending .sheet, or .stl in any letters, or all of it if it has no such ending. */
+static size_t length_of_stem(const char *name)
 {
     static const char ending[] = ".sheet";
-    static const char other[] = ".patches";
     size_t length = strlen(name);
     size_t cut = sizeof ending - 1;
     if (length >= cut && strcmp(name + length - cut, ending) == 0) {
-        length -= cut;
+        return length - cut;
     }
+    return is_named_stl(name) ? length - strlen(stl_ending) : length;
+}
+
+/* The name of the set beside a sheet: .patches instead of its ending, or behind the name if it has none. The caller frees it. */
+static char *name_beside(const char *name)
+{
+    static const char other[] = ".patches";
+    size_t length = length_of_stem(name);
     char *beside = malloc(length + sizeof other);
     if (beside != NULL) {
         memcpy(beside, name, length);
@@ -221,6 +292,9 @@ static enum status check_sheet(const struct call *call, const char *name, const 
     error = input_read(SET, set_name, &set);
     if (error != NULL) {
         return tell_unread(call, name, set_name, error);
+    }
+    if (is_refused()) {
+        return tell_refused(call, &set);
     }
     if (wazelpunt_judge_texts(sheet.bytes, sheet.length, set.bytes, set.length, printed, sizeof printed, &place, &printed_bytes) !=
             WAZELPUNT_DONE ||
@@ -278,7 +352,7 @@ static enum status draw_one(const struct call *call, const char *name)
         }
         return tell_unread(call, name, NULL, error);
     }
-    struct answer answer = desk_patch(&sheet, &desk);
+    struct answer answer = is_refused() ? refusal() : desk_patch(&sheet, &desk);
     if (answer.number != WAZELPUNT_DONE) {
         if (!alone) {
             draw_refused(title, answer.number, answer.place);
@@ -306,8 +380,9 @@ static enum status each(const struct call *call, enum status (*one)(const struct
     return status;
 }
 
-/* The names of a call that takes any number of sheets: where there is none, standard input. False if that is a terminal. */
-static bool take_sheets(struct call *call)
+/* The names of a call that takes any number of sheets, or of what is due in their place: where there is none, standard input. False if
+   that is a terminal. */
+static bool take_names(struct call *call, const char *due)
 {
     static char standard_input[] = "-";
     static char *names[] = {standard_input};
@@ -315,7 +390,7 @@ static bool take_sheets(struct call *call)
         return true;
     }
     if (isatty(STDIN_FILENO)) {
-        say("no sheet is given; name a file, or - for standard input");
+        say("no %s is given; name a file, or - for standard input", due);
         return false;
     }
     call->names = names;
@@ -329,19 +404,25 @@ static enum status list(const struct call *call)
     if (has(call, PATCHES) && !has(call, JSON)) {
         return wrong_use(call, "--patches goes with --json");
     }
-    return take_sheets(&sheets) ? each(&sheets, list_sheet) : STATUS_FAILED;
+    return take_names(&sheets, "sheet") ? each(&sheets, list_sheet) : STATUS_FAILED;
 }
 
 static enum status rewrite(const struct call *call)
 {
     struct call sheets = *call;
-    return take_sheets(&sheets) ? each(&sheets, rewrite_sheet) : STATUS_FAILED;
+    return take_names(&sheets, "sheet") ? each(&sheets, rewrite_sheet) : STATUS_FAILED;
+}
+
+static enum status import(const struct call *call)
+{
+    struct call files = *call;
+    return take_names(&files, "STL file") ? each(&files, import_file) : STATUS_FAILED;
 }
 
 static enum status draw(const struct call *call)
 {
     struct call sheets = *call;
-    if (!take_sheets(&sheets)) {
+    if (!take_names(&sheets, "sheet")) {
         return STATUS_FAILED;
     }
     if (sheets.count == 1) {
@@ -406,6 +487,7 @@ static const struct command commands[] = {
     {"list", QUIET | JSON | PATCHES | CLOSED, list},
     {"check", QUIET | JSON | CLOSED | BESIDE, check},
     {"rewrite", QUIET, rewrite},
+    {"import", QUIET, import},
     {"draw", QUIET | PLAN, draw},
     {"example", 0, example},
     {"help", 0, help},

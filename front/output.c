@@ -165,6 +165,23 @@ void phrase_add(struct phrase *phrase, const char *format, ...)
     va_end(values);
 }
 
+void phrase_add_number(struct phrase *phrase, uint64_t number)
+{
+    if (number < 1000) {
+        phrase_add(phrase, "%u", (unsigned)number);
+    } else {
+        phrase_add_number(phrase, number / 1000);
+        phrase_add(phrase, ",%03u", (unsigned)(number % 1000));
+    }
+}
+
+void phrase_add_many(struct phrase *phrase, const char *before, uint64_t count, const char *one)
+{
+    phrase_add(phrase, "%s", before);
+    phrase_add_number(phrase, count);
+    phrase_add(phrase, " %s%s", one, count == 1 ? "" : "s");
+}
+
 static void say_line(const char *begin, const char *format, va_list values)
 {
     static char line[SENTENCE_ROOM];

@@ -43,6 +43,12 @@ struct phrase {
 
 void phrase_add(struct phrase *phrase, const char *format, ...) __attribute__((format(printf, 2, 3)));
 
+/* Adds a number with its digits parted by commas: `150,994,944`. */
+void phrase_add_number(struct phrase *phrase, uint64_t number);
+
+/* Adds how many there are of something: `1 facet`, `1,024 facets`. */
+void phrase_add_many(struct phrase *phrase, const char *before, uint64_t count, const char *one);
+
 /* Adds bytes, those that are not printed in ASCII as \n, \t or \xHH. */
 void phrase_add_bytes(struct phrase *phrase, const void *bytes, size_t count);
 

@@ -1,6 +1,6 @@
 /* Wazelpunt for C and C++: finds the gaps (loops of open edges) in a triangle surface and closes them. These are the exported functions of
    libwazelpunt, which is compiled for x86-64. Every function is proved to keep its promise; docs/PROMISES.md says it, docs/API.md has
-   the rules, the texts and the answers, examples/viewer.c is a whole program.
+   the rules, the texts, the files and the answers, examples/viewer.c is a whole program.
 
    A surface is given by its words, three a point, the bits of binary32 numbers in plate units (0.1 mm), and its corners, three a triangle,
    16-bit numbers of points.
@@ -8,23 +8,26 @@
    What holds of every function:
 
    - It answers for every input. It returns the number of its answer (enum wazelpunt_answer) and leaves the answer's place in *place.
+     wazelpunt_facet alone has no answer: it returns how many floats it leaves.
    - It leaves its results in buffers that the caller lends, each from its start; what lies behind them stays as it was. The length that is
      given with a lent buffer counts its numbers, not its bytes, and may be greater than is needed.
-   - A refusal, 1 to 10, leaves all lent buffers as they were, 0 in every count, and its place. wazelpunt_coordinate alone has no place.
+   - A refusal, 1 to 10 or 16, leaves all lent buffers as they were, 0 in every count, and its place. wazelpunt_coordinate and
+     wazelpunt_size_stl have no place.
    - Threads: the functions keep nothing between calls and have no state, so any number of threads may call them at once, as long as no
      thread lends a buffer, or points to a result, that another one uses meanwhile.
-   - Overlaps: no lent buffer and no result (*place and the counts) may overlap another one, nor anything that is given. What is given
-     is only read, so it may overlap.
+   - Overlaps: no lent buffer and no result (*place, *at and the counts) may overlap another one, nor anything that is given. What is
+     given is only read, so it may overlap.
    - Null: no pointer may be null, not even with a length of 0. With a length of 0 nothing is read or written there, and any pointer
      that is not null will do, such as that of an array of one number.
    - Alignment: each pointer is aligned as its type asks. (What was cast from a byte of a file need not be; copy it.)
    - Memory: nothing is allocated, and no file, signal, environment or locale is touched. Besides what is lent each function needs
      so many bytes of stack, measured at most, on full sheets and made cases:
 
-         wazelpunt_coordinate       56        wazelpunt_read        20,904        wazelpunt_list_text     197,416
-         wazelpunt_survey       37,240        wazelpunt_read_set    20,808        wazelpunt_judge_texts   199,880
-         wazelpunt_patch       129,816        wazelpunt_write        4,904        wazelpunt_rewrite_text   39,368
-         wazelpunt_judge       140,440
+         wazelpunt_coordinate       56        wazelpunt_read        20,904        wazelpunt_list_text     197,400
+         wazelpunt_survey       37,240        wazelpunt_read_set    20,808        wazelpunt_judge_texts   199,896
+         wazelpunt_patch       129,800        wazelpunt_write        4,904        wazelpunt_rewrite_text   39,368
+         wazelpunt_judge       140,440        wazelpunt_read_stl    22,952        wazelpunt_import_stl     41,416
+         wazelpunt_facet            24        wazelpunt_size_stl         8
 
    - Floats: the promises hold where the calling thread computes with floats as a program does that changed nothing: rounding to the
      nearest, a tie to the even one; denormal numbers kept, neither flushed to zero where they come out nor taken for zero where they go
@@ -43,7 +46,7 @@ extern "C" {
 #endif
 
 /* The version of this header. */
-#define WAZELPUNT_VERSION "1.2.0"
+#define WAZELPUNT_VERSION "1.3.0"
 
 /* What a surface may have at most. */
 #define WAZELPUNT_POINTS 1024
@@ -66,6 +69,12 @@ extern "C" {
 #define WAZELPUNT_LISTING_BYTES 161424
 #define WAZELPUNT_ANSWER_BYTES 48
 
+/* The bytes of the longest file of facets (binary STL) that is read, where its facets begin, behind header and count, and the bytes of a
+   facet. */
+#define WAZELPUNT_STL_BYTES 51284
+#define WAZELPUNT_STL_FRONT 84
+#define WAZELPUNT_STL_FACET_BYTES 50
+
 /* How many numbers each lent buffer needs for a surface of so many words and corners, as refusal 3 counts the buffers: 1 to 6. */
 #define WAZELPUNT_GRID_FOR(words_count) (words_count)
 #define WAZELPUNT_RINGS_FOR(corners_count) (corners_count)
@@ -74,7 +83,7 @@ extern "C" {
 #define WAZELPUNT_WEIGHTS_FOR(corners_count) ((corners_count) / 3)
 #define WAZELPUNT_PATCHES_FOR(corners_count) (3 * (corners_count))
 
-/* The numbers of the answers, and what their places count: 1 to 10 are refusals, 11 to 15 verdicts on a patch set. */
+/* The numbers of the answers, and what their places count: 1 to 10 and 16 are refusals, 11 to 15 verdicts on a patch set. */
 enum wazelpunt_answer {
     WAZELPUNT_DONE = 0,          /* 0 */
     WAZELPUNT_WRONG_WORDS = 1,   /* 0 */
@@ -91,7 +100,8 @@ enum wazelpunt_answer {
     WAZELPUNT_UNCOVERED = 12,    /* loops */
     WAZELPUNT_BARRED = 13,       /* loops */
     WAZELPUNT_HEAVY = 14,        /* loops */
-    WAZELPUNT_LEFT_OVER = 15     /* corners of the set */
+    WAZELPUNT_LEFT_OVER = 15,    /* corners of the set */
+    WAZELPUNT_MISFIT = 16        /* 0 */
 };
 
 /* The states of a loop. */
@@ -138,6 +148,8 @@ static inline const char *wazelpunt_sentence(uint32_t number)
         return "a loop has an allowed cover, but a lighter one exists";
     case WAZELPUNT_LEFT_OVER:
         return "corners are left over after the last loop";
+    case WAZELPUNT_MISFIT:
+        return "the file is too short, or its length does not fit its count of facets";
     default:
         return "an answer that this header does not know";
     }
@@ -219,7 +231,7 @@ uint32_t wazelpunt_write(const uint32_t *words, size_t words_count, const uint16
 uint32_t wazelpunt_read_set(const uint8_t *text, size_t text_length, uint16_t before, uint16_t *states, size_t states_length,
                             uint16_t *corners, size_t corners_length, size_t *place, size_t *states_read, size_t *corners_read);
 
-/* The three programs as functions, for one who wants their texts and not the numbers behind them. Each prints into `out` exactly the bytes
+/* The programs as functions, for one who wants their texts and not the numbers behind them. Each prints into `out` exactly the bytes
    that the program prints for such an input, from its start, and *bytes becomes how many; what lies behind is as it was. The input may
    have any length, and any bytes.
    Returns 0, with *place 0, whatever the text is: an answer on the text is printed (such as answer=10,3). Only if `out` is too
@@ -235,6 +247,34 @@ uint32_t wazelpunt_judge_texts(const uint8_t *sheet, size_t sheet_length, const 
 
 /* A sheet text read and written again, which is the same text, or the answer's line. Lent are at least WAZELPUNT_SHEET_BYTES. */
 uint32_t wazelpunt_rewrite_text(const uint8_t *text, size_t text_length, uint8_t *out, size_t out_length, size_t *place, size_t *bytes);
+
+/* Files of facets (binary STL): 80 bytes of a header, the count of facets in 32 bits, lowest byte first, and 50 bytes a facet: its normal,
+   three corners of three binary32 numbers each, and two bytes of an attribute. Header, normals and attributes are not looked at, not even
+   for the word solid. Facet k becomes triangle k. Corners are the same point where all three words agree; negative zero is read as zero,
+   and every other word bit for bit. Points are numbered by first use. */
+
+/* Reads a file of facets: any bytes. Returns 0 or a refusal, tried in this order: 16 (fewer than 84 bytes, or a length that is not
+   84 + 50 * the count), 2 (more than WAZELPUNT_TRIANGLES facets), 1 (more than WAZELPUNT_POINTS points) or 3, with its place. Lent are
+   words (1: three a point) and corners (2: three a facet), each long enough for this file. On 0 they hold the surface's words and corners,
+   each from its start, and what lies behind is as it was; *words_read and *corners_read become how many there are. On a refusal all is as
+   it was and both counts are 0. Whatever else may be wrong with the surface is left to those that take it. */
+uint32_t wazelpunt_read_stl(const uint8_t *file, size_t file_length, uint32_t *words, size_t words_length, uint16_t *corners,
+                            size_t corners_length, size_t *place, size_t *words_read, size_t *corners_read);
+
+/* What a file of that length, whose count is that, is answered for its size alone: returns 0, or refusal 16 or 2. For one who has not the
+   whole file at hand: a file longer than WAZELPUNT_STL_BYTES never gets 0. Of one shorter than 84 bytes the count may be anything. */
+uint32_t wazelpunt_size_stl(size_t length, uint32_t count);
+
+/* The importing program as a function, ruled as the three above: the text of the file's sheet, or the answer's line (answer=16,0 for one).
+   Lent are at least WAZELPUNT_SHEET_BYTES. */
+uint32_t wazelpunt_import_stl(const uint8_t *file, size_t file_length, uint8_t *out, size_t out_length, size_t *place, size_t *bytes);
+
+/* Hands out one facet at a time: that whose 50 bytes begin at *at, as nine floats, x, y and z of its three corners. Lays them from the
+   start of floats, moves *at behind the facet and returns 9. Negative zero comes out as zero, and every NaN as one NaN; no proof tells
+   its bits, which are seen to be 0x7fc00000. At the end, where fewer than 50 bytes are left from *at on, and where floats has fewer than
+   nine, it returns 0 and changes nothing. Begin with *at = WAZELPUNT_STL_FRONT. It goes by the bytes alone; of a file that is not refused
+   with 16 it hands out as many facets as the count says. */
+size_t wazelpunt_facet(const uint8_t *file, size_t file_length, size_t *at, float *floats, size_t floats_length);
 
 #ifdef __cplusplus
 }

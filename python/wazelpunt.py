@@ -16,16 +16,19 @@
     with open("plate.sheet", "rb") as file:
         surface = wazelpunt.Surface.from_text(file.read())
 
+    with open("plate.stl", "rb") as file:      # binary STL
+        surface = wazelpunt.Surface.from_stl(file.read())
+
     try:
         wazelpunt.Surface([(0, 0, 0)], [(0, 1, 2)]).survey()
     except wazelpunt.Refusal as refusal:
         print(refusal.number, refusal.place, refusal.sentence)      # 4 1 a corner names no point
 
-On the command line `python3 -m wazelpunt SHEET` prints the listing of a sheet.
+On the command line `python3 -m wazelpunt SHEET` prints the listing of a sheet, a text or a binary STL.
 
 Coordinates are binary32 numbers in plate units (0.1 mm). Other numbers are rounded to the nearest one, as `struct` does; one that is too
-large for that raises OverflowError. What the library refuses (answers 1 to 10) raises Refusal. A verdict on a patch set (answers 11 to 15)
-is an answer like any other and is returned. docs/API.md has the answers, the states and the texts.
+large for that raises OverflowError. What the library refuses (answers 1 to 10 and 16) raises Refusal. A verdict on a patch set (answers 11
+to 15) is an answer like any other and is returned. docs/API.md has the answers, the states, the texts and the files.
 
 It stands on the shared library libwazelpunt.so and on nothing but Python's own ctypes. The library is the file that the environment
 variable WAZELPUNT_LIBRARY names; or else one beside this module, or where it was installed together with it; or else one where the system
@@ -44,16 +47,17 @@ import operator
 import os
 import struct
 import sys
-from typing import Any, Dict, Iterable, List, Tuple
+from typing import Any, Dict, Iterable, Iterator, List, Tuple
 
 __all__ = [
     "ANSWER_BYTES", "CORNERS", "Coordinate", "GREATEST", "LISTING_BYTES", "LONGEST", "Loop", "POINTS", "PatchSet", "Patched", "Refusal",
-    "SET_BYTES", "SET_CORNERS", "SET_STATES", "SET_TRIANGLES", "SHEET_BYTES", "State", "Surface", "Survey", "TRIANGLES", "VERSION",
-    "Verdict", "WORDS", "coordinate", "floats_are_default", "judge_texts", "list_text", "rewrite_text",
+    "SET_BYTES", "SET_CORNERS", "SET_STATES", "SET_TRIANGLES", "SHEET_BYTES", "STL_BYTES", "STL_FACET_BYTES", "STL_FRONT", "State",
+    "Surface", "Survey", "TRIANGLES", "VERSION", "Verdict", "WORDS", "coordinate", "facets", "floats_are_default", "import_stl",
+    "judge_texts", "list_text", "rewrite_text", "size_stl",
 ]
 
 # As in include/wazelpunt.h.
-VERSION = "1.2.0"
+VERSION = "1.3.0"
 POINTS = 1024
 TRIANGLES = 1024
 WORDS = 3072
@@ -67,6 +71,9 @@ SHEET_BYTES = 47131
 SET_BYTES = 56347
 LISTING_BYTES = 161424
 ANSWER_BYTES = 48
+STL_BYTES = 51284
+STL_FRONT = 84
+STL_FACET_BYTES = 50
 
 _SENTENCES = (
     "done",
@@ -85,9 +92,11 @@ _SENTENCES = (
     "a loop has a cover with a barred diagonal",
     "a loop has an allowed cover, but a lighter one exists",
     "corners are left over after the last loop",
+    "the file is too short, or its length does not fit its count of facets",
 )
 
 Triple = Tuple[int, int, int]
+Point = Tuple[float, float, float]
 
 
 class State(enum.IntEnum):
@@ -102,7 +111,7 @@ class State(enum.IntEnum):
 class Refusal(ValueError):
     """The library refuses what it was given.
 
-    number    1 to 10, by the table of answers in docs/API.md
+    number    1 to 10 or 16, by the table of answers in docs/API.md
     place     where: a corner, triangle, half-edge or word, from 0; a line, from 1; for 9 how many loops there are
     sentence  the same in words
     """
@@ -122,7 +131,10 @@ class Refusal(ValueError):
 
 # ---- The library ----
 
-_FUNCTIONS = ("coordinate", "survey", "patch", "judge", "read", "read_set", "write", "list_text", "judge_texts", "rewrite_text")
+_FUNCTIONS = (
+    "coordinate", "survey", "patch", "judge", "read", "read_set", "write", "list_text", "judge_texts", "rewrite_text", "read_stl",
+    "size_stl", "import_stl",
+)
 
 
 def _load() -> ctypes.CDLL:
@@ -140,6 +152,7 @@ def _load() -> ctypes.CDLL:
             library = ctypes.CDLL(name)
             for function in _FUNCTIONS:
                 getattr(library, "wazelpunt_" + function).restype = ctypes.c_uint32
+            library.wazelpunt_facet.restype = ctypes.c_size_t
             return library
         except (OSError, AttributeError) as problem:
             # the system's sentences name the file
@@ -167,13 +180,13 @@ def _lent(kind: Any, count: int) -> _Slice:
     return _Slice(kind, (), count)
 
 
-def _given_text(text: Any) -> _Slice:
-    """The bytes of a text, whatever holds them."""
-    if isinstance(text, str):
-        raise TypeError("a text is bytes, not str: open its file with 'rb'")
-    view = memoryview(text)
+def _given_bytes(data: Any, what: str) -> _Slice:
+    """The bytes of a text or of a file of facets, whatever holds them."""
+    if isinstance(data, str):
+        raise TypeError(f"{what} is bytes, not str: open the file with 'rb'")
+    view = memoryview(data)
     if view.itemsize != 1:
-        raise TypeError(f"a text is bytes, not a buffer of {view.format!r}")
+        raise TypeError(f"{what} is bytes, not a buffer of {view.format!r}")
     given = _lent(ctypes.c_uint8, view.nbytes)
     ctypes.memmove(given.array, view.tobytes(), view.nbytes)
     return given
@@ -288,11 +301,14 @@ def _wholes_of(given: Any, what: str) -> Tuple[int, ...]:
     return tuple(_whole(number, f"number {i} of the {what}s") for i, number in enumerate(numbers))
 
 
-def _within(numbers: Tuple[int, ...], most: int, what: str) -> Tuple[int, ...]:
-    for i, number in enumerate(numbers):
-        if not 0 <= number <= most:
-            raise ValueError(f"number {i} of the {what} is {number}, not from 0 to {most}")
-    return numbers
+def _within(number: int, most: int, where: str) -> int:
+    if not 0 <= number <= most:
+        raise ValueError(f"{where} is {number}, not from 0 to {most}")
+    return number
+
+
+def _all_within(numbers: Tuple[int, ...], most: int, what: str) -> Tuple[int, ...]:
+    return tuple(_within(number, most, f"number {i} of the {what}") for i, number in enumerate(numbers))
 
 
 def _by_three(numbers: Any) -> Tuple[Any, ...]:
@@ -395,9 +411,9 @@ class PatchSet:
     def __init__(self, states: Any = (), triangles: Any = ()) -> None:
         numbers, _ = _buffer(states, "states", _WHOLES) or (states, "")
         wholes = tuple(_whole(state, f"state {i}") for i, state in enumerate(numbers))
-        named = tuple(State(state) if 1 <= state <= 4 else state for state in _within(wholes, 0xFFFF, "states"))
+        named = tuple(State(state) if 1 <= state <= 4 else state for state in _all_within(wholes, 0xFFFF, "states"))
         object.__setattr__(self, "states", named)
-        object.__setattr__(self, "corners", _within(_wholes_of(triangles, "triangle"), 0xFFFF, "triangles"))
+        object.__setattr__(self, "corners", _all_within(_wholes_of(triangles, "triangle"), 0xFFFF, "triangles"))
 
     def __repr__(self) -> str:
         return f"<PatchSet: {len(self.states)} states, {len(self.corners) // 3} triangles>"
@@ -409,9 +425,9 @@ class PatchSet:
     @classmethod
     def from_text(cls, text: bytes, lines_before: int = 0) -> PatchSet:
         """The set that a text says. Refusal 10 tells a wrong line, counted on from so many lines that come before."""
-        (before,) = _within((_whole(lines_before, "lines_before"),), 0xFFFF, "lines before")
+        before = _within(_whole(lines_before, "lines_before"), 0xFFFF, "lines_before")
         states, corners = _lent(ctypes.c_uint16, SET_STATES), _lent(ctypes.c_uint16, SET_CORNERS)
-        stated, cornered = _get("read_set", _given_text(text), ctypes.c_uint16(before), states, corners, counts=2)
+        stated, cornered = _get("read_set", _given_bytes(text, "a text"), ctypes.c_uint16(before), states, corners, counts=2)
         return cls(states.array[:stated], corners.array[:cornered])
 
     def text(self) -> bytes:
@@ -449,7 +465,7 @@ class Surface:
         numbers, _ = _buffer(words, "words", _WORDS) or (_flat(words, "point", "word"), "")
         wholes = tuple(_whole(word, f"word {i}") for i, word in enumerate(numbers))
         surface = cls.__new__(cls)
-        surface._set(_within(wholes, 0xFFFFFFFF, "words"), triangles)
+        surface._set(_all_within(wholes, 0xFFFFFFFF, "words"), triangles)
         return surface
 
     def _set(self, words: Tuple[int, ...], triangles: Any) -> None:
@@ -465,7 +481,7 @@ class Surface:
         return f"<Surface: {len(self.words) // 3} points, {len(self.corners) // 3} triangles>"
 
     @property
-    def points(self) -> Tuple[Tuple[float, float, float], ...]:
+    def points(self) -> Tuple[Point, ...]:
         return _by_three(struct.unpack(f"={len(self.words)}f", struct.pack(f"={len(self.words)}I", *self.words)))
 
     @property
@@ -475,8 +491,21 @@ class Surface:
     @classmethod
     def from_text(cls, text: bytes) -> Surface:
         """The surface that a sheet text says. Refusal 10 tells a wrong line, 4 a corner that names no point."""
+        return cls._read("read", _given_bytes(text, "a text"))
+
+    @classmethod
+    def from_stl(cls, data: bytes) -> Surface:
+        """The surface of a binary STL. Corners whose words agree are one point; points are numbered by first use; facet k is triangle k.
+
+        Refusal 16 tells a file that is too short, or whose length does not fit its count of facets, 2 too many facets, 1 too many points.
+        What else may be wrong with the surface, refusals 5 to 8, is told by what is asked of it.
+        """
+        return cls._read("read_stl", _given_bytes(data, "an STL file"))
+
+    @classmethod
+    def _read(cls, function: str, given: _Slice) -> Surface:
         words, corners = _lent(ctypes.c_uint32, WORDS), _lent(ctypes.c_uint16, CORNERS)
-        worded, cornered = _get("read", _given_text(text), words, corners, counts=2)
+        worded, cornered = _get(function, given, words, corners, counts=2)
         return cls.from_words(words.array[:worded], corners.array[:cornered])
 
     def text(self) -> bytes:
@@ -538,39 +567,98 @@ def coordinate(x: float) -> Coordinate:
 # ---- Texts ----
 
 
-def _printed(function: str, room: int, *texts: bytes) -> bytes:
+def _printed(function: str, room: int, *given: _Slice) -> bytes:
     out = _lent(ctypes.c_uint8, room)
-    (count,) = _get(function, *(_given_text(text) for text in texts), out, counts=1)
+    (count,) = _get(function, *given, out, counts=1)
     return bytes(out.array[:count])
 
 
 def list_text(sheet: bytes) -> bytes:
     """The listing of a sheet text: the answer's line, and after answer=0,0 the loops. It refuses nothing: the answer is in the listing."""
-    return _printed("list_text", LISTING_BYTES, sheet)
+    return _printed("list_text", LISTING_BYTES, _given_bytes(sheet, "a text"))
 
 
 def judge_texts(sheet: bytes, patches: bytes) -> bytes:
     """The answer's line on the text of a patch set for a sheet text."""
-    return _printed("judge_texts", ANSWER_BYTES, sheet, patches)
+    return _printed("judge_texts", ANSWER_BYTES, _given_bytes(sheet, "a text"), _given_bytes(patches, "a text"))
 
 
 def rewrite_text(sheet: bytes) -> bytes:
     """A sheet text read and written again, which is the same text; or the answer's line."""
-    return _printed("rewrite_text", SHEET_BYTES, sheet)
+    return _printed("rewrite_text", SHEET_BYTES, _given_bytes(sheet, "a text"))
+
+
+# ---- Files of facets (binary STL) ----
+
+
+def import_stl(data: bytes) -> bytes:
+    """The sheet text of a binary STL, or the answer's line. It refuses nothing: the answer is in the line."""
+    return _printed("import_stl", SHEET_BYTES, _given_bytes(data, "an STL file"))
+
+
+def size_stl(length: int, count: int) -> int:
+    """The number by which a binary STL of so many bytes, with that count of facets at byte 80, is answered for its size: 0, 16 or 2.
+
+    For a file that is not at hand as a whole. What has fewer than 84 bytes has no count; then any number will do.
+    """
+    long = _within(_whole(length, "the length"), 2 * sys.maxsize + 1, "the length")
+    counted = _within(_whole(count, "the count"), 0xFFFFFFFF, "the count")
+    return _LIBRARY.wazelpunt_size_stl(ctypes.c_size_t(long), ctypes.c_uint32(counted))
+
+
+def facets(data: bytes) -> Iterator[Tuple[Point, Point, Point]]:
+    """Hands out the facets of a binary STL one after the other, each as its three corners (x, y, z). Negative zero comes out as zero.
+
+    It goes by the bytes alone, as far as they make up facets, so that one can also look into a file that is refused.
+    """
+    return _facets(_given_bytes(data, "an STL file"))
+
+
+def _facets(file: _Slice) -> Iterator[Tuple[Point, Point, Point]]:
+    at = ctypes.c_size_t(STL_FRONT)
+    floats = _lent(ctypes.c_float, 9)
+    arguments = file.array, ctypes.c_size_t(file.count), ctypes.byref(at), floats.array, ctypes.c_size_t(floats.count)
+    while _LIBRARY.wazelpunt_facet(*arguments):
+        yield _by_three(floats.array)
+
+
+# ---- The command line ----
+
+
+def _size_answer(file: Any, data: bytes) -> int:
+    """The number for the size of a binary STL that begins so. It is counted on to its end, or until it is longer than its count says."""
+    count = int.from_bytes(data[80:84], "little")
+    length = more = len(data)
+    while more and length <= STL_FRONT + STL_FACET_BYTES * count:
+        more = len(file.read(1 << 16))
+        length += more
+    return size_stl(length, count)
+
+
+def _listing(file: Any) -> bytes:
+    """The listing of the sheet in an open file, which is a text or a binary STL."""
+    data = file.read(STL_BYTES)  # a text that is longer still has the same answer
+    if b"\0" not in data:  # an STL of less than 842 MB has one in its count
+        return list_text(data)
+    number = _size_answer(file, data)
+    if number == 16 and data.startswith(b"points="):
+        return list_text(data)
+    sheet = f"answer={number},0\n".encode() if number else import_stl(data)
+    return sheet if sheet.startswith(b"answer=") else list_text(sheet)
 
 
 def _main(words: List[str]) -> int:
     """Prints the listing of a sheet. The status is 0; 1 if the sheet is refused; 2 for wrong use, or if reading or writing fails."""
     if len(words) != 1 or words[0] in ("-h", "--help"):
         asked = words in (["-h"], ["--help"])
-        usage = "usage: python3 -m wazelpunt SHEET      prints the listing of a sheet text; - is standard input"
+        usage = "usage: python3 -m wazelpunt SHEET      prints the listing of a sheet text or a binary STL; - is standard input"
         print(usage, file=sys.stdout if asked else sys.stderr)
         return 0 if asked else 2
     piped = words[0] == "-"
     name = "standard input" if piped else words[0]
     try:
         with open(0 if piped else words[0], "rb", closefd=not piped) as file:
-            listing = list_text(file.read(SHEET_BYTES + 1))  # a text that is longer still has the same answer
+            listing = _listing(file)
     except OSError as problem:
         print(f"wazelpunt: {name}: {problem.strerror}", file=sys.stderr)
         return 2

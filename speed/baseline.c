@@ -802,6 +802,86 @@ uint32_t baseline_read(const uint8_t *text, size_t text_length, uint32_t *words,
     return 0;
 }
 
+/* ---- Reading files of facets ---- */
+
+enum {
+    FRONT = 84,
+    COUNT_AT = 80,
+    NORMAL = 12,
+    CORNER = 12,
+    FACET = 50,
+    FEWEST_BUCKETS = 16
+};
+
+#define NEGATIVE_ZERO 0x80000000u
+
+/* The points met so far, numbered from 1 by first use, each in the chain of its bucket. Whether they are too many is asked once a facet, so
+   that there is room for three more. */
+struct points {
+    uint16_t last[POINTS];
+    uint16_t before[POINTS + 4];
+    uint32_t words[POINTS + 4][3];
+};
+
+static inline uint32_t word_at(const uint8_t *at) {
+    return at[0] | (uint32_t)at[1] << 8 | (uint32_t)at[2] << 16 | (uint32_t)at[3] << 24;
+}
+
+static inline uint32_t plain_word_at(const uint8_t *at) {
+    uint32_t word = word_at(at);
+    return word == NEGATIVE_ZERO ? 0 : word;
+}
+
+/* The number, from 0, of the point at a place of the file. */
+static inline uint16_t meet_point(struct points *points, size_t *met, size_t buckets, const uint8_t *at) {
+    uint32_t a = plain_word_at(at), b = plain_word_at(at + 4), c = plain_word_at(at + 8);
+    size_t bucket = baseline_bucket(a, b, c, buckets), p = points->last[bucket];
+    for (; p != 0; p = points->before[p])
+        if (points->words[p][0] == a && points->words[p][1] == b && points->words[p][2] == c) return (uint16_t)(p - 1);
+    p = ++*met;
+    points->words[p][0] = a;
+    points->words[p][1] = b;
+    points->words[p][2] = c;
+    points->before[p] = points->last[bucket];
+    points->last[bucket] = (uint16_t)p;
+    return (uint16_t)(p - 1);
+}
+
+/* Lays the number of each corner's point and gives how many points there are, or more than may be. */
+static inline size_t meet_points(struct points *points, const uint8_t *file, size_t facets, uint16_t *corners) {
+    size_t met = 0, buckets = FEWEST_BUCKETS;
+    while (buckets < POINTS && buckets < 3 * facets) buckets *= 2;
+    memset(points->last, 0, buckets * sizeof *points->last);
+    const uint8_t *at = file + FRONT, *end = at + FACET * facets;
+    for (; at != end; at += FACET, corners += 3) {
+        corners[0] = meet_point(points, &met, buckets, at + NORMAL);
+        corners[1] = meet_point(points, &met, buckets, at + NORMAL + CORNER);
+        corners[2] = meet_point(points, &met, buckets, at + NORMAL + 2 * CORNER);
+        if (met > POINTS) break;
+    }
+    return met;
+}
+
+uint32_t baseline_read_stl(const uint8_t *file, size_t file_length, uint32_t *words, size_t words_length, uint16_t *corners,
+                           size_t corners_length, size_t *place, size_t *words_read, size_t *corners_read) {
+    struct points points;
+    uint16_t own_corners[CORNERS];
+    *words_read = *corners_read = 0;
+    if (file_length < FRONT) return answer(16, 0, place);
+    size_t facets = word_at(file + COUNT_AT);
+    if (file_length != FRONT + FACET * facets) return answer(16, 0, place);
+    if (facets > TRIANGLES) return answer(2, 0, place);
+    size_t met = meet_points(&points, file, facets, own_corners);
+    if (met > POINTS) return answer(1, 0, place);
+    if (words_length < 3 * met) return answer(3, 1, place);
+    if (corners_length < 3 * facets) return answer(3, 2, place);
+    memcpy(words, points.words[1], 3 * met * sizeof *words);
+    memcpy(corners, own_corners, 3 * facets * sizeof *corners);
+    *words_read = 3 * met;
+    *corners_read = 3 * facets;
+    return answer(0, 0, place);
+}
+
 /* ---- Writing texts ---- */
 
 static uint16_t count_digits(uint16_t value) {

@@ -1,10 +1,10 @@
 /* The archive and the C baseline side by side.
-   speed compare COUNT SEED FILE...  compares both with the slow reference, every byte of what is lent, on the sheets of these files, on full
-                                     sheets and on that many made surfaces; what the archive does not export is left out.
-   speed count FILE...               calls both on the sheet of each file; before each call it prints the side, the work and the sheet. Under
-                                     callgrind what the call cost is left in a dump of that name; compiled as EMULATED, the call stands between
-                                     the marks that speed/count.c looks for.
-   speed make FOLDER SEED            writes the full sheets as files into a folder. */
+   speed compare COUNT SEED FILE...  compares both with the slow reference, every byte of what is lent, on these files, on full sheets, on
+                                     the files of facets and on that many made ones of each; what the archive does not export is left out.
+   speed count FILE...               calls both on each file; before each call, which is counted (speed/calls.h), it prints the side, the
+                                     work and the file's name.
+   speed make FOLDER SEED            writes the full sheets and the files of facets into a folder.
+   A file is one of facets where its name ends in .stl, and a sheet elsewhere. */
 #include <inttypes.h>
 #include <stdint.h>
 #include <stdio.h>
@@ -15,18 +15,16 @@
 #include "../tests/reference/reference.h"
 #include "../tests/reference/sheets.h"
 #include "baseline.h"
-#include "marks.h"
+#include "calls.h"
+#include "files.h"
 #include "wazelpunt.h"
-
-#ifndef EMULATED
-#include <valgrind/callgrind.h>
-#endif
 
 /* An archive that lacks one of these is linked all the same; the function is then null. */
 #pragma weak wazelpunt_patch
 #pragma weak wazelpunt_judge
 #pragma weak wazelpunt_read
 #pragma weak wazelpunt_write
+#pragma weak wazelpunt_read_stl
 
 #define GUARD 16
 
@@ -36,13 +34,14 @@ struct side {
     __typeof__(baseline_check) *check;
     __typeof__(baseline_read) *read;
     __typeof__(baseline_write) *write;
+    __typeof__(baseline_read_stl) *read_stl;
 };
 
 #define SIDES 2
 
 static const struct side sides[SIDES] = {
-    {"ours", wazelpunt_patch, wazelpunt_judge, wazelpunt_read, wazelpunt_write},
-    {"baseline", baseline_patch, baseline_check, baseline_read, baseline_write},
+    {"ours", wazelpunt_patch, wazelpunt_judge, wazelpunt_read, wazelpunt_write, wazelpunt_read_stl},
+    {"baseline", baseline_patch, baseline_check, baseline_read, baseline_write, baseline_read_stl},
 };
 
 /* Everything that is lent, each between guards. */
@@ -67,15 +66,16 @@ struct answer {
 
 static struct generated_surface surface;
 static struct generated_set set;
-static uint8_t text[GENERATE_TEXT_ROOM];
-static size_t text_length;
+static uint8_t text[GENERATE_TEXT_ROOM], facets[GENERATE_STL_ROOM];
+static size_t text_length, facets_length;
 
-/* How many words and corners, and how many bytes of text, are lent to the reader and the writer. */
+/* How many words and corners, and how many bytes of text, are lent to the readers and the writer. */
 static size_t words_lent, corners_lent, text_lent;
 
 static struct lent before, theirs, due_lent;
+static struct answer due;
 
-/* ---- The four works, by a side or, where it is null, by the reference ---- */
+/* ---- The works, by a side or, where it is null, by the reference ---- */
 
 static void work_patch(const struct side *side, struct lent *l, struct answer *a) {
     const struct generated_surface *s = &surface;
@@ -130,30 +130,44 @@ static void work_write(const struct side *side, struct lent *l, struct answer *a
     *a = (struct answer){r.number, r.place, {r.bytes, 0, 0}};
 }
 
-enum { PATCH, CHECK, READ, WRITE, WORKS };
+static void work_read_stl(const struct side *side, struct lent *l, struct answer *a) {
+    if (side != 0) {
+        a->number = side->read_stl(facets, facets_length, l->words + GUARD, words_lent, l->corners + GUARD, corners_lent,
+                                   &a->place, &a->counts[0], &a->counts[1]);
+        return;
+    }
+    struct reference_read_answer r;
+    reference_read_stl(facets, facets_length, l->words + GUARD, words_lent, l->corners + GUARD, corners_lent, &r);
+    *a = (struct answer){r.number, r.place, {r.words, r.corners, 0}};
+}
+
+enum { PATCH, CHECK, READ, WRITE, READ_STL, WORKS };
 
 static const struct {
     const char *name;
     void (*by)(const struct side *, struct lent *, struct answer *);
-} works[WORKS] = {{"patch", work_patch}, {"check", work_check}, {"read", work_read}, {"write", work_write}};
+    int of_facets; /* it is done on a file of facets, and not on a sheet */
+} works[WORKS] = {
+    {"patch", work_patch, 0}, {"check", work_check, 0}, {"read", work_read, 0}, {"write", work_write, 0}, {"read_stl", work_read_stl, 1}};
 
 static int has(const struct side *side, size_t work) {
     switch (work) {
     case PATCH: return side->patch != 0;
     case CHECK: return side->check != 0;
     case READ: return side->read != 0;
-    default: return side->write != 0;
+    case WRITE: return side->write != 0;
+    default: return side->read_stl != 0;
     }
 }
 
 /* ---- Comparing ---- */
 
-#define HIGHEST 15
+#define HIGHEST WAZELPUNT_MISFIT
 
 static size_t compared[SIDES][WORKS], wrong, met[WORKS][HIGHEST + 1];
 
 static void compare(size_t work, const char *name, uint64_t seed) {
-    struct answer due = {0};
+    due = (struct answer){0};
     due_lent = before;
     works[work].by(0, &due_lent, &due);
     met[work][due.number]++;
@@ -197,14 +211,36 @@ static size_t lend(struct generator *generator, size_t needed, size_t most) {
     return lent < most ? lent : most;
 }
 
+/* All that can be needed is lent to the readers and the writer. */
+static void lend_all(void) {
+    words_lent = REFERENCE_MOST_WORDS;
+    corners_lent = REFERENCE_MOST_CORNERS;
+    text_lent = REFERENCE_LONGEST_TEXT;
+}
+
 /* A surface as it stands: patched, its own set judged, written and read again. */
 static void compare_sheet(const char *name, uint64_t seed) {
     take_own_set();
     text_length = generate_sheet_text(&surface, text);
-    words_lent = REFERENCE_MOST_WORDS;
-    corners_lent = REFERENCE_MOST_CORNERS;
-    text_lent = REFERENCE_LONGEST_TEXT;
-    for (size_t work = 0; work < WORKS; work++) compare(work, name, seed);
+    lend_all();
+    for (size_t work = 0; work < WORKS; work++)
+        if (!works[work].of_facets) compare(work, name, seed);
+}
+
+static void compare_facets(const char *name, uint64_t seed) {
+    lend_all();
+    compare(READ_STL, name, seed);
+}
+
+/* A made file of facets, the same with other lengths lent, and damaged. */
+static void compare_made_facets(struct generator *generator, uint64_t seed) {
+    facets_length = generate_stl(generator, facets);
+    compare_facets("seed", seed);
+    words_lent = lend(generator, due.counts[0], REFERENCE_MOST_WORDS);
+    corners_lent = lend(generator, due.counts[1], REFERENCE_MOST_CORNERS);
+    compare(READ_STL, "seed", seed);
+    facets_length = generate_stl_damage(generator, facets, facets_length);
+    compare(READ_STL, "seed", seed);
 }
 
 /* The same with a set and a text that may be wrong, and with other lengths lent. */
@@ -239,28 +275,51 @@ static void compare_made(size_t many, uint64_t seed) {
         if (own % 16 == 0) fill(&generator);
         compare_sheet("seed", own);
         compare_changed(&generator, own);
+        compare_made_facets(&generator, own);
     }
 }
 
-/* ---- Sheets ---- */
+/* ---- Files ---- */
 
-/* Reads the sheet of a file, with all that can be needed lent. */
-static int load(const char *path) {
-    struct reference_read_answer read;
+static size_t read_file(const char *path, uint8_t *room, size_t size) {
     FILE *file = fopen(path, "rb");
     if (file == 0) {
         perror(path);
         exit(2);
     }
-    text_length = fread(text, 1, sizeof text, file);
+    size_t length = fread(room, 1, size, file);
     fclose(file);
-    reference_read(text, text_length, surface.words, REFERENCE_MOST_WORDS, surface.corners, REFERENCE_MOST_CORNERS, &read);
+    return length;
+}
+
+static int is_of_facets(const char *path) {
+    const char *ending = strrchr(path, '.');
+    return ending != 0 && strcmp(ending, ".stl") == 0;
+}
+
+/* Reads a file of facets, or the sheet of a file, and lends all that can be needed; whether it is not refused. */
+static int load(const char *path) {
+    struct reference_read_answer read;
+    lend_all();
+    if (is_of_facets(path)) {
+        facets_length = read_file(path, facets, sizeof facets);
+        reference_read_stl(facets, facets_length, due_lent.words, words_lent, due_lent.corners, corners_lent, &read);
+    } else {
+        text_length = read_file(path, text, sizeof text);
+        reference_read(text, text_length, surface.words, words_lent, surface.corners, corners_lent, &read);
+        surface.word_count = read.words;
+        surface.corner_count = read.corners;
+        for (size_t b = 0; b < GENERATE_BUFFERS; b++) surface.lent[b] = SIZE_MAX;
+        shorten_lent();
+    }
     if (read.number != 0) printf("%s: refusal %zu at %zu, left out\n", path, read.number, read.place);
-    surface.word_count = read.words;
-    surface.corner_count = read.corners;
-    for (size_t b = 0; b < GENERATE_BUFFERS; b++) surface.lent[b] = SIZE_MAX;
-    shorten_lent();
     return read.number == 0;
+}
+
+static void compare_file(const char *path) {
+    if (!load(path)) return;
+    if (is_of_facets(path)) compare_facets(path, 0);
+    else compare_sheet(path, 0);
 }
 
 static void compare_full(uint64_t seed) {
@@ -269,12 +328,12 @@ static void compare_full(uint64_t seed) {
     generate_start(&generator, seed);
     fill(&generator);
     for (size_t sheet = 0; (name = sheet_make(&generator, sheet, &surface)) != 0; sheet++) compare_sheet(name, seed);
+    for (size_t file = 0; (name = file_make(file, facets, &facets_length)) != 0; file++) compare_facets(name, seed);
 }
 
 static int run_compare(size_t many, uint64_t seed, char **files, int count) {
     compare_full(seed);
-    for (int f = 0; f < count; f++)
-        if (load(files[f])) compare_sheet(files[f], 0);
+    for (int f = 0; f < count; f++) compare_file(files[f]);
     compare_made(many, seed);
     for (size_t s = 0; s < SIDES; s++) {
         printf("%s, compared with the reference:", sides[s].name);
@@ -294,38 +353,21 @@ static int run_compare(size_t many, uint64_t seed, char **files, int count) {
 /* ---- Counting ---- */
 
 /* The file's name without its folder and its ending. */
-static const char *sheet_name(const char *path) {
+static const char *name_of(const char *path) {
     static char name[256];
     const char *slash = strrchr(path, '/');
     snprintf(name, sizeof name, "%s", slash == 0 ? path : slash + 1);
-    char *ending = strstr(name, ".sheet");
+    char *ending = strrchr(name, '.');
     if (ending != 0) *ending = 0;
     return name;
 }
 
-#ifdef EMULATED
-#define MARK(number) __asm__ volatile("nopl %c0(%%rax,%%rax)" : : "i"(number) : "memory")
-#define BEGIN MARK(MARK_BEGIN)
-#define END(name) MARK(MARK_END)
-#else
-#define BEGIN \
-    do { \
-        CALLGRIND_START_INSTRUMENTATION; \
-        CALLGRIND_ZERO_STATS; \
-    } while (0)
-#define END(name) \
-    do { \
-        CALLGRIND_DUMP_STATS_AT(name); \
-        CALLGRIND_STOP_INSTRUMENTATION; \
-    } while (0)
-#endif
-
 /* One call. What this function and the work's own take is not counted: callgrind collects only within the call, and of the emulator's
    counts by function theirs are left out. */
-static void count(const struct side *side, size_t work, const char *sheet) {
+static void count(const struct side *side, size_t work, const char *file) {
     char name[320];
     struct answer answer = {0};
-    snprintf(name, sizeof name, "%s %s %s", side->name, works[work].name, sheet);
+    snprintf(name, sizeof name, "%s %s %s", side->name, works[work].name, file);
     puts(name);
     fflush(stdout);
     BEGIN;
@@ -334,28 +376,25 @@ static void count(const struct side *side, size_t work, const char *sheet) {
 }
 
 static int run_count(char **files, int count_of_files) {
-    words_lent = REFERENCE_MOST_WORDS;
-    corners_lent = REFERENCE_MOST_CORNERS;
-    text_lent = REFERENCE_LONGEST_TEXT;
     for (int f = 0; f < count_of_files; f++) {
         if (!load(files[f])) continue;
-        take_own_set();
+        if (!is_of_facets(files[f])) take_own_set();
         for (size_t work = 0; work < WORKS; work++)
             for (size_t s = 0; s < SIDES; s++)
-                if (has(&sides[s], work)) count(&sides[s], work, sheet_name(files[f]));
+                if (works[work].of_facets == is_of_facets(files[f]) && has(&sides[s], work)) count(&sides[s], work, name_of(files[f]));
     }
     return 0;
 }
 
 /* ---- Making ---- */
 
-static int make_file(const char *folder, const char *name) {
+static int make_file(const char *folder, const char *name, const char *ending, const uint8_t *bytes, size_t length) {
     char path[4096];
-    snprintf(path, sizeof path, "%s/%s.sheet", folder, name);
+    snprintf(path, sizeof path, "%s/%s.%s", folder, name, ending);
     for (char *at = path + strlen(folder); *at != 0; at++)
         if (*at == ' ') *at = '-';
     FILE *file = fopen(path, "wb");
-    if (file == 0 || fwrite(text, 1, text_length, file) != text_length || fclose(file) != 0) {
+    if (file == 0 || fwrite(bytes, 1, length, file) != length || fclose(file) != 0) {
         perror(path);
         return 0;
     }
@@ -368,8 +407,10 @@ static int run_make(const char *folder, uint64_t seed) {
     generate_start(&generator, seed);
     for (size_t sheet = 0; (name = sheet_make(&generator, sheet, &surface)) != 0; sheet++) {
         text_length = generate_sheet_text(&surface, text);
-        if (!make_file(folder, name)) return 1;
+        if (!make_file(folder, name, "sheet", text, text_length)) return 1;
     }
+    for (size_t file = 0; (name = file_make(file, facets, &facets_length)) != 0; file++)
+        if (!make_file(folder, name, "stl", facets, facets_length)) return 1;
     return 0;
 }
 

@@ -1,7 +1,9 @@
 /* How much stack each exported function takes at most: it is called on a stack that was painted before, and what is no longer painted was
    used. The stack that an empty call takes is taken off.
-   stack COUNT SEED  measures on the full sheets, on plates whose hole is closed by a fan, and on that many made surfaces, sets and texts.
-   stack sheet       prints one of these plates as a sheet text. */
+   stack COUNT SEED  measures on the full sheets, on plates whose hole is closed by a fan, on the files of facets that are counted, and on
+                     that many made surfaces, sets, texts and files of facets.
+   stack sheet       prints one of these plates as a sheet text.
+   stack facets      prints the file of facets with the most points. */
 #include <inttypes.h>
 #include <stdint.h>
 #include <stdio.h>
@@ -11,6 +13,7 @@
 
 #include "../tests/reference/generate.h"
 #include "../tests/reference/sheets.h"
+#include "files.h"
 #include "wazelpunt.h"
 
 #define PAINT 0xa5
@@ -19,6 +22,8 @@ static struct generated_surface surface;
 static struct generated_set set;
 static uint8_t text[GENERATE_TEXT_ROOM], set_text[GENERATE_TEXT_ROOM], out[GENERATE_TEXT_ROOM];
 static size_t text_length, set_text_length;
+static uint8_t facets[GENERATE_STL_ROOM];
+static size_t facets_length;
 static uint8_t printed[WAZELPUNT_LISTING_BYTES];
 
 /* what is lent */
@@ -27,6 +32,7 @@ static uint32_t words[GENERATE_WORD_ROOM];
 static uint16_t rings[GENERATE_CORNER_ROOM], lengths[GENERATE_CORNER_ROOM], states[GENERATE_CORNER_ROOM], corners[GENERATE_SET_ROOM];
 static uint64_t weights[GENERATE_CORNER_ROOM];
 static uint16_t patches[3 * GENERATE_CORNER_ROOM];
+static float floats[9];
 static size_t place, first, second, third;
 
 #define SURFACE surface.words, surface.word_count, surface.corners, surface.corner_count
@@ -76,6 +82,23 @@ static void work_rewrite_text(void) {
     wazelpunt_rewrite_text(text, text_length, printed, sizeof printed, &place, &first);
 }
 
+static void work_read_stl(void) {
+    wazelpunt_read_stl(facets, facets_length, words, GENERATE_WORD_ROOM, corners, GENERATE_SET_ROOM, &place, &first, &second);
+}
+
+static void work_size_stl(void) {
+    for (uint32_t count = 0; count <= WAZELPUNT_TRIANGLES + 1; count++) wazelpunt_size_stl(facets_length, count);
+}
+
+static void work_import_stl(void) {
+    wazelpunt_import_stl(facets, facets_length, printed, sizeof printed, &place, &first);
+}
+
+static void work_facet(void) {
+    place = WAZELPUNT_STL_FRONT;
+    while (wazelpunt_facet(facets, facets_length, &place, floats, 9) != 0) continue;
+}
+
 static struct work {
     const char *name;
     void (*work)(void);
@@ -92,6 +115,10 @@ static struct work {
     {"wazelpunt_list_text", work_list_text, 0},
     {"wazelpunt_judge_texts", work_judge_texts, 0},
     {"wazelpunt_rewrite_text", work_rewrite_text, 0},
+    {"wazelpunt_read_stl", work_read_stl, 0},
+    {"wazelpunt_size_stl", work_size_stl, 0},
+    {"wazelpunt_import_stl", work_import_stl, 0},
+    {"wazelpunt_facet", work_facet, 0},
 };
 
 #define WORKS (sizeof works / sizeof *works)
@@ -112,11 +139,17 @@ static void measure(struct work *w) {
     if (w->most < sizeof stack - unused) w->most = sizeof stack - unused;
 }
 
-static void measure_all(struct generator *generator) {
+static void measure_all(void) {
+    for (size_t w = 0; w < WORKS; w++) measure(&works[w]);
+}
+
+/* On the surface as it stands, a set and texts for it, and a made file of facets. */
+static void measure_on(struct generator *generator) {
     generate_set(generator, &surface, &set);
     text_length = generate_sheet_text(&surface, text);
     set_text_length = generate_set_text(&set, set_text);
-    for (size_t w = 0; w < WORKS; w++) measure(&works[w]);
+    facets_length = generate_stl(generator, facets);
+    measure_all();
 }
 
 static void put(size_t point, int32_t x, int32_t y) {
@@ -145,29 +178,37 @@ static void make_fan(size_t apex) {
     generate_lend_exactly(&surface);
 }
 
+static int print(const uint8_t *bytes, size_t length) {
+    return fwrite(bytes, 1, length, stdout) != length;
+}
+
 int main(int argc, char **argv) {
     size_t count = argc > 1 ? strtoul(argv[1], 0, 10) : 200;
     uint64_t seed = argc > 2 ? strtoull(argv[2], 0, 10) : 1;
     struct generator generator;
     if (argc == 2 && strcmp(argv[1], "sheet") == 0) {
         make_fan(63);
-        text_length = generate_sheet_text(&surface, text);
-        return fwrite(text, 1, text_length, stdout) != text_length;
+        return print(text, generate_sheet_text(&surface, text));
+    }
+    if (argc == 2 && strcmp(argv[1], "facets") == 0) {
+        for (size_t file = 0; strcmp(file_make(file, facets, &facets_length), "most-points") != 0; file++) continue;
+        return print(facets, facets_length);
     }
     generate_start(&generator, seed);
-    for (size_t sheet = 0; sheet_make(&generator, sheet, &surface) != 0; sheet++) measure_all(&generator);
+    for (size_t sheet = 0; sheet_make(&generator, sheet, &surface) != 0; sheet++) measure_on(&generator);
     for (size_t apex = 0; apex < 64; apex++) {
         make_fan(apex);
-        measure_all(&generator);
+        measure_on(&generator);
         if (third < 3 * 62) {
             fputs("stack: the hole of a plate was not patched\n", stderr);
             return 1;
         }
     }
+    for (size_t file = 0; file_make(file, facets, &facets_length) != 0; file++) measure_all();
     for (size_t made = 0; made < count; made++) {
         if (made % 4 == 0) sheet_make_cones(&generator, &surface);
         else generate_surface(&generator, &surface);
-        measure_all(&generator);
+        measure_on(&generator);
     }
     for (size_t w = 1; w < WORKS; w++) printf("%-22s %8zu bytes\n", works[w].name, works[w].most - works[0].most);
     return 0;

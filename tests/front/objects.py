@@ -4,6 +4,7 @@ import os
 import shutil
 
 from calls import HOME, read, write
+from facets import count_of, counts_of, imported, is_taken_for_stl, surface
 
 STATES = {1: 'patched', 2: 'long', 3: 'open', 4: 'rim'}
 # names that are odd in a string or in a line; from b'\xff\xfe' on they are not UTF-8
@@ -24,7 +25,7 @@ def object_of(listing, sheet, with_patches):
     due = {'answer': {'number': number, 'place': place}}
     if number != 0:
         return due
-    counts = [int(line.split(b'=')[1]) for line in sheet.split(b'\n') if line.startswith((b'points=', b'triangles='))]
+    counts = counts_of(sheet)
     due.update(points=counts[0], triangles=counts[1], left_open=[], loops=[])
     for key, value in lines[2:]:
         if key == 'loop':
@@ -66,8 +67,12 @@ def try_explanation(tally, what, found, files):
     told = found.get('explanation')
     if not tally.true(f'{what}: is explained', isinstance(told, dict) and 'loops' not in found, f'{found}'):
         return
-    tally.true(f'{what}: the explanation', set(told) <= {'said', 'lines', 'due', 'cause'} and isinstance(told.get('said'), str)
+    tally.true(f'{what}: the explanation', set(told) <= {'said', 'lines', 'facets', 'due', 'cause'} and isinstance(told.get('said'), str)
                and told['said'] != '' and isinstance(told.get('lines'), list), f'{told}')
+    for facet in told.get('facets', []):
+        first = 84 + 50 * facet['facet']
+        tally.true(f'{what}: a facet', list(facet) == ['file', 'facet', 'bytes', 'text'] and facet['file'] in files
+                   and facet['bytes'] == [first, first + 49] and first + 50 <= len(files[facet['file']]), f'{facet}')
     parts = [told[key] for key in ('due', 'cause') if key in told]
     tally.true(f'{what}: due and cause', all(isinstance(part, str) and part for part in parts), f'{told}')
     for line in told.get('lines', []):
@@ -81,9 +86,21 @@ def try_explanation(tally, what, found, files):
             tally.true(f'{what}: the text of a line', ends or (plain.startswith(cut) and len(cut) >= min(60, len(plain))), f'{line}')
 
 
+def stl_of(name, data):
+    """What an object says of a binary STL file, as far as it is known; None for a text."""
+    if not is_taken_for_stl(name, data):
+        return None
+    text = imported(data)
+    return {'facets': None if text == b'answer=16,0\n' else count_of(data),
+            'points': None if text.startswith(b'answer=') else len(surface(data)[0])}
+
+
 def try_object(tally, name, found, listing, sheet, with_patches):
-    due = object_of(listing, sheet, with_patches)
+    stl = stl_of(name, sheet)
+    tally.same(f'the object of {name}: stl', (found.get('stl'), 'stl' in found), (stl, stl is not None))
+    due = object_of(listing, imported(sheet) if stl else sheet, with_patches)
     due['file'] = name
+    found = {key: value for key, value in found.items() if key != 'stl'}
     explained = due['answer']['number'] != 0
     sentence = found.get('answer', {}).get('sentence')
     tally.true(f'the sentence of {name}', isinstance(sentence, str) and sentence and (sentence == 'done') != explained, f'{sentence}')
@@ -120,11 +137,13 @@ def try_checks(front, tally, folder, names):
     objects = parsed(tally, 'check --json', got.out)
     tally.same('how many objects of check there are', (len(objects), len(verdicts)), (len(names), len(names)))
     for name, found, verdict in zip(names, objects, verdicts):
-        beside = name[:-len('.sheet')] + '.patches'
+        beside = os.path.splitext(name)[0] + '.patches'
         number, place = numbers(verdict.split('=')[1])
         answer = found.get('answer', {})
         tally.same(f'the object of check of {name}', (found.get('file'), found.get('patches'), answer.get('number'), answer.get('place')),
                    (name, beside, number, place))
+        stl = stl_of(name, read(os.path.join(folder, name)))
+        tally.same(f'the object of check of {name}: stl', found.pop('stl', None), stl)
         tally.same(f'the keys of check of {name}', set(found) - {'file', 'patches', 'answer'}, {'explanation' if number else 'left_open'})
         if number == 0:
             states = [line for line in read(os.path.join(folder, beside)).split(b'\n') if line.startswith(b's=')]
@@ -219,12 +238,12 @@ def try_unreadable(front, tally, folder):
 
 
 def try_objects(front, tally, room):
-    """Everything of this file; the sheets are those of the told cases, of the named ones and of the examples."""
+    """Everything of this file; the sheets, texts and binary STL files, are those of the told cases, the named ones and the examples."""
     for folder in ('tests/told/cases', 'tests/programs/cases', 'examples'):
         folder = os.path.join(HOME, folder)
-        names = sorted(name for name in os.listdir(folder) if name.endswith('.sheet'))
+        names = sorted(name for name in os.listdir(folder) if name.lower().endswith(('.sheet', '.stl')))
         try_lists(front, tally, folder, names)
-        try_checks(front, tally, folder, [name for name in names if os.path.exists(f'{folder}/{name[:-len(".sheet")]}.patches')])
+        try_checks(front, tally, folder, [name for name in names if os.path.exists(f'{folder}/{os.path.splitext(name)[0]}.patches')])
     folder = os.path.join(room, 'objects')
     os.mkdir(folder)
     try_plate(front, tally, folder)

@@ -93,7 +93,7 @@ def try_alone(front, tally, case):
 
 
 def programs():
-    """How the three programs are run here: by the kit's own loader and, on another processor than x86-64, its emulator."""
+    """How the programs are run here: by the kit's own loader and, on another processor than x86-64, its emulator."""
     kit = os.environ.get('RATTLE_HOME') or os.path.dirname(os.path.dirname(os.path.realpath(shutil.which('rt'))))
     tools = f'{kit}/on/{os.uname().machine}/toolchain'
     emulator = [f'{tools}/bin/qemu-x86_64'] if os.access(f'{tools}/bin/qemu-x86_64', os.X_OK) else []

@@ -8,8 +8,9 @@ import subprocess
 
 from calls import HOME, read, write
 
-COMMANDS = ('list', 'check', 'rewrite', 'draw', 'example')
+COMMANDS = ('list', 'check', 'rewrite', 'import', 'draw', 'example')
 NO_SHEET = b'wazelpunt: no sheet is given; name a file, or - for standard input\n'
+NO_FILE = NO_SHEET.replace(b'sheet', b'STL file')
 
 
 class Bench:
@@ -95,7 +96,8 @@ def try_wrong_use(bench):
         bench.wrong_use(name, '--quiet=yes', 'plate.sheet', says=[b'--quiet'])
     for arguments in (('rewrite', '--json'), ('rewrite', '--closed'), ('rewrite', '--patches'), ('rewrite', '--plan'), ('list', '--plan'),
                       ('list', '--beside'), ('check', '--plan'), ('check', '--json', '--patches'), ('draw', '--json'), ('draw', '--closed'),
-                      ('draw', '--beside'), ('example', '--json'), ('example', '--closed')):
+                      ('draw', '--beside'), ('example', '--json'), ('example', '--closed'), ('import', '--json'), ('import', '--closed'),
+                      ('import', '--plan')):
         bench.wrong_use(*arguments, 'plate.sheet' if arguments[0] != 'example' else 'patches', says=[arguments[-1].encode()])
     # patches are told in objects alone
     bench.wrong_use('list', '--patches', 'plate.sheet', says=[b'--patches', b'--json'])
@@ -104,7 +106,7 @@ def try_wrong_use(bench):
     bench.wrong_use('check', '-', given=bench.plate)
     bench.wrong_use('check', '--beside', '-', given=bench.plate)
     bench.wrong_use('check', '--beside', '-', 'plate.sheet', '-', given=bench.plate)
-    for name in ('list', 'rewrite', 'draw'):
+    for name in ('list', 'rewrite', 'import', 'draw'):
         bench.wrong_use(name, '-', '-', given=bench.plate)
         bench.wrong_use(name, '-', 'plate.sheet', '-', given=bench.plate)
     bench.wrong_use('example', 'plate')
@@ -162,6 +164,8 @@ def try_sample(bench):
     for name in ('list', 'rewrite'):
         got = bench.status(1, name)
         bench.tally.same(f'{name} of nothing', got.out, b'answer=10,1\n')
+    got = bench.status(1, 'import')
+    bench.tally.same('import of nothing', got.out, b'answer=16,0\n')
     got = bench.status(1, 'draw')
     bench.tally.same('draw of nothing', got.out, b'')
 
@@ -244,10 +248,10 @@ def on_a_terminal(bench, *arguments, typed=b'\x04'):
 
 
 def try_terminal(bench):
-    for name in ('list', 'rewrite', 'draw'):
+    for name, said in (('list', NO_SHEET), ('rewrite', NO_SHEET), ('draw', NO_SHEET), ('import', NO_FILE)):
         for options in ((), ('--quiet',)):
             got = on_a_terminal(bench, name, *options)
-            bench.tally.same(f'{name} on a terminal', (got.status, got.out, got.err), (2, b'', NO_SHEET))
+            bench.tally.same(f'{name} on a terminal', (got.status, got.out, got.err), (2, b'', said))
     # the set of a sheet that is typed cannot stand beside it, so check asks for a name anyway
     got = on_a_terminal(bench, 'check')
     bench.tally.true('check on a terminal', got.status == 2 and got.out == b'' and b'no sheet is given' in got.err, repr(got))

@@ -1,6 +1,6 @@
 /* calls LIBRARY SHEET PATCHES: loads the shared library and calls each of its functions by the header's declaration, on the texts of
    examples/plate: with lent buffers that are as long as the header's factors say and not a number longer, with each of them a number
-   shorter, and with nothing at all. */
+   shorter, and with nothing at all. The plate is made a file of facets besides, and so is the largest surface. */
 #include <dlfcn.h>
 #include <stdio.h>
 #include <string.h>
@@ -10,7 +10,7 @@
 #define LENGTH(array) (sizeof(array) / sizeof(array)[0])
 
 /* The plate. */
-enum { W = 18, C = 18, LINES = 14 };
+enum { W = 18, C = 18, T = C / 3, LINES = 14 };
 
 static unsigned tried, wrong;
 
@@ -32,6 +32,10 @@ static __typeof__(wazelpunt_write) *write_sheet;
 static __typeof__(wazelpunt_list_text) *list_text;
 static __typeof__(wazelpunt_judge_texts) *judge_texts;
 static __typeof__(wazelpunt_rewrite_text) *rewrite_text;
+static __typeof__(wazelpunt_read_stl) *read_stl;
+static __typeof__(wazelpunt_size_stl) *size_stl;
+static __typeof__(wazelpunt_import_stl) *import_stl;
+static __typeof__(wazelpunt_facet) *hand_out;
 
 /* C has no conversion from dlsym's pointer to that of a function; their bytes are the same. */
 static void find(void *library, const char *name, void *function, size_t size)
@@ -56,6 +60,10 @@ static int load(const char *path)
     FIND("wazelpunt_list_text", list_text);
     FIND("wazelpunt_judge_texts", judge_texts);
     FIND("wazelpunt_rewrite_text", rewrite_text);
+    FIND("wazelpunt_read_stl", read_stl);
+    FIND("wazelpunt_size_stl", size_stl);
+    FIND("wazelpunt_import_stl", import_stl);
+    FIND("wazelpunt_facet", hand_out);
     return wrong == 0;
 }
 
@@ -171,6 +179,165 @@ static void call_texts(void)
     expect("a wrong text is no refusal of the call", do_list(0) == 0 && place == 0 && holds(listing, first, "answer=10,1\n"));
 }
 
+/* A file of facets, with room for a facet too many; what is read of it, with a number more behind it that has to stay; and the floats of
+   a facet, with one more. */
+static uint8_t file[WAZELPUNT_STL_BYTES + WAZELPUNT_STL_FACET_BYTES];
+static size_t file_length;
+static uint32_t file_words[WAZELPUNT_WORDS + 1];
+static uint16_t file_corners[WAZELPUNT_CORNERS + 1];
+static float floats[10];
+static size_t at;
+
+/* Bytes that are not looked at are 0xa5. */
+static void begin_file(uint32_t count)
+{
+    memset(file, 0xa5, sizeof file);
+    for (size_t byte = 0; byte < 4; byte++) file[80 + byte] = (uint8_t)(count >> 8 * byte);
+    file_length = WAZELPUNT_STL_FRONT + count * WAZELPUNT_STL_FACET_BYTES;
+}
+
+/* The words of corner `corner` go to their place. */
+static void put_corner(size_t corner, uint32_t x, uint32_t y, uint32_t z)
+{
+    uint8_t *to = file + WAZELPUNT_STL_FRONT + corner / 3 * WAZELPUNT_STL_FACET_BYTES + 12 + corner % 3 * 12;
+    for (size_t byte = 0; byte < 4; byte++) {
+        to[byte] = (uint8_t)(x >> 8 * byte);
+        to[4 + byte] = (uint8_t)(y >> 8 * byte);
+        to[8 + byte] = (uint8_t)(z >> 8 * byte);
+    }
+}
+
+/* So many facets on so many points: the corners are the points in their order, over and over. */
+static void make_file(uint32_t facets, uint32_t points)
+{
+    begin_file(facets);
+    for (uint32_t corner = 0; corner < 3 * facets; corner++) put_corner(corner, 1 + corner % points, 2, 3);
+}
+
+static void make_plate_file(void)
+{
+    begin_file(T);
+    for (size_t c = 0; c < C; c++) put_corner(c, words[3 * corners[c]], words[3 * corners[c] + 1], words[3 * corners[c] + 2]);
+}
+
+static uint32_t do_read_stl(int less)
+{
+    memset(file_words, 0x77, sizeof file_words);
+    memset(file_corners, 0x77, sizeof file_corners);
+    return read_stl(file, file_length, file_words, but(W, 1, less), file_corners, but(C, 2, less), &place, &first, &second);
+}
+
+static uint32_t do_read_largest(int less)
+{
+    return read_stl(file, file_length, file_words, but(WAZELPUNT_WORDS, 1, less), file_corners, but(WAZELPUNT_CORNERS, 2, less), &place,
+                    &first, &second);
+}
+
+static uint32_t do_import(int less)
+{
+    memset(written, 0, sizeof written);
+    return import_stl(file, file_length, written, but(LENGTH(written), 1, less), &place, &first);
+}
+
+static uint32_t bits_of(float number)
+{
+    uint32_t bits;
+    memcpy(&bits, &number, sizeof bits);
+    return bits;
+}
+
+/* The facets of the plate one after the other, by the corners of the sheet. */
+static void hand_out_plate(void)
+{
+    at = WAZELPUNT_STL_FRONT;
+    for (size_t facet = 0; facet < T; facet++) {
+        int same = 1;
+        floats[9] = 77;
+        expect("a facet is handed out", hand_out(file, file_length, &at, floats, 9) == 9 && floats[9] == 77);
+        for (size_t i = 0; i < 9; i++) same &= bits_of(floats[i]) == words[3 * corners[3 * facet + i / 3] + i % 3];
+        expect("its floats are the sheet's words", same && at == 84 + 50 * (facet + 1));
+    }
+}
+
+static void no_facet_at(size_t where, size_t room)
+{
+    at = where;
+    floats[0] = 77;
+    expect("no facet is there", hand_out(file, file_length, &at, floats, room) == 0);
+    expect("and nothing is changed", at == where && floats[0] == 77);
+}
+
+static void call_facets(void)
+{
+    make_plate_file();
+    hand_out_plate();
+    no_facet_at(file_length, 9);
+    no_facet_at(file_length - 49, 9);
+    no_facet_at(SIZE_MAX, 9);
+    no_facet_at(SIZE_MAX - 48, 9);
+    no_facet_at(84, 8);
+    no_facet_at(84, 0);
+    at = 0;
+    expect("it goes by the bytes alone", hand_out(file, 50, &at, floats, 10) == 9 && at == 50 && bits_of(floats[8]) == 0xa5a5a5a5);
+    put_corner(0, 0x80000000, 0xff812345, 0x80000001);
+    at = 84;
+    expect("a facet that is changed", hand_out(file, file_length, &at, floats, 9) == 9);
+    expect("negative zero, no number, and what is kept",
+           bits_of(floats[0]) == 0 && bits_of(floats[1]) == 0x7fc00000 && bits_of(floats[2]) == 0x80000001);
+}
+
+static void call_files(void)
+{
+    static const uint16_t by_first_use[C] = {0, 1, 2, 1, 3, 2, 1, 4, 3, 4, 5, 3, 4, 0, 5, 0, 2, 5};
+    make_plate_file();
+    fits("read_stl", do_read_stl, 2);
+    expect("18 words and corners of the file", first == W && second == C && memcmp(file_corners, by_first_use, sizeof by_first_use) == 0);
+    expect("point 2 is the sheet's point 3", memcmp(file_words, words, 6 * sizeof words[0]) == 0 && file_words[6] == words[9]);
+    expect("what lies behind stays", file_words[W] == 0x77777777 && file_corners[C] == 0x7777);
+    expect("a short buffer stays", do_read_stl(2) == WAZELPUNT_BUFFER && file_words[0] == 0x77777777 && file_corners[0] == 0x7777);
+    expect("words are told before corners", read_stl(file, file_length, file_words, W - 1, file_corners, C - 1, &place, &first, &second)
+                                                == WAZELPUNT_BUFFER && place == 1);
+    fits("import_stl", do_import, 1);
+    expect("its text", do_read_stl(0) == 0 && do_import(0) == 0
+                           && write_sheet(file_words, W, file_corners, C, listing, LENGTH(listing), &place, &second) == 0
+                           && first == second && memcmp(written, listing, first) == 0 && written[first] == 0);
+    file_length++;
+    expect("a byte too many", do_read_stl(0) == WAZELPUNT_MISFIT && place == 0 && first == 0 && second == 0 && file_words[0] == 0x77777777);
+    expect("is no refusal of the call", do_import(0) == 0 && place == 0 && holds(written, first, "answer=16,0\n"));
+    file_length = 83;
+    expect("83 bytes", do_read_stl(0) == WAZELPUNT_MISFIT && place == 0);
+}
+
+static void call_largest_files(void)
+{
+    make_file(WAZELPUNT_TRIANGLES, WAZELPUNT_POINTS);
+    expect("the longest file", file_length == WAZELPUNT_STL_BYTES);
+    file_words[WAZELPUNT_WORDS] = file_corners[WAZELPUNT_CORNERS] = 77;
+    fits("read_stl on the longest file", do_read_largest, 2);
+    expect("all its words and corners", first == WAZELPUNT_WORDS && second == WAZELPUNT_CORNERS && file_corners[1024] == 0);
+    expect("and no more", file_words[WAZELPUNT_WORDS] == 77 && file_corners[WAZELPUNT_CORNERS] == 77);
+    expect("its text", do_import(0) == 0 && place == 0 && first > 40000);
+    make_file(WAZELPUNT_TRIANGLES, WAZELPUNT_POINTS + 1);
+    expect("a point too many", do_read_largest(1) == WAZELPUNT_WRONG_WORDS && place == 0 && first == 0 && second == 0);
+    expect("a point too many, told", do_import(0) == 0 && holds(written, first, "answer=1,0\n"));
+    make_file(WAZELPUNT_TRIANGLES + 1, WAZELPUNT_POINTS + 1);
+    expect("a facet too many", do_read_largest(1) == WAZELPUNT_WRONG_CORNERS && place == 0 && first == 0 && second == 0);
+    expect("a facet too many, told", do_import(0) == 0 && holds(written, first, "answer=2,0\n"));
+}
+
+static void call_sizes(void)
+{
+    expect("sizes that are taken", size_stl(84, 0) == 0 && size_stl(134, 1) == 0);
+    expect("the longest that is", size_stl(WAZELPUNT_STL_BYTES, WAZELPUNT_TRIANGLES) == 0);
+    expect("a facet too many by its size", size_stl(51334, 1025) == WAZELPUNT_WRONG_CORNERS);
+    expect("facets in 2^32 + 88 bytes", size_stl(4294967384, 85899346) == WAZELPUNT_WRONG_CORNERS);
+    expect("as many as can be counted", size_stl(214748364834, UINT32_MAX) == WAZELPUNT_WRONG_CORNERS);
+    expect("sizes that do not fit", size_stl(0, 0) == WAZELPUNT_MISFIT && size_stl(83, 0) == WAZELPUNT_MISFIT
+                                        && size_stl(84, 1) == WAZELPUNT_MISFIT && size_stl(51335, 1025) == WAZELPUNT_MISFIT);
+    expect("one that fits modulo 2^32", size_stl(88, 85899346) == WAZELPUNT_MISFIT);
+    expect("the longest of all", size_stl(SIZE_MAX, UINT32_MAX) == WAZELPUNT_MISFIT);
+}
+
 /* Lengths of 0, with pointers that are not null. */
 static void call_with_nothing(void)
 {
@@ -184,6 +351,14 @@ static void call_with_nothing(void)
     expect("no text to list", list_text(sheet, 0, listing, LENGTH(listing), &place, &first) == 0 && holds(listing, first, "answer=10,1\n"));
     expect("no texts to judge", judge_texts(sheet, 0, set, 0, answer, LENGTH(answer), &place, &first) == 0);
     expect("their answer", holds(answer, first, "answer=10,1\n"));
+    expect("no file", read_stl(file, 0, file_words, 0, file_corners, 0, &place, &first, &second) == WAZELPUNT_MISFIT && place == 0);
+    expect("no file to import", import_stl(file, 0, written, LENGTH(written), &place, &first) == 0);
+    expect("its answer", holds(written, first, "answer=16,0\n"));
+    begin_file(0);
+    expect("no facets", read_stl(file, 84, file_words, 0, file_corners, 0, &place, &first, &second) == 0 && place == 0 && second == 0);
+    file_length = 0;
+    no_facet_at(0, 9);
+    no_facet_at(84, 9);
 }
 
 int main(int count, char **names)
@@ -193,6 +368,10 @@ int main(int count, char **names)
     if (count != 4 || !load(names[1]) || !load_texts(names[2], names[3])) return 1;
     expect("1.5 goes to 2", coordinate(0x3fc00000, &whole, &rest) == 0 && whole == 2 && rest == 0xbf000000);
     call_numbers();
+    call_facets();
+    call_files();
+    call_largest_files();
+    call_sizes();
     call_texts();
     call_with_nothing();
     printf("%u tried, %u wrong\n", tried, wrong);

@@ -1,7 +1,7 @@
 #!/usr/bin/env python3
 """constants.py PRINTED: holds include/wazelpunt.h, of which header.c printed the constants, against the sources that it stands for:
 
-- the limits and lengths, computed from the constants of base_types, program_lines and program_roll;
+- the limits and lengths, computed from the constants of base_types, program_lines and program_roll, or as stl_facets defines them;
 - the answers and states, by their names and numbers in base_answers and base_types;
 - the declarations, against the signatures of the exported functions in the crate wazelpunt;
 - how much stack each function takes, against what docs/SPEED.md says was measured;
@@ -44,19 +44,25 @@ def rattle_constants(*crates):
     return known
 
 
+def defined_numbers(path):
+    """The numbers that a file of definitions names."""
+    return dict(re.findall(r"^(\w+) = (\d+)$", pathlib.Path(path).read_text(encoding="utf-8"), re.M))
+
+
 def rattle_exports():
-    """The exported functions, by the types of their parameters in C."""
-    scalars = {"u8": "uint8_t", "u16": "uint16_t", "u32": "uint32_t", "u64": "uint64_t", "i32": "int32_t", "usize": "size_t"}
+    """The exported functions, each by the types in C of its parameters and, at the end, of what it returns."""
+    scalars = {"u8": "uint8_t", "u16": "uint16_t", "u32": "uint32_t", "u64": "uint64_t", "i32": "int32_t", "usize": "size_t",
+               "f32": "float"}
     exports = {}
     for path in pathlib.Path("crates/wazelpunt/src").glob("*.rt"):
         source = re.sub(r"//.*", "", path.read_text(encoding="utf-8"))
-        for name, parameters in re.findall(r'pub extern "C" fn (\w+)\(([^)]*)\) -> u32', source):
+        for name, parameters, result in re.findall(r'pub extern "C" fn (\w+)\(([^)]*)\) -> (\w+)', source):
             types = []
             for kind in re.findall(r":\s*([^,]+?)\s*(?:,|$)", parameters):
                 lent, slice_of, one = re.fullmatch(r"(&mut |&)?(?:\[(\w+)\]|(\w+))", kind).groups()
                 types.append(("const " if lent == "&" else "") + scalars[slice_of or one] + (" *" if lent else ""))
                 types += ["size_t"] if slice_of else []
-            exports[name] = types
+            exports[name] = types + [scalars[result]]
     return exports
 
 
@@ -64,8 +70,8 @@ def header_functions():
     header = pathlib.Path("include/wazelpunt.h").read_text(encoding="utf-8")
     plain = re.sub(r"/\*.*?\*/", "", header, flags=re.S)
     functions = {}
-    for name, parameters in re.findall(r"^uint32_t (wazelpunt_\w+)\(([^)]*)\);", plain, re.M):
-        functions[name] = [re.sub(r"\w+$", "", " ".join(each.split())).strip() for each in parameters.split(",")]
+    for result, name, parameters in re.findall(r"^(\w+) (wazelpunt_\w+)\(([^)]*)\);", plain, re.M):
+        functions[name] = [re.sub(r"\w+$", "", " ".join(each.split())).strip() for each in parameters.split(",")] + [result]
     return functions
 
 
@@ -84,33 +90,35 @@ def main(printed):
     lines = pathlib.Path(printed).read_text(encoding="utf-8").splitlines()
     said = dict(line.split("=", 1) for line in lines)
     header = {name[len("WAZELPUNT_"):]: value for name, value in said.items() if name.startswith("WAZELPUNT_")}
-    sentences = [said[f"sentence {number}"] for number in range(18)]
+    sentences = [said[f"sentence {number}"] for number in range(19)]
 
     known = rattle_constants("base_types", "program_lines", "program_roll")
+    known.update(defined_numbers("crates/stl_facets/specs/Facets.antt"))
     due = {
         "POINTS": "Surface::POINTS", "TRIANGLES": "Surface::TRIANGLES", "WORDS": "Surface::WORDS", "CORNERS": "Surface::CORNERS",
         "SET_STATES": "PatchSet::STATES", "SET_TRIANGLES": "PatchSet::TRIANGLES", "SET_CORNERS": "PatchSet::CORNERS",
         "LONGEST": "Loop::LONGEST", "GREATEST": "Grid::GREATEST", "SHEET_BYTES": "Surface::TEXT", "SET_BYTES": "PatchSet::TEXT",
-        "ANSWER_BYTES": "LINE", "LISTING_BYTES": "LISTING",
+        "ANSWER_BYTES": "LINE", "LISTING_BYTES": "LISTING", "STL_BYTES": "Surface::FILE", "STL_FRONT": "front",
+        "STL_FACET_BYTES": "facetBytes",
     }
     for name, source in due.items():
         expect(f"WAZELPUNT_{name}", header.pop(name), str(known.get(source, f"no constant {source}")))
 
     answers = pathlib.Path("crates/base_answers/src/lib.rt").read_text(encoding="utf-8")
     numbers = re.findall(r"Answer::(\w+)(?:\(_\))? => (\d+),", answers.split("fn number", 1)[1].split("fn refuses", 1)[0])
-    expect("how many answers base_answers has", len(numbers), 16)
+    expect("how many answers base_answers has", len(numbers), 17)
     for name, number in numbers:
         expect(f"WAZELPUNT_{answer_name(name)}", header.pop(answer_name(name), None), number)
     for state in ("PATCHED", "LONG", "OPEN", "RIM"):
         expect(f"WAZELPUNT_{state}", header.pop(state), str(known[f"State::{state}"]))
 
-    expect("sentences of numbers 0 to 15 that are not like another", len(set(sentences[:16])), 16)
-    expect("sentences of other numbers", set(sentences[16:]), {"an answer that this header does not know"})
+    expect("sentences of numbers 0 to 16 that are not like another", len(set(sentences[:17])), 17)
+    expect("sentences of other numbers", set(sentences[17:]), {"an answer that this header does not know"})
 
     exports, functions = rattle_exports(), header_functions()
     expect("functions that are declared", sorted(functions), sorted(exports))
     for name in sorted(set(exports) & set(functions)):
-        expect(f"the parameters of {name}", functions[name], exports[name])
+        expect(f"the types of {name}", functions[name], exports[name])
 
     said_stack = stack_figures("include/wazelpunt.h", r"(wazelpunt_\w+) {2,}([\d,]+|[A-Z-]+)")
     measured = stack_figures("docs/SPEED.md", r"\| `(wazelpunt_\w+)` \| ([\d,]+) \|\n")
@@ -127,7 +135,7 @@ def main(printed):
     expect("VERSION of python/wazelpunt.py", module.get("VERSION"), header.pop("VERSION"))
     for name in due:
         expect(f"{name} of python/wazelpunt.py", str(module.get(name)), said["WAZELPUNT_" + name])
-    expect("the sentences of python/wazelpunt.py", module.get("_SENTENCES"), tuple(sentences[:16]))
+    expect("the sentences of python/wazelpunt.py", module.get("_SENTENCES"), tuple(sentences[:17]))
     expect("what header.c printed besides", header, {})
 
     print(f"{tried} tried, {wrong} wrong")

@@ -20,6 +20,9 @@ static void say_limits(void)
     SAY(WAZELPUNT_SET_BYTES);
     SAY(WAZELPUNT_LISTING_BYTES);
     SAY(WAZELPUNT_ANSWER_BYTES);
+    SAY(WAZELPUNT_STL_BYTES);
+    SAY(WAZELPUNT_STL_FRONT);
+    SAY(WAZELPUNT_STL_FACET_BYTES);
 }
 
 static void say_answers(void)
@@ -40,6 +43,7 @@ static void say_answers(void)
     SAY(WAZELPUNT_BARRED);
     SAY(WAZELPUNT_HEAVY);
     SAY(WAZELPUNT_LEFT_OVER);
+    SAY(WAZELPUNT_MISFIT);
     SAY(WAZELPUNT_PATCHED);
     SAY(WAZELPUNT_LONG);
     SAY(WAZELPUNT_OPEN);
@@ -52,7 +56,7 @@ int main(void)
     say_limits();
     say_answers();
     /* one number more than there are answers, and the greatest */
-    for (uint32_t number = 0; number <= 16; number++) printf("sentence %u=%s\n", (unsigned)number, wazelpunt_sentence(number));
-    printf("sentence 17=%s\n", wazelpunt_sentence(UINT32_MAX));
+    for (uint32_t number = 0; number <= 17; number++) printf("sentence %u=%s\n", (unsigned)number, wazelpunt_sentence(number));
+    printf("sentence 18=%s\n", wazelpunt_sentence(UINT32_MAX));
     return wazelpunt_floats_are_default() ? 0 : 1;
 }

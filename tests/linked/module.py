@@ -6,10 +6,12 @@ import array
 import contextlib
 import ctypes
 import io
+import itertools
 import math
 import os
 import pathlib
 import pickle
+import re
 import shutil
 import struct
 import subprocess
@@ -22,6 +24,7 @@ sys.dont_write_bytecode = True
 sys.path.insert(0, str(HOME / "python"))
 
 import wazelpunt  # noqa: E402
+from faceted import stl_of  # noqa: E402
 from wazelpunt import Coordinate, PatchSet, Refusal, State, Surface, Verdict  # noqa: E402
 
 CASES = HOME / "tests/programs/cases"
@@ -116,6 +119,8 @@ def try_cases():
         else:
             try_surface(name, sheet, listing)
             expect(f"{name}, judged by objects", answer_line(*verdict_of(sheet, patches)), verdict)
+    for imported in sorted(CASES.glob("*.imported")):
+        expect(f"{imported.stem}, imported", wazelpunt.import_stl((CASES / f"{imported.stem}.stl").read_bytes()), imported.read_bytes())
 
 
 # ---- Refusals and verdicts ----
@@ -156,7 +161,9 @@ def try_refusals():
     # the module lends enough, so that 3 comes by no other way than this
     short = wazelpunt._lent(ctypes.c_uint8, len(PLATE) - 1)
     expect("3", refusal_of(lambda: wazelpunt._get("write", *plate._given(), short, counts=1)), (3, 1))
-    expect("3, printed", refusal_of(lambda: wazelpunt._printed("list_text", wazelpunt.LISTING_BYTES - 1, PLATE)), (3, 1))
+    given = wazelpunt._given_bytes(PLATE, "a text")
+    expect("3, printed", refusal_of(lambda: wazelpunt._printed("list_text", wazelpunt.LISTING_BYTES - 1, given)), (3, 1))
+    expect("3, imported", refusal_of(lambda: wazelpunt._printed("import_stl", wazelpunt.SHEET_BYTES - 1, given)), (3, 1))
 
     expect("a refusal, pickled", str(pickle.loads(pickle.dumps(Refusal(10, 3)))), "answer 10,3: a line of the text is wrong")
     expect("a refusal is a ValueError", issubclass(Refusal, ValueError), True)
@@ -309,6 +316,79 @@ def try_floats():
     expect_raised("a str", TypeError, "'1'", lambda: wazelpunt.coordinate("1"))
 
 
+# ---- Files of facets ----
+
+
+def stl_of_surface(surface):
+    return stl_of([word for corner in surface.corners for word in surface.words[3 * corner : 3 * corner + 3]])
+
+
+def counted_stl(facets, points):
+    """So many facets on so many points, over and over in their order."""
+    return stl_of([word for corner in range(3 * facets) for word in (1 + corner % points, 2, 3)])
+
+
+def facets_of(data):
+    """What is handed out of a file. It has to come to an end."""
+    return list(itertools.islice(wazelpunt.facets(data), 2000))
+
+
+def try_files():
+    for name in ("plate", "islands", "folded", "relief", "nothing", "sample"):
+        surface = Surface.from_text((HOME / f"examples/{name}.sheet").read_bytes())
+        data = stl_of_surface(surface)
+        read, due = Surface.from_stl(data), [tuple(surface.points[corner] for corner in three) for three in surface.triangles]
+        expect(f"{name}, its facets", facets_of(data), due)
+        expect(f"{name}, its triangles", [tuple(read.points[corner] for corner in three) for three in read.triangles], due)
+        expect(f"{name}, no point twice", len(set(read.points)), len(read.points))
+        expect(f"{name}, numbered by first use", list(dict.fromkeys(read.corners)), list(range(len(read.points))))
+        expect(f"{name}, as a text", wazelpunt.import_stl(data), read.text())
+        for kind in (bytearray, memoryview):
+            expect(f"{name}, {kind.__name__}", Surface.from_stl(kind(data)), read)
+    plate = stl_of_surface(Surface.from_text(PLATE))
+    loops = [(loop.ring, loop.state, loop.weight, loop.patches) for loop in Surface.from_stl(plate).patch().loops]
+    expect("the plate, patched", loops, [((0, 1, 4), State.RIM, 0, ()), ((3, 2, 5), State.PATCHED, 100, ((3, 5, 2),))])
+    wild = [0x80000000, 0x7FC00001, 1, 0, 0x7FC00001, 1, 0xFF800000, 0x7FC00002, 0x80000001]
+    expect("words, bit for bit but negative zero", Surface.from_stl(stl_of(wild)), Surface.from_words(wild[3:], [0, 0, 1]))
+    ((first, _, last),) = wazelpunt.facets(stl_of(wild))
+    expect("what is handed out of them", (math.copysign(1, first[0]), math.isnan(first[1]), last[0]), (1.0, True, -math.inf))
+    expect("a facet that names a point twice", refusal_of(Surface.from_stl(stl_of([0] * 9)).survey), (5, 0))
+
+
+def try_wrong_files():
+    plate = stl_of_surface(Surface.from_text(PLATE))
+    for what, data, due in [
+        ("nothing", b"", (16, 0)), ("83 bytes", bytes(83), (16, 0)), ("a byte less", plate[:-1], (16, 0)),
+        ("a byte more", plate + b"\0", (16, 0)), ("a sheet text", PLATE, (16, 0)),
+        ("a count that fits modulo 2^32", stl_of([], 85899346) + bytes(4), (16, 0)),
+        ("1,025 facets", counted_stl(1025, 1025), (2, 0)), ("1,025 points", counted_stl(1024, 1025), (1, 0)),
+    ]:
+        expect(f"{what}, read", refusal_of(lambda file=data: Surface.from_stl(file)), due)
+        expect(f"{what}, imported", wazelpunt.import_stl(data), answer_line(*due))
+    longest = counted_stl(1024, 1024)
+    expect("the longest file", len(longest), wazelpunt.STL_BYTES)
+    expect("all of it is read", repr(Surface.from_stl(longest)), "<Surface: 1024 points, 1024 triangles>")
+    expect("a file that is cut off", len(facets_of(plate[:-1])), 5)
+    expect("a front alone", (facets_of(plate[:84]), facets_of(b"")), ([], []))
+    for length, count, due in [
+        (84, 0, 0), (83, 0, 16), (wazelpunt.STL_BYTES, 1024, 0), (51334, 1025, 2), (51333, 1025, 16), (88, 85899346, 16),
+        (4294967384, 85899346, 2), (214748364834, 0xFFFFFFFF, 2), (2 * sys.maxsize + 1, 0xFFFFFFFF, 16),
+    ]:
+        expect(f"{count} facets in {length} bytes", wazelpunt.size_stl(length, count), due)
+    for what, kind, words, call in [
+        ("a length that is negative", ValueError, "-1", lambda: wazelpunt.size_stl(-1, 0)),
+        ("a length of 65 bits", ValueError, str(1 << 64), lambda: wazelpunt.size_stl(1 << 64, 0)),
+        ("a count of 33 bits", ValueError, "4294967296", lambda: wazelpunt.size_stl(84, 1 << 32)),
+        ("a count that is a float", TypeError, "the count", lambda: wazelpunt.size_stl(84, 0.0)),
+        ("a file in a str", TypeError, "'rb'", lambda: Surface.from_stl("")),
+        ("a file in floats", TypeError, "'f'", lambda: wazelpunt.import_stl(array.array("f", [0] * 21))),
+        ("facets in a str, before the first is asked for", TypeError, "'rb'", lambda: wazelpunt.facets("")),
+    ]:
+        expect_raised(what, kind, words, call)
+    sentence = str(raised_by(lambda: wazelpunt.size_stl(84, -1)))
+    expect("a number that stands alone, told", sentence, "the count is -1, not from 0 to 4294967295")
+
+
 def try_sets():
     text = b"states=2\ns=4\ns=1\ntriangles=1\nt=4,5,3\n"
     patch_set = PatchSet.from_text(text)
@@ -339,13 +419,16 @@ def try_objects():
 def try_usage(room):
     """The usage at the module's head does what its comments say."""
     shutil.copy(HOME / "examples/plate.sheet", room)
+    (room / "plate.stl").write_bytes(stl_of_surface(Surface.from_text(PLATE)))
     usage = textwrap.dedent("".join(line for line in wazelpunt.__doc__.splitlines(True) if line.startswith("    ") or line == "\n"))
     due = ["RIM (0, 1, 2) 0 ()", "PATCHED (4, 3, 5) 100 ((4, 5, 3),)", "4 1 a corner names no point"]
     expect("what the usage says", [line for line in due if f"# {line}\n" in usage], due)
     printed = io.StringIO()
     with contextlib.redirect_stdout(printed):
-        exec(usage.replace('"plate.sheet"', repr(str(room / "plate.sheet"))), {})
+        known = {}
+        exec(re.sub(r'"(plate\.\w+)"', lambda name: repr(str(room / name[1])), usage), known)
     expect("what the usage prints", printed.getvalue().splitlines(), due)
+    expect("what the usage reads at last", known["surface"], Surface.from_stl((room / "plate.stl").read_bytes()))
 
 
 def try_threads():
@@ -418,6 +501,23 @@ def try_command(room):
     expect("a full device", (done.returncode, done.stderr.count(b"\n")), (2, 1))
 
 
+def try_command_on_files(room):
+    """A binary STL is told from a text, and is listed as the text of its sheet is."""
+    where, box = room / "beside", HOME / "examples/box.stl"
+    data = box.read_bytes()
+    expect("an STL file", run(where, "-m", "wazelpunt", str(box)), (0, wazelpunt.list_text(wazelpunt.import_stl(data)), b""))
+    for what, given, due in [
+        ("a byte less", data[:-1], (16, 0)), ("a byte more", data + b"\0", (16, 0)), ("1,025 points", counted_stl(1024, 1025), (1, 0)),
+        ("the longest file and a byte", counted_stl(1024, 1024) + b"\0", (16, 0)), ("3,000 facets", counted_stl(3000, 3), (2, 0)),
+        ("a facet that names a point twice", stl_of([0] * 9), (5, 0)), ("a sheet text with a NUL byte", PLATE + b"\0", (10, 15)),
+        ("a long text", PLATE + b"\n" * 100000, (10, 15)), ("nothing", b"", (10, 1)),
+    ]:
+        status, out, said = run(where, "-m", "wazelpunt", "-", input=given)
+        expect(f"{what}, listed", (status, out, said.count(b"\n")), (1, answer_line(*due), 1))
+    # what has no end is answered as soon as it is longer than its count says
+    expect("a file without an end", run(where, "-m", "wazelpunt", "/dev/zero", timeout=60)[:2], (1, answer_line(16, 0)))
+
+
 try_cases()
 try_refusals()
 try_verdicts()
@@ -425,11 +525,14 @@ try_buffers()
 try_wrong_types()
 try_far_corners()
 try_floats()
+try_files()
+try_wrong_files()
 try_sets()
 try_objects()
 try_threads()
 try_usage(pathlib.Path(sys.argv[1]))
 try_finding(pathlib.Path(sys.argv[1]))
 try_command(pathlib.Path(sys.argv[1]))
+try_command_on_files(pathlib.Path(sys.argv[1]))
 print(f"{tried} tried, {wrong} wrong")
 sys.exit(1 if wrong else 0)

@@ -1,4 +1,4 @@
-/* A seeded maker of surfaces, patch sets and texts: shapes, coordinates, damage and buffer lengths. */
+/* A seeded maker of surfaces, patch sets, texts and files of facets: shapes, coordinates, damage and buffer lengths. */
 
 #include "generate.h"
 #include "reference.h"
@@ -1244,6 +1244,129 @@ size_t generate_text_damage(struct generator *generator, uint8_t *text, size_t l
         if (length > 0) {
             text[at] = telling_byte(generator);
         }
+        return length;
+    }
+}
+
+/* ---- Files of facets ---- */
+
+/* What the corners of a file are taken from. */
+enum corner_kind { CORNERS_OF_SURFACE, CORNERS_MEETING, CORNERS_COUNTED, CORNER_KINDS };
+
+struct corner_source {
+    enum corner_kind kind;
+    struct generated_surface surface;
+    size_t facets;
+    size_t points;
+};
+
+/* One of few words, of which some are easily mistaken for each other. */
+static uint32_t meeting_word(struct generator *generator)
+{
+    static const uint32_t words[] = {0, 0x80000000u, 1, 0x80000001u, 0x3f800000u, 0xbf800000u, 0x7f800000u, 0xff800000u,
+                                     0x7fc00000u, 0xffc00000u, 0x7fc00001u, 0x7f800001u};
+    return words[generate_below(generator, sizeof words / sizeof words[0])];
+}
+
+/* A count around the greatest that is taken, or a small one. */
+static size_t count_around(struct generator *generator, size_t greatest)
+{
+    return chance(generator, 4) ? between(generator, greatest - 1, greatest + 2) : between(generator, 0, 40);
+}
+
+static void choose_source(struct generator *generator, struct corner_source *source)
+{
+    source->kind = (enum corner_kind)generate_below(generator, CORNER_KINDS);
+    source->facets = count_around(generator, REFERENCE_MOST_TRIANGLES);
+    source->points = 1;
+    if (source->kind == CORNERS_OF_SURFACE) {
+        generate_surface(generator, &source->surface);
+        source->facets = source->surface.corner_count / 3;
+        source->points = source->surface.word_count / 3;
+    } else if (source->kind == CORNERS_COUNTED) {
+        source->points = between(generator, REFERENCE_MOST_POINTS - 1, REFERENCE_MOST_POINTS + 2);
+        source->facets = between(generator, source->points / 3, REFERENCE_MOST_TRIANGLES);
+    }
+}
+
+/* Word w of corner c. A corner of a surface that names no point is taken for one that does, and a zero has either sign. */
+static uint32_t source_word(struct generator *generator, const struct corner_source *source, size_t c, size_t w)
+{
+    if (source->kind == CORNERS_MEETING) {
+        return meeting_word(generator);
+    }
+    if (source->kind == CORNERS_COUNTED) {
+        return (uint32_t)(w == 0 ? 1 + c % source->points : w);
+    }
+    uint32_t word = source->points == 0 ? 0 : source->surface.words[3 * (source->surface.corners[c] % source->points) + w];
+    return word == 0 && chance(generator, 2) ? 0x80000000u : word;
+}
+
+static void put_file_word(uint8_t *file, size_t at, uint32_t word)
+{
+    for (size_t b = 0; b < 4; b++) {
+        file[at + b] = (uint8_t)(word >> (8 * b));
+    }
+}
+
+/* Header, normals and attributes are any bytes; some headers begin as a file in letters does. */
+size_t generate_stl(struct generator *generator, uint8_t *file)
+{
+    static struct corner_source source;
+    choose_source(generator, &source);
+    size_t length = REFERENCE_STL_FRONT + REFERENCE_STL_FACET * source.facets;
+    for (size_t b = 0; b < length; b++) {
+        file[b] = (uint8_t)generate_bits(generator);
+    }
+    if (chance(generator, 3)) {
+        put_text(file, 0, "solid part\n");
+    }
+    put_file_word(file, REFERENCE_STL_FRONT - 4, (uint32_t)source.facets);
+    for (size_t c = 0; c < 3 * source.facets; c++) {
+        for (size_t w = 0; w < 3; w++) {
+            put_file_word(file, REFERENCE_STL_FRONT + REFERENCE_STL_FACET * (c / 3) + 12 + 12 * (c % 3) + 4 * w,
+                          source_word(generator, &source, c, w));
+        }
+    }
+    return length;
+}
+
+/* The count moved by a few, its bytes turned round, or any bits. */
+static void damage_count(struct generator *generator, uint8_t *count)
+{
+    uint8_t first = count[0], second = count[1];
+    switch (generate_below(generator, 3)) {
+    case 0:
+        count[0] = (uint8_t)(first + between(generator, 1, 255));
+        break;
+    case 1:
+        count[0] = count[3];
+        count[1] = count[2];
+        count[2] = second;
+        count[3] = first;
+        break;
+    default:
+        put_file_word(count, 0, (uint32_t)generate_bits(generator));
+    }
+}
+
+size_t generate_stl_damage(struct generator *generator, uint8_t *file, size_t length)
+{
+    size_t more = chance(generator, 2) ? 1 : REFERENCE_STL_FACET;
+    switch (generate_below(generator, 5)) {
+    case 0:
+        return generate_below(generator, length);
+    case 1:
+        return generate_below(generator, REFERENCE_STL_FRONT + 1);
+    case 2:
+        return length < REFERENCE_STL_FRONT + more ? length : length - more;
+    case 3:
+        for (size_t b = length; b < length + more; b++) {
+            file[b] = (uint8_t)generate_bits(generator);
+        }
+        return length + more;
+    default:
+        damage_count(generator, file + REFERENCE_STL_FRONT - 4);
         return length;
     }
 }

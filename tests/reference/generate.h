@@ -1,4 +1,4 @@
-/* A seeded maker of surfaces, patch sets and texts, sound and damaged, for tests against the reference. */
+/* A seeded maker of surfaces, patch sets, texts and files of facets, sound and damaged, for tests against the reference. */
 
 #ifndef GENERATE_H
 #define GENERATE_H
@@ -12,6 +12,7 @@
 #define GENERATE_STATE_ROOM 1032
 #define GENERATE_SET_ROOM 9240
 #define GENERATE_TEXT_ROOM 98304
+#define GENERATE_STL_ROOM 51984
 #define GENERATE_BUFFERS 6
 
 struct generator {
@@ -72,5 +73,12 @@ size_t generate_set_text(const struct generated_set *set, uint8_t *text);
 
 /* Damages a text of that length in GENERATE_TEXT_ROOM bytes; gives the new length. */
 size_t generate_text_damage(struct generator *generator, uint8_t *text, size_t length);
+
+/* A file of facets whose length fits its count: of a surface, of words that meet often, or of about as many points as are taken; gives
+   its length. */
+size_t generate_stl(struct generator *generator, uint8_t *file);
+
+/* Damages a file of facets of that length in GENERATE_STL_ROOM bytes; gives the new length. */
+size_t generate_stl_damage(struct generator *generator, uint8_t *file, size_t length);
 
 #endif

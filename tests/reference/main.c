@@ -1,4 +1,4 @@
-/* A command that runs the three programs of the scope over the reference, on files or on cases. */
+/* A command that runs the programs of the scope over the reference, on files or on cases. */
 
 #define _POSIX_C_SOURCE 200809L
 
@@ -15,20 +15,34 @@
 
 #define MOST_FILE (1 << 20)
 
+/* The first bytes of a file, how many they are, and how many the whole file has. */
 struct file {
     uint8_t bytes[MOST_FILE];
     size_t length;
+    size_t whole;
 };
+
+static size_t count_on(FILE *stream)
+{
+    static uint8_t passed[MOST_FILE];
+    size_t count = 0;
+    for (size_t more = 1; more > 0; count += more) {
+        more = fread(passed, 1, sizeof passed, stream);
+    }
+    return count;
+}
 
 /* Gives 0, and an empty text, where the file cannot be opened. */
 static int read_file(const char *name, struct file *file)
 {
     FILE *stream = strcmp(name, "-") == 0 ? stdin : fopen(name, "rb");
     file->length = 0;
+    file->whole = 0;
     if (stream == NULL) {
         return 0;
     }
     file->length = fread(file->bytes, 1, MOST_FILE, stream);
+    file->whole = file->length + count_on(stream);
     if (stream != stdin) {
         fclose(stream);
     }
@@ -52,7 +66,7 @@ struct desk {
 
 static struct desk desk;
 
-/* ---- The three programs ---- */
+/* ---- The programs ---- */
 
 static void print_answer(FILE *out, size_t number, size_t place)
 {
@@ -161,24 +175,44 @@ static void check_program(FILE *out, const struct file *sheet, const struct file
     print_answer(out, verdict.number, verdict.place);
 }
 
-/* "The rewriting program reads a text from standard input and prints it
-   written again, or an answer line." */
-static void rewrite_program(FILE *out, const struct file *sheet)
+/* The text of the sheet that was read, or the answer's line. */
+static void print_sheet(FILE *out, const struct reference_read_answer *read)
 {
-    struct reference_read_answer read;
     struct reference_write_answer write;
-    read_sheet(sheet, &read);
-    if (read.number != 0) {
-        print_answer(out, read.number, read.place);
+    if (read->number != 0) {
+        print_answer(out, read->number, read->place);
         return;
     }
-    reference_write(desk.words, read.words, desk.corners, read.corners,
+    reference_write(desk.words, read->words, desk.corners, read->corners,
                     desk.text, REFERENCE_LONGEST_TEXT, &write);
     if (write.number != 0) {
         print_answer(out, write.number, write.place);
         return;
     }
     fwrite(desk.text, 1, write.bytes, out);
+}
+
+/* "The rewriting program reads a text from standard input and prints it
+   written again, or an answer line." */
+static void rewrite_program(FILE *out, const struct file *sheet)
+{
+    struct reference_read_answer read;
+    read_sheet(sheet, &read);
+    print_sheet(out, &read);
+}
+
+/* "The outcome is a surface as if it had come by sheet text." A file longer
+   than what is kept of it has more than 1,024 facets, or no length that fits. */
+static void import_program(FILE *out, const struct file *file)
+{
+    struct reference_read_answer read = {0, 0, 0, 0};
+    if (file->whole > file->length) {
+        read.number = reference_size_stl(file->whole, reference_count_stl(file->bytes));
+    } else {
+        reference_read_stl(file->bytes, file->length, desk.words, REFERENCE_MOST_WORDS,
+                           desk.corners, REFERENCE_MOST_CORNERS, &read);
+    }
+    print_sheet(out, &read);
 }
 
 /* ---- `reference cases DIR` ---- */
@@ -443,7 +477,7 @@ static int run_examples(void)
 
 static int explain(void)
 {
-    fputs("reference cases DIR | make DIR N SEED | list FILE | check SHEET PATCHES | rewrite FILE | self N SEED\n"
+    fputs("reference cases DIR | make DIR N SEED | list FILE | check SHEET PATCHES | rewrite FILE | import FILE | self N SEED\n"
           "(a FILE or SHEET of - is standard input)\n", stderr);
     return 2;
 }
@@ -467,6 +501,8 @@ int main(int count, char **given)
         list_program(stdout, &case_sheet);
     } else if (count == 3 && strcmp(given[1], "rewrite") == 0) {
         rewrite_program(stdout, &case_sheet);
+    } else if (count == 3 && strcmp(given[1], "import") == 0) {
+        import_program(stdout, &case_sheet);
     } else if (count == 4 && strcmp(given[1], "check") == 0) {
         read_file(given[3], &case_patches);
         check_program(stdout, &case_sheet, &case_patches);

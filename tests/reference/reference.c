@@ -2,6 +2,8 @@
 
 #include "reference.h"
 
+#include <string.h>
+
 /* A refusal or verdict: its number in the table and its place. */
 struct finding {
     size_t number;
@@ -971,6 +973,41 @@ static int take_sheet(struct reading *reading, uint32_t *words, size_t *word_cou
     return take_triangle_lines(reading, REFERENCE_MOST_TRIANGLES, corners, corner_count);
 }
 
+/* A surface as it was read, before it goes to the lent buffers. */
+struct sheet {
+    uint32_t words[REFERENCE_MOST_WORDS];
+    uint16_t corners[REFERENCE_MOST_CORNERS];
+    size_t word_count;
+    size_t corner_count;
+};
+
+/* "3 (words 1, corners 2)". */
+static struct finding find_short_room(const struct sheet *sheet, size_t words_length, size_t corners_length)
+{
+    if (words_length < sheet->word_count) {
+        return found(3, 1);
+    }
+    return corners_length < sheet->corner_count ? found(3, 2) : found(0, 0);
+}
+
+/* What was read goes to its buffers where there is no refusal. */
+static void hand_out_sheet(const struct sheet *sheet, struct finding refusal, uint32_t *words, uint16_t *corners,
+                           struct reference_read_answer *answer)
+{
+    *answer = (struct reference_read_answer){refusal.number, refusal.place, 0, 0};
+    if (refusal.number != 0) {
+        return;
+    }
+    for (size_t w = 0; w < sheet->word_count; w++) {
+        words[w] = sheet->words[w];
+    }
+    for (size_t c = 0; c < sheet->corner_count; c++) {
+        corners[c] = sheet->corners[c];
+    }
+    answer->words = sheet->word_count;
+    answer->corners = sheet->corner_count;
+}
+
 /* "Reading may give, in this order, 10, 3 (words 1, corners 2) and 4". */
 void reference_read(const uint8_t *text, size_t text_length,
                     uint32_t *words, size_t words_length,
@@ -978,35 +1015,17 @@ void reference_read(const uint8_t *text, size_t text_length,
                     struct reference_read_answer *answer)
 {
     struct reading reading = {text, text_length, 0, 1};
-    uint32_t read_words[REFERENCE_MOST_WORDS];
-    uint16_t read_corners[REFERENCE_MOST_CORNERS];
-    size_t word_count;
-    size_t corner_count;
-    *answer = (struct reference_read_answer){0, 0, 0, 0};
-    if (!take_sheet(&reading, read_words, &word_count, read_corners, &corner_count)) {
-        answer->number = 10;
-        answer->place = reading.line;
-        return;
+    struct sheet sheet;
+    struct finding refusal;
+    if (!take_sheet(&reading, sheet.words, &sheet.word_count, sheet.corners, &sheet.corner_count)) {
+        refusal = found(10, reading.line);
+    } else {
+        refusal = find_short_room(&sheet, words_length, corners_length);
+        if (refusal.number == 0) {
+            refusal = find_unnamed(sheet.word_count, sheet.corners, sheet.corner_count);
+        }
     }
-    if (words_length < word_count || corners_length < corner_count) {
-        answer->number = 3;
-        answer->place = words_length < word_count ? 1 : 2;
-        return;
-    }
-    struct finding unnamed = find_unnamed(word_count, read_corners, corner_count);
-    if (unnamed.number != 0) {
-        answer->number = unnamed.number;
-        answer->place = unnamed.place;
-        return;
-    }
-    for (size_t w = 0; w < word_count; w++) {
-        words[w] = read_words[w];
-    }
-    for (size_t c = 0; c < corner_count; c++) {
-        corners[c] = read_corners[c];
-    }
-    answer->words = word_count;
-    answer->corners = corner_count;
+    hand_out_sheet(&sheet, refusal, words, corners, answer);
 }
 
 /* `states=S`, S lines `s=`, `triangles=P`, P lines `t=`. */
@@ -1054,6 +1073,121 @@ void reference_read_set(const uint8_t *text, size_t text_length, size_t first_li
     }
     answer->states = state_count;
     answer->corners = corner_count;
+}
+
+/* ---- Reading files of facets ---- */
+
+/* "80 header bytes, a little-endian 32-bit count, then 50 bytes a triangle:
+   normal, three corners of three floats, a 16-bit attribute." */
+#define COUNT_AT 80
+#define NORMAL_BYTES 12
+#define FACET_FLOATS 9
+
+static uint32_t file_word(const uint8_t *file, size_t at)
+{
+    return (uint32_t)file[at] + ((uint32_t)file[at + 1] << 8) + ((uint32_t)file[at + 2] << 16) + ((uint32_t)file[at + 3] << 24);
+}
+
+uint32_t reference_count_stl(const uint8_t *file)
+{
+    return file_word(file, COUNT_AT);
+}
+
+/* "Header, normal and attribute are ignored." "negative zero read as zero".
+   Gives word 0 to 8 of the facet that begins there. */
+static uint32_t facet_word(const uint8_t *file, size_t facet_at, size_t index)
+{
+    uint32_t word = file_word(file, facet_at + NORMAL_BYTES + 4 * index);
+    return word == 0x80000000u ? 0 : word;
+}
+
+/* "16, fewer than 84 bytes or a length that isn't 84 plus 50 times the count
+   (place 0), comes first of all; then 2 for more than 1,024 facets". */
+size_t reference_size_stl(size_t length, uint32_t count)
+{
+    if (length < REFERENCE_STL_FRONT || length != REFERENCE_STL_FRONT + REFERENCE_STL_FACET * (uint64_t)count) {
+        return 16;
+    }
+    return count > REFERENCE_MOST_TRIANGLES ? 2 : 0;
+}
+
+/* "Corners are the same point when all three words agree"; "points are
+   numbered by first use." Gives the point's number, and keeps it if it is new
+   and there is room. */
+static size_t meet_point(struct sheet *sheet, const uint32_t *point)
+{
+    size_t points = sheet->word_count / 3;
+    for (size_t p = 0; p < points; p++) {
+        const uint32_t *met = sheet->words + 3 * p;
+        if (met[0] == point[0] && met[1] == point[1] && met[2] == point[2]) {
+            return p;
+        }
+    }
+    for (size_t w = 0; w < 3 && points < REFERENCE_MOST_POINTS; w++) {
+        sheet->words[sheet->word_count] = point[w];
+        sheet->word_count += 1;
+    }
+    return points;
+}
+
+/* "1 for more than 1,024 distinct points". */
+static struct finding take_facets(struct sheet *sheet, const uint8_t *file, size_t facets)
+{
+    sheet->word_count = 0;
+    sheet->corner_count = 3 * facets;
+    for (size_t c = 0; c < sheet->corner_count; c++) {
+        uint32_t point[3];
+        for (size_t w = 0; w < 3; w++) {
+            point[w] = facet_word(file, REFERENCE_STL_FRONT + REFERENCE_STL_FACET * (c / 3), 3 * (c % 3) + w);
+        }
+        size_t number = meet_point(sheet, point);
+        if (number == REFERENCE_MOST_POINTS) {
+            return found(1, 0);
+        }
+        sheet->corners[c] = (uint16_t)number;
+    }
+    return found(0, 0);
+}
+
+/* "3 for short buffers (words 1, corners 2). No other refusal is the reader's." */
+void reference_read_stl(const uint8_t *file, size_t file_length,
+                        uint32_t *words, size_t words_length,
+                        uint16_t *corners, size_t corners_length,
+                        struct reference_read_answer *answer)
+{
+    struct sheet sheet;
+    uint32_t count = file_length < REFERENCE_STL_FRONT ? 0 : reference_count_stl(file);
+    struct finding refusal = found(reference_size_stl(file_length, count), 0);
+    if (refusal.number == 0) {
+        refusal = take_facets(&sheet, file, count);
+    }
+    if (refusal.number == 0) {
+        refusal = find_short_room(&sheet, words_length, corners_length);
+    }
+    hand_out_sheet(&sheet, refusal, words, corners, answer);
+}
+
+/* The float with these bits; all NaNs are one. */
+static float float_of(uint32_t word)
+{
+    uint32_t bits = (word & 0x7fffffffu) > 0x7f800000u ? 0x7fc00000u : word;
+    float value;
+    memcpy(&value, &bits, sizeof value);
+    return value;
+}
+
+/* "The reader holds on to the bytes and its own place in them, and hands out
+   one facet at a time as a record of floats." */
+size_t reference_facet(const uint8_t *file, size_t file_length, size_t *at, float *floats, size_t floats_length)
+{
+    if (*at > file_length || file_length - *at < REFERENCE_STL_FACET || floats_length < FACET_FLOATS) {
+        return 0;
+    }
+    for (size_t f = 0; f < FACET_FLOATS; f++) {
+        floats[f] = float_of(facet_word(file, *at, f));
+    }
+    *at += REFERENCE_STL_FACET;
+    return FACET_FLOATS;
 }
 
 /* ---- Writing texts ---- */

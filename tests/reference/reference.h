@@ -16,6 +16,9 @@
 #define REFERENCE_LONGEST_LOOP 64
 #define REFERENCE_GREATEST_COORDINATE 32767
 #define REFERENCE_LONGEST_TEXT 47131
+#define REFERENCE_LONGEST_STL 51284
+#define REFERENCE_STL_FRONT 84
+#define REFERENCE_STL_FACET 50
 
 /* What stands for "no such half-edge" and for "no allowed cover". */
 #define REFERENCE_NO_EDGE ((size_t)-1)
@@ -38,7 +41,7 @@ struct reference_patch_answer {
     size_t corners;
 };
 
-/* The answer of the reader of sheet texts. */
+/* The answer of the readers of sheet texts and of files of facets. */
 struct reference_read_answer {
     size_t number;
     size_t place;
@@ -124,6 +127,22 @@ void reference_read_set(const uint8_t *text, size_t text_length, size_t first_li
                         uint16_t *states, size_t states_length,
                         uint16_t *corners, size_t corners_length,
                         struct reference_set_answer *answer);
+
+/* Reads a file of facets (binary STL); refusals 16, 2, 1 and 3 (words 1, corners 2). */
+void reference_read_stl(const uint8_t *file, size_t file_length,
+                        uint32_t *words, size_t words_length,
+                        uint16_t *corners, size_t corners_length,
+                        struct reference_read_answer *answer);
+
+/* The count of a file of facets, which has at least 84 bytes. */
+uint32_t reference_count_stl(const uint8_t *file);
+
+/* Gives 0, 16 or 2: what a file of facets of that length and that count is answered for its size alone. */
+size_t reference_size_stl(size_t length, uint32_t count);
+
+/* Hands out the facet that begins at *at as nine floats, moves *at behind it and gives 9; gives 0, and changes
+   nothing, where no whole facet is left or the floats are fewer than nine. */
+size_t reference_facet(const uint8_t *file, size_t file_length, size_t *at, float *floats, size_t floats_length);
 
 /* Parts, for the generator and for the checks of the reference itself. */
 

@@ -14,7 +14,8 @@
 enum tally {
     TALLY_PATCHED, TALLY_LOOPS, TALLY_HOLES, TALLY_LONG, TALLY_NO_COVER, TALLY_RIMS, TALLY_LONG_RIMS, TALLY_EQUAL_RUNS,
     TALLY_SHORTER_RIMS, TALLY_PIECES, TALLY_CLOSED_PIECES, TALLY_SPLIT, TALLY_ENUMERATED,
-    TALLY_IS_NO_COVER, TALLY_IS_COVER, TALLY_VERDICT, TALLY_RIM_REFUSED, TALLY_HOLE_NO_RIM, TALLY_READ, TALLY_WRONG_LINE, TALLIES
+    TALLY_IS_NO_COVER, TALLY_IS_COVER, TALLY_VERDICT, TALLY_RIM_REFUSED, TALLY_HOLE_NO_RIM, TALLY_READ, TALLY_WRONG_LINE,
+    TALLY_FILES_READ, TALLY_JOINED, TALLY_MISFITS, TALLY_MANY_FACETS, TALLY_MANY_POINTS, TALLIES
 };
 
 static const char *const tally_names[TALLIES] = {
@@ -23,7 +24,9 @@ static const char *const tally_names[TALLIES] = {
     "pieces", "pieces without a loop", "cycles of several loops",
     "loops compared with all their covers", "lists tested that are no cover", "lists tested that are a cover",
     "verdicts compared with all covers", "verdicts on a rim that is not declared 4",
-    "verdicts on a loop that is no rim and declared 4", "texts read and written again", "texts with a wrong line"};
+    "verdicts on a loop that is no rim and declared 4", "texts read and written again", "texts with a wrong line",
+    "files of facets read", "corners that are a point met before", "files whose length does not fit", "files of too many facets",
+    "files of too many points"};
 
 static size_t faults;
 static size_t tallies[TALLIES];
@@ -686,8 +689,12 @@ static void expect_written_again(const uint8_t *text, size_t length, const uint3
     tallies[TALLY_READ] += 1;
 }
 
+/* The reader of sheet texts, or that of files of facets. */
+typedef void reader(const uint8_t *bytes, size_t length, uint32_t *words, size_t words_length, uint16_t *corners, size_t corners_length,
+                    struct reference_read_answer *answer);
+
 /* A reader's buffer short by one is refused, words first, and nothing is written. */
-static void expect_short_refused(const uint8_t *text, size_t length, const struct reference_read_answer *read)
+static void expect_short_refused(reader *reads, const uint8_t *bytes, size_t length, const struct reference_read_answer *read)
 {
     static uint32_t words[REFERENCE_MOST_WORDS];
     static uint16_t corners[REFERENCE_MOST_CORNERS];
@@ -697,11 +704,11 @@ static void expect_short_refused(const uint8_t *text, size_t length, const struc
     memset(words, MARK, sizeof words);
     memset(corners, MARK, sizeof corners);
     if (read->words > 0) {
-        reference_read(text, length, words, word_room, corners, corner_room, &answer);
+        reads(bytes, length, words, word_room, corners, corner_room, &answer);
         expect(answer.number == 3 && answer.place == 1, "words short by one are not refused");
     }
     if (read->corners > 0) {
-        reference_read(text, length, words, read->words, corners, corner_room, &answer);
+        reads(bytes, length, words, read->words, corners, corner_room, &answer);
         expect(answer.number == 3 && answer.place == 2, "corners short by one are not refused");
     }
     expect(is_marked(words, 0, sizeof words) && is_marked(corners, 0, sizeof corners),
@@ -745,7 +752,7 @@ static void expect_sheet_text(struct generator *generator, const struct generate
     expect(is_marked(corners, read.corners * sizeof corners[0], sizeof corners), "corners past their end");
     if (read.number == 0) {
         expect_written_again(text, length, words, corners, &read);
-        expect_short_refused(text, length, &read);
+        expect_short_refused(reference_read, text, length, &read);
     } else if (read.number == 10) {
         expect(read.place >= 1 && read.place <= count_lines(text, length) + 1,
                "a wrong line lies past the text");
@@ -1107,6 +1114,262 @@ static void expect_by_hand(void)
     expect_plate_verdicts();
 }
 
+/* ---- Files of facets ---- */
+
+static struct {
+    uint8_t bytes[GENERATE_STL_ROOM];
+    size_t length;
+} file;
+
+/* What was read of a file, and what lies behind it. */
+static struct {
+    uint32_t words[REFERENCE_MOST_WORDS];
+    uint16_t corners[REFERENCE_MOST_CORNERS];
+    struct reference_read_answer answer;
+} taken;
+
+static void put_file_word(size_t at, uint32_t word)
+{
+    for (size_t b = 0; b < 4; b++) {
+        file.bytes[at + b] = (uint8_t)(word >> (8 * b));
+    }
+}
+
+/* Begins a file that says it has so many facets. What is not looked at has a mark in every place, the header but for its first word. */
+static void begin_file(uint32_t count)
+{
+    memset(file.bytes, MARK, sizeof file.bytes);
+    memcpy(file.bytes, "solid ", 6);
+    put_file_word(80, count);
+    file.length = 84;
+}
+
+static void add_facet(const uint32_t *words)
+{
+    for (size_t w = 0; w < 9; w++) {
+        put_file_word(file.length + 12 + 4 * w, words[w]);
+    }
+    file.length += 50;
+}
+
+/* A file of so many facets on so many points, all of them used if there are corners enough: corner c is point c, and after the last
+   point the first comes again. Point p has the words p + 1, 0 and 0. */
+static void make_counted(size_t facets, size_t points)
+{
+    begin_file((uint32_t)facets);
+    for (size_t f = 0; f < facets; f++) {
+        uint32_t words[9] = {0};
+        for (size_t c = 0; c < 3; c++) {
+            words[3 * c] = (uint32_t)((3 * f + c) % points + 1);
+        }
+        add_facet(words);
+    }
+}
+
+static void take_file(size_t word_room, size_t corner_room)
+{
+    memset(&taken, MARK, sizeof taken);
+    reference_read_stl(file.bytes, file.length, taken.words, word_room, taken.corners, corner_room, &taken.answer);
+    expect(is_marked(taken.words, taken.answer.words * sizeof taken.words[0], sizeof taken.words)
+               && is_marked(taken.corners, taken.answer.corners * sizeof taken.corners[0], sizeof taken.corners),
+           "a file is read past its end");
+}
+
+/* The file is refused so, whatever is lent. */
+static void expect_refused(size_t number, const char *what)
+{
+    take_file(REFERENCE_MOST_WORDS, REFERENCE_MOST_CORNERS);
+    expect(taken.answer.number == number && taken.answer.place == 0, what);
+    take_file(0, 0);
+    expect(taken.answer.number == number && taken.answer.place == 0, what);
+}
+
+/* The bits of a float. */
+static uint32_t bits_of(float value)
+{
+    uint32_t bits;
+    memcpy(&bits, &value, sizeof bits);
+    return bits;
+}
+
+static void expect_no_facet(size_t at, size_t room)
+{
+    float floats[9];
+    size_t after = at;
+    memset(floats, MARK, sizeof floats);
+    expect(reference_facet(file.bytes, file.length, &after, floats, room) == 0 && after == at && is_marked(floats, 0, sizeof floats),
+           "a facet is handed out where none is");
+}
+
+/* Every facet of the file that was taken, one after the other: its floats are the words of the points that its corners name, and what is
+   no number is the one that there is. */
+static void expect_handed_out(void)
+{
+    size_t at = REFERENCE_STL_FRONT;
+    for (size_t c = 0; c < taken.answer.corners; c += 3) {
+        float floats[10];
+        memset(floats, MARK, sizeof floats);
+        expect_no_facet(at, 8);
+        expect(reference_facet(file.bytes, file.length, &at, floats, 10) == 9 && at == 84 + 50 * (c / 3 + 1)
+                   && is_marked(&floats[9], 0, sizeof floats[9]),
+               "a facet is not handed out");
+        for (size_t f = 0; f < 9; f++) {
+            uint32_t word = taken.words[3 * taken.corners[c + f / 3] + f % 3];
+            expect(bits_of(floats[f]) == (word << 1 > 0xff000000u ? 0x7fc00000u : word), "a facet has other floats than its points");
+        }
+    }
+    expect(at == file.length, "a facet is left");
+    expect_no_facet(at, 9);
+    expect_no_facet(at + 1, 9);
+    expect_no_facet(SIZE_MAX, 9);
+    expect_no_facet(SIZE_MAX - 49, 9);
+}
+
+/* Facets with the points and corners that were reckoned of them by hand. */
+static const struct {
+    const char *name;
+    size_t facets;
+    uint32_t words[18];
+    size_t points;
+    uint32_t point_words[18];
+    uint16_t corners[6];
+} facets_by_hand[] = {
+    {"two facets that share an edge", 2, {7, 0, 0, 8, 0, 0, 9, 0, 0, 9, 0, 0, 8, 0, 0, 6, 0, 0},
+     4, {7, 0, 0, 8, 0, 0, 9, 0, 0, 6, 0, 0}, {0, 1, 2, 2, 1, 3}},
+    {"each word alone tells points apart", 2, {1, 2, 3, 1, 2, 4, 1, 5, 3, 6, 2, 3, 1, 2, 3, 3, 2, 1},
+     5, {1, 2, 3, 1, 2, 4, 1, 5, 3, 6, 2, 3, 3, 2, 1}, {0, 1, 2, 3, 0, 4}},
+    {"negative zero is zero", 2, {0x80000000u, 0, 1, 0, 0x80000000u, 1, 0, 0, 0x80000000u, 0, 0, 1, 0x80000000u, 0, 0, 0, 1, 0x80000000u},
+     3, {0, 0, 1, 0, 0, 0, 0, 1, 0}, {0, 0, 1, 0, 1, 2}},
+    {"a facet of one point is read", 1, {5, 5, 5, 5, 5, 5, 5, 5, 5}, 1, {5, 5, 5}, {0, 0, 0}},
+    {"the same facet twice is read", 2, {1, 0, 0, 2, 0, 0, 3, 0, 0, 1, 0, 0, 2, 0, 0, 3, 0, 0},
+     3, {1, 0, 0, 2, 0, 0, 3, 0, 0}, {0, 1, 2, 0, 1, 2}},
+    {"what is no number meets by its bits", 2,
+     {0x7fc00000u, 0, 0, 0x7fc00001u, 0, 0, 0xffc00000u, 0, 0, 0x7fc00001u, 0, 0, 0x7f800001u, 0, 0, 0x7fc00000u, 0, 0},
+     4, {0x7fc00000u, 0, 0, 0x7fc00001u, 0, 0, 0xffc00000u, 0, 0, 0x7f800001u, 0, 0}, {0, 1, 2, 1, 3, 0}},
+    {"what is far, infinite or denormal is kept", 1, {0x7f800000u, 0xff800000u, 0x7f7fffffu, 1, 0x80000001u, 0x807fffffu, 2, 3, 4},
+     3, {0x7f800000u, 0xff800000u, 0x7f7fffffu, 1, 0x80000001u, 0x807fffffu, 2, 3, 4}, {0, 1, 2}},
+    {"no facet", 0, {0}, 0, {0}, {0}},
+};
+
+static void expect_facets_by_hand(void)
+{
+    for (size_t r = 0; r < sizeof facets_by_hand / sizeof facets_by_hand[0]; r++) {
+        size_t words = 3 * facets_by_hand[r].points;
+        size_t corners = 3 * facets_by_hand[r].facets;
+        begin_file((uint32_t)facets_by_hand[r].facets);
+        for (size_t f = 0; f < facets_by_hand[r].facets; f++) {
+            add_facet(facets_by_hand[r].words + 9 * f);
+        }
+        take_file(words, corners);
+        expect(taken.answer.number == 0 && taken.answer.place == 0 && taken.answer.words == words && taken.answer.corners == corners
+                   && memcmp(taken.words, facets_by_hand[r].point_words, words * sizeof taken.words[0]) == 0
+                   && memcmp(taken.corners, facets_by_hand[r].corners, corners * sizeof taken.corners[0]) == 0,
+               facets_by_hand[r].name);
+        expect_handed_out();
+    }
+}
+
+/* "16 [...] comes first of all; then 2 [...], 1 [...], 3". */
+static void expect_file_refusals(void)
+{
+    for (size_t facets = 0; facets < 3; facets++) {
+        make_counted(facets, 3);
+        size_t fits = file.length;
+        for (file.length = 0; file.length < sizeof file.bytes; file.length += file.length < 300 ? 1 : 997) {
+            if (file.length != fits) {
+                expect_refused(16, "a length that does not fit is taken");
+            }
+        }
+    }
+    /* 50 times the count is 2^32 + 4 */
+    begin_file(85899346);
+    file.length = 88;
+    expect_refused(16, "a length is taken that fits modulo 2^32");
+    begin_file(0x01000000);
+    add_facet((const uint32_t[9]){0});
+    expect_refused(16, "a count is read highest byte first");
+    make_counted(REFERENCE_MOST_TRIANGLES, REFERENCE_MOST_POINTS);
+    take_file(REFERENCE_MOST_WORDS, REFERENCE_MOST_CORNERS);
+    expect(taken.answer.number == 0 && taken.answer.words == REFERENCE_MOST_WORDS && taken.answer.corners == REFERENCE_MOST_CORNERS
+               && file.length == REFERENCE_LONGEST_STL,
+           "as many facets and points as there may be are not taken");
+    make_counted(REFERENCE_MOST_TRIANGLES, REFERENCE_MOST_POINTS + 1);
+    expect_refused(1, "a point too many is taken");
+    make_counted(REFERENCE_MOST_TRIANGLES + 1, 3);
+    expect_refused(2, "a facet too many is taken");
+    make_counted(REFERENCE_MOST_TRIANGLES + 1, REFERENCE_MOST_POINTS + 1);
+    expect_refused(2, "too many points are told before too many facets");
+    file.length += 1;
+    expect_refused(16, "too many facets are told before a length that does not fit");
+}
+
+static void expect_sizes(void)
+{
+    static const struct {
+        uint64_t length;
+        uint32_t count;
+        size_t number;
+    } rows[] = {
+        {0, 0, 16}, {83, 0, 16}, {84, 0, 0}, {85, 0, 16}, {84, 1, 16}, {133, 1, 16}, {134, 1, 0}, {135, 1, 16}, {134, 2, 16},
+        {51284, 1024, 0}, {51334, 1025, 2}, {51333, 1025, 16}, {88, 85899346, 16}, {4294967384, 85899346, 2},
+        {214748364834, 4294967295, 2}, {214748364833, 4294967295, 16}, {84, 4294967295, 16}, {UINT64_MAX, 4294967295, 16}};
+    for (size_t r = 0; r < sizeof rows / sizeof rows[0]; r++) {
+        expect(reference_size_stl((size_t)rows[r].length, rows[r].count) == rows[r].number, "a size is answered otherwise than by hand");
+    }
+}
+
+/* A file that was taken, looked at by its points: no two agree, each is used, and first after all before it; and each corner has the words
+   that the file has there. */
+static void expect_points_and_corners(void)
+{
+    size_t met = 0;
+    for (size_t p = 0; p < taken.answer.words; p += 3) {
+        for (size_t q = 0; q < p; q += 3) {
+            expect(memcmp(taken.words + p, taken.words + q, 3 * sizeof taken.words[0]) != 0, "two points agree");
+        }
+    }
+    for (size_t c = 0; c < taken.answer.corners; c++) {
+        expect(taken.corners[c] <= met, "a point is not numbered by its first use");
+        met += taken.corners[c] == met;
+        for (size_t w = 0; w < 3; w++) {
+            const uint8_t *b = file.bytes + 96 + 50 * (c / 3) + 12 * (c % 3) + 4 * w;
+            uint32_t word = b[0] | (uint32_t)b[1] << 8 | (uint32_t)b[2] << 16 | (uint32_t)b[3] << 24;
+            expect(taken.words[3 * taken.corners[c] + w] == (word << 1 == 0 ? 0 : word), "a corner has other words than in the file");
+        }
+    }
+    expect(3 * met == taken.answer.words, "a point is not used");
+    tallies[TALLY_FILES_READ] += 1;
+    tallies[TALLY_JOINED] += taken.answer.corners - met;
+}
+
+static void expect_files_by_hand(void)
+{
+    expect_facets_by_hand();
+    expect_file_refusals();
+    expect_sizes();
+}
+
+/* A made file, whole or damaged. */
+static void expect_file(struct generator *generator)
+{
+    file.length = generate_stl(generator, file.bytes);
+    int damaged = generate_below(generator, 4) == 0;
+    if (damaged) {
+        file.length = generate_stl_damage(generator, file.bytes, file.length);
+    }
+    take_file(REFERENCE_MOST_WORDS, REFERENCE_MOST_CORNERS);
+    if (taken.answer.number == 0) {
+        expect_points_and_corners();
+        expect_handed_out();
+        expect_short_refused(reference_read_stl, file.bytes, file.length, &taken.answer);
+        return;
+    }
+    expect(taken.answer.number == 1 || taken.answer.number == 2 || (taken.answer.number == 16 && damaged),
+           "a file gets a number that is not its own");
+    expect_refused(taken.answer.number, "a file gets another number with nothing lent");
+    tallies[taken.answer.number == 1 ? TALLY_MANY_POINTS : taken.answer.number == 2 ? TALLY_MANY_FACETS : TALLY_MISFITS] += 1;
+}
+
 /* ---- Full sheets ---- */
 
 /* Each full sheet has so many loops of states 1 to 4. */
@@ -1168,6 +1431,7 @@ static void self_check(struct generator *generator)
     expect_surface_written(&surface);
     expect_set_text(&set);
     expect_damaged_set_text(generator, &set);
+    expect_file(generator);
     for (size_t w = 0; w < 20; w++) {
         expect_coordinate(generate_word(generator));
     }
@@ -1201,6 +1465,7 @@ int self_run(size_t count, uint64_t seed)
     self_seed = seed;
     expect_coordinate_examples();
     expect_by_hand();
+    expect_files_by_hand();
     expect_sheets(seed);
     for (size_t n = 0; n < count; n++) {
         self_seed = seed + n;

@@ -73,6 +73,27 @@ uint32_t wazelpunt_read(const uint8_t *text, size_t text_length, uint32_t *words
     return (uint32_t)answer.number;
 }
 
+uint32_t wazelpunt_read_stl(const uint8_t *file, size_t file_length, uint32_t *words, size_t words_length, uint16_t *corners,
+                            size_t corners_length, size_t *place, size_t *words_read, size_t *corners_read)
+{
+    struct reference_read_answer answer;
+    reference_read_stl(file, file_length, words, words_length, corners, corners_length, &answer);
+    *place = answer.place;
+    *words_read = answer.words;
+    *corners_read = answer.corners;
+    return (uint32_t)answer.number;
+}
+
+uint32_t wazelpunt_size_stl(size_t length, uint32_t count)
+{
+    return (uint32_t)reference_size_stl(length, count);
+}
+
+size_t wazelpunt_facet(const uint8_t *file, size_t file_length, size_t *at, float *floats, size_t floats_length)
+{
+    return reference_facet(file, file_length, at, floats, floats_length);
+}
+
 uint32_t wazelpunt_write(const uint32_t *words, size_t words_count, const uint16_t *corners, size_t corners_count,
                          uint8_t *text, size_t text_length, size_t *place, size_t *bytes)
 {
@@ -240,18 +261,34 @@ uint32_t wazelpunt_judge_texts(const uint8_t *sheet, size_t sheet_length, const 
     return end(out, bytes);
 }
 
+/* The text of the sheet that was read, or the answer's line. */
+static uint32_t print_sheet(const struct reference_read_answer *sheet, uint8_t *out, size_t out_length, size_t *bytes)
+{
+    if (sheet->number != 0) {
+        print_answer(sheet->number, sheet->place);
+        return end(out, bytes);
+    }
+    struct reference_write_answer written;
+    reference_write(desk.words, sheet->words, desk.corners, sheet->corners, out, out_length, &written);
+    *bytes = written.bytes;
+    return (uint32_t)written.number;
+}
+
 uint32_t wazelpunt_rewrite_text(const uint8_t *text, size_t text_length, uint8_t *out, size_t out_length, size_t *place, size_t *bytes)
 {
     if (begin(out_length, WAZELPUNT_SHEET_BYTES, place, bytes) != 0) {
         return WAZELPUNT_BUFFER;
     }
     struct reference_read_answer sheet = read_sheet(text, text_length);
-    if (sheet.number != 0) {
-        print_answer(sheet.number, sheet.place);
-        return end(out, bytes);
+    return print_sheet(&sheet, out, out_length, bytes);
+}
+
+uint32_t wazelpunt_import_stl(const uint8_t *file, size_t file_length, uint8_t *out, size_t out_length, size_t *place, size_t *bytes)
+{
+    if (begin(out_length, WAZELPUNT_SHEET_BYTES, place, bytes) != 0) {
+        return WAZELPUNT_BUFFER;
     }
-    struct reference_write_answer written;
-    reference_write(desk.words, sheet.words, desk.corners, sheet.corners, out, out_length, &written);
-    *bytes = written.bytes;
-    return (uint32_t)written.number;
+    struct reference_read_answer sheet;
+    reference_read_stl(file, file_length, desk.words, REFERENCE_MOST_WORDS, desk.corners, REFERENCE_MOST_CORNERS, &sheet);
+    return print_sheet(&sheet, out, out_length, bytes);
 }

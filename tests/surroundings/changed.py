@@ -1,8 +1,9 @@
-"""Sheets and sets that are changed at random, from a fixed seed."""
+"""Sheets, binary STL files and sets that are changed at random, from a fixed seed."""
 import os
 import random
 
 from calls import HOME, read, sheets_of, write
+from facets import FACET, FRONT
 from objects import parsed
 
 BEGINNINGS = [b'\xef\xbb\xbf', b'\xff\xfe', b'\xfe\xff', b'\x1f\x8b', b'solid ', b'OFF\n', b'ply\n', b'# \n', b'v ', b'\n']
@@ -62,6 +63,41 @@ def changed(random_, data):
     return data
 
 
+def changed_facets(random_, data):
+    """A binary STL file with another word, corner, facet, header or count, or other bytes of any kind; mostly its length still fits."""
+    facets = (len(data) - FRONT) // FACET
+    at = FRONT + FACET * random_.randrange(facets)
+    kind = random_.randrange(6)
+    if kind == 0:
+        word = at + 12 + 4 * random_.randrange(9)
+        return data[:word] + bytes.fromhex(random_.choice(WORDS).decode())[::-1] + data[word + 4:]
+    if kind == 1:
+        one, other = (at + 12 * random_.randint(1, 3) for _ in range(2))
+        return data[:one] + data[other:other + 12] + data[one + 12:]
+    if kind == 2:
+        count = facets + random_.choice([-1, 1])
+        rest = data[at + FACET:] if count < facets else data[at:at + FACET] + data[at:]
+        return data[:80] + count.to_bytes(4, 'little') + data[FRONT:at] + rest
+    if kind == 3:
+        return random_.choice(BEGINNINGS + [b'points=']).ljust(80) + data[80:random_.choice([len(data), at])]
+    if kind == 4:
+        return data[:80] + random_.choice([0, facets - 1, facets << 24, 1 << 31]).to_bytes(4, 'little') + data[FRONT:]
+    return changed_bytes(random_, data)
+
+
+def changed_pair(random_, number, stems):
+    """A sheet, by its name and its bytes, and a set, of which one is changed. Every third sheet is a binary STL file."""
+    if number % 3 == 0:
+        sheet, patches = (read(f'{HOME}/examples/box.{ending}') for ending in ('stl', 'patches'))
+        return f'{number:04}.stl', changed_facets(random_, sheet), patches
+    stem = random_.choice(stems)
+    sheet = read(f'{stem}.sheet')
+    patches = read(f'{stem}.patches') if os.path.exists(f'{stem}.patches') else b'states=0\ntriangles=0\n'
+    if number % 2 == 0:
+        return f'{number:04}.sheet', changed(random_, sheet), patches
+    return f'{number:04}.sheet', sheet, changed(random_, patches)
+
+
 def try_changed(front, tally, room, count, seed):
     """Changed sheets and sets, all in few calls: each has to be answered and told, and the objects have to say the same. What is printed
     and said is given back."""
@@ -72,17 +108,12 @@ def try_changed(front, tally, room, count, seed):
     stems = [f'{HOME}/examples/{name[:-len(".sheet")]}' for name in sheets_of(f'{HOME}/examples')]
     stems = [stem for stem in stems if os.path.getsize(f'{stem}.sheet') < 1000]
     stems += [f'{cases}/{name}' for name in ('hole-65', 'island-in-a-hole', 'equal-runs', 'closed')]
+    names = []
     for number in range(count):
-        stem = random_.choice(stems)
-        sheet = read(f'{stem}.sheet')
-        patches = read(f'{stem}.patches') if os.path.exists(f'{stem}.patches') else b'states=0\ntriangles=0\n'
-        if number % 2 == 0:
-            sheet = changed(random_, sheet)
-        else:
-            patches = changed(random_, patches)
-        write(f'{folder}/{number:04}.sheet', sheet)
+        name, sheet, patches = changed_pair(random_, number, stems)
+        names.append(name)
+        write(f'{folder}/{name}', sheet)
         write(f'{folder}/{number:04}.patches', patches)
-    names = sheets_of(folder)
     numbers = {}
     results = []
     for command in (['list'], ['check', '--beside']):
@@ -97,10 +128,11 @@ def try_changed(front, tally, room, count, seed):
         tally.same(f'{command} --json of changed ones', (json.status, json.err, told), (1, b'', answers))
         results += [got.out, got.err, json.out]
     # the changes are worth something only if they are answered in many ways
-    tally.true('the changed ones are of many kinds', len(numbers['list']) >= 6 and len(numbers['check']) >= 9, f'{numbers}')
-    got = front('rewrite', *names, cwd=folder)
-    tally.same('rewrite of changed ones', (got.status, got.out.count(b'# ')), (1, count))
-    results += [got.out, got.err]
+    tally.true('the changed ones are of many kinds', len(numbers['list']) >= 7 and len(numbers['check']) >= 10, f'{numbers}')
+    for command in ('rewrite', 'import'):
+        got = front(command, *names, cwd=folder)
+        tally.same(f'{command} of changed ones', (got.status, got.out.count(b'# ')), (1, count))
+        results += [got.out, got.err]
     for options in ([], ['--plan']):
         got = front('draw', *options, *names[:60], cwd=folder)
         tally.true('draw of changed ones', got.status in (0, 1) and got.out.count(b'<svg') == 1, repr(got))

@@ -2,6 +2,7 @@
 import errno
 import os
 
+from facets import apart, stl
 from place import slowly_read
 
 FAULTLESS = (errno.EINTR, errno.EAGAIN, -1)
@@ -19,25 +20,29 @@ def call_with_faults(place, faults, *arguments, **more):
 def try_faults(place):
     """Every call to the system goes wrong once, each in a run of its own: what can be tried again is, and what cannot is told."""
     error = {code: os.strerror(code).encode() for code in (errno.EIO, errno.ENOSPC, errno.EMFILE)}
+    # more facets than are read, so that the input is counted to its end
+    many = stl(apart(4000))
     scenarios = [('list', 'plate.sheet'), ('list', '-q', 'islands.sheet', '-', 'islands.sheet', 'islands.sheet'),
                  ('check', '--beside', 'plate.sheet', 'plate.sheet'), ('list', '--json', 'refused.sheet', 'plate.sheet'),
-                 ('draw', '-q', 'plate.sheet'), ('rewrite', 'refused.sheet')]
+                 ('draw', '-q', 'plate.sheet'), ('rewrite', 'refused.sheet'), ('import', 'box.stl', 'cut.stl'),
+                 ('list', 'box.stl', '-'), ('check', 'box.stl', 'plate.patches')]
     for arguments in scenarios:
-        whole = place.call(*arguments, given=place.plate)
+        given = many if 'box.stl' in arguments else place.plate
+        whole = place.call(*arguments, given=given)
         due = (whole.status, whole.out, whole.err)
         for name, codes in (('read', FAULTLESS), ('write', FAULTLESS), ('open', (errno.EINTR,)), ('close', (errno.EINTR,)),
                             ('close1', (errno.EINTR,))):
             for code in codes:
-                got, met = call_with_faults(place, f'{name} 0 {code}', *arguments, given=place.plate)
+                got, met = call_with_faults(place, f'{name} 0 {code}', *arguments, given=given)
                 place.tally.same(f'{arguments} with every second {name} {code}', (got.status, got.out, got.err), due)
                 place.tally.true(f'{arguments} with every second {name} {code}: there was one', met != b'')
                 # a wait that is interrupted too
                 if code == errno.EAGAIN:
-                    got, _ = call_with_faults(place, f'{name} 0 {code};poll 0 {errno.EINTR}', *arguments, given=place.plate)
+                    got, _ = call_with_faults(place, f'{name} 0 {code};poll 0 {errno.EINTR}', *arguments, given=given)
                     place.tally.same(f'{arguments} with every second {name} {code} and poll', (got.status, got.out, got.err), due)
         for name, code in (('read', errno.EIO), ('write', errno.ENOSPC), ('open', errno.EMFILE), ('close1', errno.EIO)):
             for number in range(1, AT_MOST):
-                got, met = call_with_faults(place, f'{name} {number} {code}', *arguments, given=place.plate)
+                got, met = call_with_faults(place, f'{name} {number} {code}', *arguments, given=given)
                 if met == b'':
                     place.tally.true(f'{arguments}: {name}', number > 1, 'was never called')
                     break

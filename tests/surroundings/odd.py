@@ -10,7 +10,8 @@ import sys
 import threading
 import time
 
-from calls import HOME, LIMIT, LONGEST_SET, LONGEST_SHEET, Front, read, sheets_of, write
+from calls import HOME, LIMIT, LONGEST_SET, Front, read, sheets_of, write
+from facets import LONGEST, answer, apart, grid, stl
 from place import PIPE, Place, pipe, set_not_waiting, slowly_read, slowly_write
 
 NOBODY = 65534
@@ -18,7 +19,8 @@ SHEET_AND_MORE = b'answer=10,15\n'  # the plate has 14 lines
 SUMMARY = b'wazelpunt: plate.sheet: 2 loops: 1 rim; 1 closed with 1 triangle\n'
 PRINTING = [('list', '-q', 'plate.sheet'), ('list', 'plate.sheet'), ('list', '--json', 'plate.sheet'), ('check', 'plate.sheet'),
             ('check', '--json', 'plate.sheet'), ('rewrite', 'plate.sheet'), ('draw', '-q', 'plate.sheet'), ('example',),
-            ('example', 'patches'), ('--help',), ('help', 'check'), ('--version',), ('list', 'refused.sheet')]
+            ('example', 'patches'), ('--help',), ('help', 'check'), ('--version',), ('list', 'refused.sheet'), ('list', 'box.stl'),
+            ('import', '-q', 'box.stl'), ('import', 'cut.stl')]
 
 
 def try_full(place):
@@ -57,10 +59,12 @@ def try_closed(place):
     calls = {('list', '-q', 'plate.sheet'): (1,), ('list', 'plate.sheet'): (1, 2), ('list', '-q', '-'): (0, 1), ('list', '-q'): (0, 1),
              ('check', '-q', 'plate.sheet', '-'): (0, 1), ('check', '-q', '-', 'plate.patches'): (0, 1), ('rewrite', '-'): (0, 1),
              ('list', '-q', '--json', 'plate.sheet'): (1,), ('example',): (1,), ('--help',): (1,), ('--version',): (1,),
-             ('draw', '-q', 'plate.sheet'): (1,), ('list', '-q', '-', 'plate.sheet'): (0, 1)}
+             ('draw', '-q', 'plate.sheet'): (1,), ('list', '-q', '-', 'plate.sheet'): (0, 1), ('import', '-q', 'box.stl'): (1,),
+             ('import', 'box.stl'): (1, 2), ('import', '-q', '-'): (0, 1), ('import', '-q'): (0, 1)}
     names = {0: b'standard input is closed', 1: b'standard output is closed'}
     for arguments, used in calls.items():
         given = read(f'{place.folder}/plate.patches') if arguments[0] == 'check' and arguments[-1] == '-' else place.plate
+        given = place.box if arguments[0] == 'import' else given
         whole = place.call(*arguments, given=given)
         place.tally.same(f'{arguments} with nothing closed', whole.status, 0)
         for count in (1, 2, 3):
@@ -119,6 +123,18 @@ def try_waiting(place):
         started.stdout = None
         ended = place.finish('a slow writer', started)
         place.tally.same(f'a slow writer, {waits}', (ended.status, got, ended.err), (0, place.listing, b''))
+        # a file of facets that is counted to its end, since it is longer than what is read
+        reading, writing = pipe()
+        if not waits:
+            set_not_waiting(reading)
+        started = place.start('list', '-q', '-', stdin=reading, stdout=subprocess.PIPE)
+        os.close(reading)
+        slowly_write(writing, stl(apart(2000)), 9000, 0.02)
+        got = started.stdout.read()
+        started.stdout.close()
+        started.stdout = None
+        ended = place.finish('a slow writer of facets', started)
+        place.tally.true(f'a slow writer of facets, {waits}', (ended.status, got) == (1, answer(2)), repr(ended))
     # messages that do not wait, in a pipe that is full at first
     reading, writing = pipe()
     set_not_waiting(writing)
@@ -155,40 +171,52 @@ def try_gone(place):
         place.due(f'{arguments} for a reader that goes away after {most} bytes', ended, 2, b'', [b'standard output', b'Broken pipe'])
 
 
-def feed_without_end(descriptor, text):
+def feed_without_end(descriptor, text, piece=bytes(4096), fed=None):
+    """Feeds until the reader goes away; what was fed is added up in a list, if there is one."""
     try:
         os.write(descriptor, text)
         while True:
-            os.write(descriptor, bytes(4096))
+            count = os.write(descriptor, piece)
+            if fed is not None:
+                fed.append(count)
     except BrokenPipeError:
         os.close(descriptor)
 
 
 def try_long(place):
-    """100 MB and inputs without an end: no more is read than the longest text and a byte."""
+    """100 MB and inputs without an end: no more is read than the longest file of facets, or the longest set, and a byte."""
     big = f'{place.room}/big.sheet'
     write(big, place.plate)
     os.truncate(big, 100_000_000)
     place.due('100 MB', place.call('list', '-q', big), 1, SHEET_AND_MORE)
     place.due('100 MB rewritten', place.call('rewrite', '-q', big), 1, SHEET_AND_MORE)
     place.due('a set of 100 MB', place.call('check', '-q', 'plate.sheet', big), 1, SHEET_AND_MORE)
-    for arguments, longest in ((('list', '-q', '-'), LONGEST_SHEET), (('check', '-q', 'plate.sheet', '-'), LONGEST_SET)):
+    for arguments, longest in ((('list', '-q', '-'), LONGEST), (('check', '-q', 'plate.sheet', '-'), LONGEST_SET)):
         with open(big, 'rb', buffering=0) as file:
             got = place.call(*arguments, stdin=file)
             place.due(f'{arguments} of 100 MB', got, 1, SHEET_AND_MORE)
             place.tally.true(f'{arguments} reads no further than it has to', file.tell() <= longest + 1, f'{file.tell()} bytes')
     os.remove(big)
-    place.due('/dev/zero', place.call('list', '-q', '/dev/zero'), 1, b'answer=10,1\n')
+    for command in ('list', 'rewrite', 'import'):
+        place.due(f'{command} of /dev/zero', place.call(command, '-q', '/dev/zero'), 1, answer(16))
     place.due('/dev/zero as a set', place.call('check', '-q', 'plate.sheet', '/dev/zero'), 1, SHEET_AND_MORE)
     place.due('/dev/zero, among others', place.call('list', '-q', '/dev/zero', 'plate.sheet'), 1,
-              b'# /dev/zero\nanswer=10,1\n# plate.sheet\n' + place.listing)
-    reading, writing = pipe()
-    feeding = threading.Thread(target=feed_without_end, args=(writing, place.plate))
-    feeding.start()
-    got = place.call('list', '-q', '-', stdin=reading)
-    os.close(reading)
-    feeding.join()
-    place.due('a pipe without an end', got, 1, SHEET_AND_MORE)
+              b'# /dev/zero\n' + answer(16) + b'# plate.sheet\n' + place.listing)
+    # a sheet, a text of another kind, and files of facets: only by the count of the last more has to be read than fits
+    for begin, piece, due, most in ((place.plate, bytes(4096), SHEET_AND_MORE, LONGEST), (b'', b'y\n' * 2048, b'answer=10,1\n', LONGEST),
+                                    (place.box, bytes(4096), answer(16), LONGEST),
+                                    (stl([], count=100_000), bytes(4096), answer(16), 5_000_084)):
+        for command in ('list', 'rewrite'):
+            reading, writing = pipe()
+            fed = []
+            feeding = threading.Thread(target=feed_without_end, args=(writing, begin, piece, fed))
+            feeding.start()
+            got = place.call(command, '-q', '-', stdin=reading)
+            os.close(reading)
+            feeding.join()
+            place.due(f'{command} of a pipe without an end, {begin[:10]}', got, 1, due)
+            # what the pipe holds, and what is read at a time, may be too much
+            place.tally.true(f'how much {command} reads of it, {begin[:10]}', sum(fed) <= most + 4 * PIPE, f'{sum(fed)} bytes')
     # the longest texts themselves are read wholly
     place.tally.true('the islands are as long as that', len(read(f'{place.folder}/islands.sheet')) > 40000)
 
@@ -230,9 +258,10 @@ def try_unreadable(place):
                         ('loop.sheet', [b'loop.sheet', b'Too many levels of symbolic links']),
                         ('secret.sheet', [b'secret.sheet', b'Permission denied']), ('n' * 300, [b'n' * 300, b'File name too long']),
                         ('n/' * 3000, [b'File name too long']), ('two words', [b': two words: ']), ('a\nb', [b': a\\nb: '])):
-        for command in ('list', 'rewrite', 'draw'):
+        for command in ('list', 'rewrite', 'draw', 'import'):
             got = place.call(command, name, **as_nobody)
-            place.due(f'{command} {name[:20]}', got, 2, b'', parts)
+            due = [part.replace(b'a sheet', b'an STL file') for part in parts] if command == 'import' else parts
+            place.due(f'{command} {name[:20]}', got, 2, b'', due)
         got = place.call('list', '-q', name, 'plate.sheet', **as_nobody)
         place.tally.true(f'{name[:20]} before another', got.status == 2 and got.out.endswith(b'# plate.sheet\n' + place.listing)
                          and got.out.count(b'answer=') == 1 and got.err.count(b'wazelpunt: ') == 1, repr(got))
@@ -286,6 +315,14 @@ def try_pieces(place):
         given = read(f'{place.folder}/{name}')
         due = place.front('list', '-q', name, cwd=place.folder).out
         place.due(f'pieces of {piece}', place.call('list', '-q', '-', given=given, through=through + [piece]), 0, due, b'')
+    for piece in ('1', '7', '4096'):
+        got = place.call('import', '-q', '-', given=place.box, through=through + [piece])
+        place.due(f'facets in pieces of {piece}', got, 0, place.box_text, b'')
+    # a piece that a read takes in part is lost, so the room for a file and a byte more is full with a whole one
+    for piece in (1, 5, 3419):
+        place.tally.same(f'pieces of {piece} in the room for a file', (LONGEST + 1) % piece, 0)
+        got = place.call('list', '-q', '-', given=stl(apart(1100)), through=through + [str(piece)])
+        place.due(f'many facets in pieces of {piece}', got, 1, answer(2))
     place.due('writes that are cut short', place.call('list', '-q', *place.many, through=through + ['short']), 0, place.long, b'')
     got = place.call('list', '-q', *place.many, through=through + ['refused'])
     place.due('writes that are refused', got, 2, b'', [b'standard output', b'Message too long'])
@@ -327,8 +364,12 @@ def try_stack(place, made):
         got = place.call(*command, '-q', *sheets, preexec_fn=limit, environment=environment)
         due = b''.join(b'# ' + os.fsencode(f'{stem}.sheet') + b'\n' + read(f'{stem}.{ending}') for stem in stems)
         place.tally.true(f'{command} with a stack of 256 KiB', got.out == due, repr(got))
+    # files of as many facets and points as there may be, and of more points: one that is explained by reading it again and again
+    full = [write(os.path.join(place.room, f'{name}.stl'), stl(facets))
+            for name, facets in (('grid', grid(32, 16)), ('apart', apart(1024)), ('strip', grid(512, 1)))]
     for command, some in ((['list', '--json', '--patches'], sheets), (['check', '--json', '--beside'], sheets), (['rewrite'], sheets),
-                          (['draw'], sheets[:4]), (['draw', '--plan'], sheets[1:3])):
+                          (['draw'], sheets[:4]), (['draw', '--plan'], sheets[1:3]), (['list'], full), (['list', '--json'], full),
+                          (['import'], full), (['rewrite'], full), (['draw'], full)):
         got = place.call(*command, *some, preexec_fn=limit, environment=environment)
         place.tally.true(f'{command} with a stack of 256 KiB', got.status in (0, 1) and got.out != b'', repr(got))
 

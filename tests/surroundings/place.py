@@ -7,6 +7,7 @@ import subprocess
 import time
 
 from calls import HOME, LIMIT, Result, read, write
+from facets import imported
 
 PIPE = 65536  # bytes that a pipe of these tests holds
 F_SETPIPE_SZ = getattr(fcntl, 'F_SETPIPE_SZ', 1031)  # Python names it from 3.10 on
@@ -30,6 +31,10 @@ class Place:
         write(f'{self.folder}/refused.sheet', read(f'{HOME}/tests/programs/cases/upper-case.sheet'))
         write(f'{self.folder}/islands.sheet', islands())
         self.plate = read(f'{self.folder}/plate.sheet')
+        self.box = read(f'{HOME}/examples/box.stl')
+        self.box_text = imported(self.box)
+        write(f'{self.folder}/box.stl', self.box)
+        write(f'{self.folder}/cut.stl', self.box[:-1])
         self.listing = read(f'{HOME}/tests/programs/cases/plate.listing')
         # a listing that no pipe holds
         self.many = ['islands.sheet'] * 6

@@ -1,10 +1,12 @@
 #!/usr/bin/env python3
 """told.py: tries what the front that the command FRONT runs says of each case of cases/; see run."""
 import os
+import re
 import sys
 
 sys.path.insert(0, os.path.join(os.path.dirname(os.path.realpath(__file__)), '..', 'front'))
-from calls import HOME, Tally, front_of_caller, read, sheets_of  # noqa: E402
+from calls import HOME, Tally, front_of_caller, read  # noqa: E402
+from facets import imported, is_taken_for_stl, made_of  # noqa: E402
 from objects import parsed  # noqa: E402
 
 CASES = f'{HOME}/tests/told/cases'
@@ -12,15 +14,24 @@ ENDS = 'the text ends here'
 
 
 class Told:
-    """A case: its sheet, its set if it has one, and what is said of it."""
+    """A case: its sheet, as a text or as a binary STL file, its set if it has one, and what is said of it by its command."""
 
     def __init__(self, sheet):
         self.sheet = sheet
-        self.stem = sheet[:-len('.sheet')]
+        self.stem = os.path.splitext(sheet)[0]
         self.patches = f'{self.stem}.patches'
-        self.is_check = os.path.exists(f'{CASES}/{self.patches}')
+        is_check = os.path.exists(f'{CASES}/{self.patches}')
+        self.command = 'import' if sheet.startswith('import-') else 'check' if is_check else 'list'
         self.due = read(f'{CASES}/{self.stem}.said').decode().split('\n')[:-1]
         self.is_done = ', answer ' not in self.due[0]
+
+    def said_by_rewrite(self, said):
+        """What rewrite says: of a binary STL file what it is, or its refusal; of a text only wrong lines and corners without a point."""
+        data = read(f'{CASES}/{self.sheet}')
+        if not is_taken_for_stl(self.sheet, data):
+            return said if ', answer 10,' in self.due[0] or ', answer 4,' in self.due[0] else b''
+        text = imported(data)
+        return said if text.startswith(b'answer=') else made_of(self.sheet, text) + b'\n'
 
 
 def is_said(line, due):
@@ -46,37 +57,37 @@ def lines_of(said):
 
 def try_text(front, tally, case):
     """What is said of one case alone. What is said after a refusal is given back, for the other ways of asking."""
-    names = [case.sheet, case.patches] if case.is_check else [case.sheet]
-    got = front('check' if case.is_check else 'list', *names, cwd=CASES)
+    names = [case.sheet, case.patches] if case.command == 'check' else [case.sheet]
+    got = front(case.command, *names, cwd=CASES)
     lines = lines_of(got.err)
     tally.true(case.stem, all_said(lines, case.due), '\n  ' + '\n  '.join(lines) + '\n  but due is\n  ' + '\n  '.join(case.due))
     tally.same(f'the status of {case.stem}', got.status, 0 if case.is_done else 1)
     # the answer that is said is the one that is printed
     printed = got.out.decode().split('\n')[0].replace('answer=', '', 1)
-    tally.true(f'the answer of {case.stem}', (case.is_done and printed == '0,0') or f', answer {printed}: ' in case.due[0], printed)
+    done = got.out == imported(read(f'{CASES}/{case.sheet}')) if case.command == 'import' else printed == '0,0'
+    tally.true(f'the answer of {case.stem}', (case.is_done and done) or f', answer {printed}: ' in case.due[0], printed)
     return got.err
 
 
 def try_together(front, tally, cases, said):
     """All of them in one call, which says the same of each, and with --quiet only what is not done."""
-    listed = [case for case in cases if not case.is_check]
-    judged = [case for case in cases if case.is_check]
-    for command, some in ((['list'], listed), (['check', '--beside'], judged)):
+    listed, judged, imports = ([case for case in cases if case.command == command] for command in ('list', 'check', 'import'))
+    for command, some in ((['list'], listed), (['check', '--beside'], judged), (['import'], imports)):
         names = [case.sheet for case in some]
         got = front(*command, *names, cwd=CASES)
         tally.same(f'{command} of all', got.err, b''.join(said[case.stem] for case in some))
         got = front(*command, '--quiet', *names, cwd=CASES)
         tally.same(f'{command} --quiet of all', got.err, b''.join(said[case.stem] for case in some if not case.is_done))
+        if command == ['import']:
+            continue
         got = front(*command, '--json', *names, cwd=CASES)
         tally.same(f'what {command} --json says', got.err, b'')
         objects = parsed(tally, f'{command} --json of all', got.out)
         tally.same(f'how many objects {command} --json prints', len(objects), len(some))
         for case, found in zip(some, objects):
             try_object(tally, case, found, lines_of(said[case.stem]))
-    # rewriting refuses wrong lines and corners without a point, and says nothing of the rest
-    refused = [case for case in listed if ', answer 10,' in case.due[0] or ', answer 4,' in case.due[0]]
     got = front('rewrite', *(case.sheet for case in listed), cwd=CASES)
-    tally.same('rewrite of all', got.err, b''.join(said[case.stem] for case in refused))
+    tally.same('rewrite of all', got.err, b''.join(case.said_by_rewrite(said[case.stem]) for case in listed))
 
 
 def try_object(tally, case, found, lines):
@@ -86,13 +97,17 @@ def try_object(tally, case, found, lines):
         tally.same(f'the explanation of {case.stem}', told, {})
         return
     parts = {'said': lines[0].split(': ', 3)[3] if lines[0].count(': ') >= 3 else None}
-    shown = []
+    shown, facets = [], []
     for line in lines[1:]:
         key, _, text = line.lstrip(' ').partition(': ') if not line.endswith(': ') else (line.strip(' :'), '', '')
         if key in ('due', 'cause'):
             parts[key] = text
+        elif key.startswith('facet '):
+            number, first, last = re.fullmatch(r'facet (\d+), bytes (\d+) to (\d+)', key).groups()
+            facets.append({'file': case.sheet, 'facet': int(number), 'bytes': [int(first), int(last)], 'text': text})
         else:
             shown.append((int(key.split(' ')[1]), text))
+    tally.same(f'the facets of {case.stem}', told.get('facets', []), facets)
     tally.same(f'the sentences of {case.stem}', {key: told.get(key) for key in ('said', 'due', 'cause') if key in told}, parts)
     listed = told.get('lines', [])
     tally.same(f'the lines of {case.stem}', [line.get('line') for line in listed], [number for number, _ in shown])
@@ -103,8 +118,8 @@ def try_object(tally, case, found, lines):
 
 
 def try_told(front, tally):
-    cases = [Told(sheet) for sheet in sheets_of(CASES)]
-    tally.true('there are cases', len(cases) > 80)
+    cases = [Told(name) for name in sorted(os.listdir(CASES)) if name.lower().endswith(('.sheet', '.stl'))]
+    tally.true('there are cases', len(cases) > 150)
     said = {case.stem: try_text(front, tally, case) for case in cases}
     try_together(front, tally, cases, said)
 

@@ -3,7 +3,7 @@ use Prim.Native.Nat.{ℕ}
 use mathlib.Core.Bool.{Bool, true, false}
 use Rattle.base_answers.specs.declared.Answer.{Answer}
 use Rattle.base_answers.specs.declared.Answer.the-variants.{Done, Words, Corners, Buffer, Unnamed, Twice, Repeated, NotFinite, TooFar, States, Line}
-use Rattle.base_answers.specs.declared.Answer.the-variants.{Misdeclared, Uncovered, Barred, Heavy, LeftOver}
+use Rattle.base_answers.specs.declared.Answer.the-variants.{Misdeclared, Uncovered, Barred, Heavy, LeftOver, Misfit}
 
 abbrev pub numberOf : Answer → ℕ
 numberOf Done = 0
@@ -22,6 +22,7 @@ numberOf (Uncovered r) = 12
 numberOf (Barred r) = 13
 numberOf (Heavy r) = 14
 numberOf (LeftOver c) = 15
+numberOf Misfit = 16
 
 abbrev pub placeOf : Answer → ℕ
 placeOf Done = 0
@@ -40,6 +41,7 @@ placeOf (Uncovered r) = r
 placeOf (Barred r) = r
 placeOf (Heavy r) = r
 placeOf (LeftOver c) = c
+placeOf Misfit = 0
 
 -- a refusal leaves all buffers as they were and has zero in every count; a verdict does not
 abbrev pub refusing : Answer → Bool
@@ -59,3 +61,4 @@ refusing (Uncovered r) = false
 refusing (Barred r) = false
 refusing (Heavy r) = false
 refusing (LeftOver c) = false
+refusing Misfit = true

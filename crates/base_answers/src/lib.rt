@@ -2,7 +2,7 @@
 ghost use mathlib.Core.Path.{_≡_};
 ghost use Rattle.base_answers.specs.Numbers.{numberOf, placeOf, refusing};
 
-// What an entry point says: done or passed, one of the refusals 1 to 10, or one of the verdicts 11 to 15.
+// What an entry point says: done or passed, one of the refusals 1 to 10 and 16, or one of the verdicts 11 to 15.
 pub enum Answer {
     Done,
     Words,
@@ -20,6 +20,7 @@ pub enum Answer {
     Barred(usize),
     Heavy(usize),
     LeftOver(usize),
+    Misfit,
 }
 
 impl Answer {
@@ -44,6 +45,7 @@ impl Answer {
             Answer::Barred(_) => 13,
             Answer::Heavy(_) => 14,
             Answer::LeftOver(_) => 15,
+            Answer::Misfit => 16,
         }
     }
 
@@ -68,6 +70,7 @@ impl Answer {
             Answer::Barred(_) => false,
             Answer::Heavy(_) => false,
             Answer::LeftOver(_) => false,
+            Answer::Misfit => true,
         }
     }
 
@@ -92,6 +95,7 @@ impl Answer {
             Answer::Barred(ring) => ring,
             Answer::Heavy(ring) => ring,
             Answer::LeftOver(corner) => corner,
+            Answer::Misfit => 0,
         }
     }
 }

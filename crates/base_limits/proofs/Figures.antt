@@ -2,7 +2,7 @@
 use Prim.Native.Nat.{_+_, _-_, _*_, _/_}
 use mathlib.Core.Path.{_≡_, refl}
 use Rattle.base_limits.specs.States as state
-use Rattle.base_limits.specs.Limits.{points, triangles, words, corners, states, patches, set-corners, greatest, longest, sheet-text, set-text}
+use Rattle.base_limits.specs.Limits.{points, triangles, words, corners, states, patches, set-corners, greatest, longest, sheet-text, set-text, file}
 
 -- three words a point and three corners a triangle
 pub words-are : words ≡ 3 * points
@@ -33,6 +33,13 @@ longest-text = refl
 
 pub longest-set : set-text ≡ 56347
 longest-set = refl
+
+-- The longest file of facets: a header and a count, and 50 bytes a triangle.
+pub file-is : file ≡ 84 + 50 * triangles
+file-is = refl
+
+pub longest-file : file ≡ 51284
+longest-file = refl
 
 -- The greatest weight that is promised: three components, each the difference of two products of differences.
 pub greatest-weight : 3 * (2 * (2 * greatest * (2 * greatest))) ≡ 25768230936

@@ -5,6 +5,7 @@ use Rattle.base_types.proofs.Surface.takes_triangles.⟦Self·TRIANGLES⟧-aske
 use Rattle.base_types.proofs.Surface.takes_words.⟦Self·WORDS⟧-asked.Lts as for-words
 use Rattle.base_types.proofs.Surface.takes_corners.⟦Self·CORNERS⟧-asked.Lts as for-corners
 use Rattle.base_types.proofs.Surface.takes_text.⟦Self·TEXT⟧-asked.Lts as for-sheet-text
+use Rattle.base_types.proofs.Surface.takes_file.⟦Self·FILE⟧-asked.Lts as for-file
 use Rattle.base_types.proofs.PatchSet.takes_states.⟦Self·STATES⟧-asked.Lts as for-states
 use Rattle.base_types.proofs.PatchSet.takes_triangles.⟦Self·TRIANGLES⟧-asked.Lts as for-patches
 use Rattle.base_types.proofs.PatchSet.takes_corners.⟦Self·CORNERS⟧-asked.Lts as for-set
@@ -49,3 +50,7 @@ sheet-text = for-sheet-text.answer tt tt
 
 abbrev pub set-text : ℕ
 set-text = for-set-text.answer tt tt
+
+-- how many bytes the longest file of facets has
+abbrev pub file : ℕ
+file = for-file.answer tt tt

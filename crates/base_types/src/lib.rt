@@ -23,6 +23,9 @@ impl Surface {
     // The bytes of the longest sheet text: two counts of four digits, 29 bytes a point and 17 a triangle.
     pub const TEXT: usize = 12 + 29 * Self::POINTS + 15 + 17 * Self::TRIANGLES;
 
+    // The bytes of the longest file of facets: 80 of a header, 4 of the count and 50 a triangle.
+    pub const FILE: usize = 84 + 50 * Self::TRIANGLES;
+
     // The surface of that many words and corners.
     pub fn of(words: usize, corners: usize) -> Surface
         ensures { λ r. ⌜ (r .points ≡ words / 3) × (r .triangles ≡ corners / 3) ⌝ }
@@ -66,6 +69,13 @@ impl Surface {
         ensures { λ r. do most ← ⟦Self::TEXT⟧ .entry; ⌜ r ≡ leb bytes most ⌝ }
     {
         bytes <= Self::TEXT
+    }
+
+    // That many bytes are no more than the longest file of facets has.
+    pub fn takes_file(bytes: usize) -> bool
+        ensures { λ r. do most ← ⟦Self::FILE⟧ .entry; ⌜ r ≡ leb bytes most ⌝ }
+    {
+        bytes <= Self::FILE
     }
 }
 

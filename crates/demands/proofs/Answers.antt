@@ -27,10 +27,12 @@ use Rattle.text_read_set.specs.Set as set
 use Rattle.text_read_set.specs.Outcome as sets
 use Rattle.text_write.specs.Outcome.{writeRefusal, writes}
 use Rattle.program_rewrite.specs.Rewriting.{Rewrites}
+use Rattle.program_import.specs.Importing.{Imports}
 use Rattle.program_judge.specs.Hears.{HearsLine}
 use Rattle.program_list.specs.Lists.{Prints}
 use Rattle.demands.specs.Answers.{Check, wordCount, cornerCount, shortBuffer, unnamedCorner, stateCount, table, Answered, AnswersDemand}
 use Rattle.demands.proofs.Checks.{answerOf, answerBy, answered, last-of, counts-are, table-is, table-refuses, chosen, then-once}
+use Rattle.demands.proofs.Files.{reading-file, importing-refused, importing}
 use Rattle.demands.proofs.Programs.{sheet-texts, set-texts, hearing-set-wrong, hearing, rewriting-refused, rewriting, printing}
 
 -- ---- the entry points
@@ -137,6 +139,7 @@ answers-demand = record {
   writing = writing;
   reading-set-wrong = λ bytes before states corners o r. r .of-fault;
   reading-set = reading-set;
+  reading-file = reading-file;
   listing-wrong = λ bytes b o l. l .of-fault;
   listing = λ bytes b o l ps ts t. patching (flat ps) (flat ts) b o (l .of-text ps ts t);
   hearing-wrong = λ sheet patches a h. h .of-fault;
@@ -145,7 +148,10 @@ answers-demand = record {
   rewriting-wrong = λ bytes out w. w .of-fault;
   rewriting-refused = rewriting-refused;
   rewriting = rewriting;
+  importing-refused = importing-refused;
+  importing = importing;
   listing-printed = λ bytes. printing (Prints bytes);
   hearing-printed = λ sheet patches. printing (HearsLine sheet patches);
   rewriting-printed = λ bytes. printing (Rewrites bytes);
+  importing-printed = λ file. printing (Imports file);
 }

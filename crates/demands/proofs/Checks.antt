@@ -37,7 +37,7 @@ due-is (c ∷ after) r a (inl f) =
     ∙ sym (f .gives-it)
 due-is (c ∷ after) r a (inr d) = ap (λ (g : Found). thenCheck (refuseAt (c .gives) g) (answerOf after)) (never-least (c .finds) (c .places) (d .0)) ∙ due-is after (r .1) a (d .1)
 
-due-refuses : (checks : List Check) → Refuses checks → (a : Answer) → Due checks a → refusing a ≡ true
+pub due-refuses : (checks : List Check) → Refuses checks → (a : Answer) → Due checks a → refusing a ≡ true
 due-refuses [] r a d = absurd d
 due-refuses (c ∷ after) r a (inl f) = ap refusing (f .gives-it) ∙ r .0 (f .at)
 due-refuses (c ∷ after) r a (inr d) = due-refuses after (r .1) a (d .1)

@@ -1,5 +1,6 @@
 pub mod Checks
 pub mod Programs
+pub mod Files
 pub mod Answers
 pub mod Kept
 pub mod Closing

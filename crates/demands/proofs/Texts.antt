@@ -29,6 +29,8 @@ use Rattle.text_read.specs.Outcome.{ReadOutcome, Reads, deliver}
 use Rattle.text_write.specs.Outcome.{writes}
 use Rattle.text_write.proofs.Laws.Again.{written-whole}
 use Rattle.text_write.proofs.Theorems.{written-text, checks}
+use Rattle.stl_read.proofs.Theorems.{as-text}
+use Rattle.program_import.proofs.Laws.Read.{taken}
 use Rattle.demands.specs.Texts.{Words, readAll, wroteAll, TextsDemand}
 
 -- ---- handing over
@@ -148,4 +150,5 @@ texts-demand = record {
   wrong-line = λ bytes words corners o r line d. told-wrong bytes words corners o r line d;
   line-wrong = λ bytes words corners o r line f. ap (λ (p : ReadOutcome). p .answer) (r .of-fault line f);
   front-enough = λ bytes m line f. fault-whole points triangles limits.sheet-text (λ b ps ts t. longest t) bytes m f;
+  as-text = λ file out words corners o p h r. as-text file words corners out o h (p .of-sheet (taken file h .done)) r;
 }

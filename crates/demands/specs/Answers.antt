@@ -4,17 +4,17 @@ use mathlib.Core.Path.{_≡_}
 use mathlib.Core.Bool.{Bool, true, false, not}
 use mathlib.Core.Logic.{_⊎_}
 use mathlib.Core.List.{List, [], _∷_, _++_}
-use Prim.Native.Nat.{ℕ, _+_, _/_, _<_}
+use Prim.Native.Nat.{ℕ, _+_, _*_, _/_, _<_}
 use lib.Dec.{eqb, leb}
 use lib.ListN.{length}
 use Rattle.base_answers.specs.Numbers.{refusing}
 use Rattle.base_answers.specs.declared.Answer.{Answer}
-use Rattle.base_answers.specs.declared.Answer.the-variants.{Words, Corners, Buffer, Unnamed, Twice, Repeated, NotFinite, TooFar, States, Line}
-use Rattle.base_types.specs.Counts.{threes}
+use Rattle.base_answers.specs.declared.Answer.the-variants.{Words, Corners, Buffer, Unnamed, Twice, Repeated, NotFinite, TooFar, States, Line, Misfit}
+use Rattle.base_types.specs.Counts as counts
 use Rattle.base_limits.specs.Limits as limits
 use Rattle.surface_rules.specs.Edges.{twice, repeats}
 use Rattle.surface_rules.specs.Refusals.{short, unnamed, notFinite, tooFar}
-use Rattle.surface_rules.specs.Threes.{Three, flat}
+use Rattle.surface_rules.specs.Threes.{Three, threes, flat}
 use Rattle.loop_rules.specs.Loops.{loops}
 use Rattle.survey_rules.specs.Outcome as survey
 use Rattle.patch_surface.specs.Outcome as patcher
@@ -26,9 +26,12 @@ use Rattle.text_read.specs.Outcome as intake
 use Rattle.text_read_set.specs.Set as set
 use Rattle.text_read_set.specs.Outcome as sets
 use Rattle.text_write.specs.Outcome.{writes}
+use Rattle.stl_rules.specs.File.{facets, fits}
+use Rattle.stl_rules.specs.Reading.{pointsIn, cornersIn, readsFile}
 use Rattle.program_lines.specs.Lines.{answerLine}
 use Rattle.program_lines.specs.Printout.{PrintOutcome, PrintsOver}
 use Rattle.program_rewrite.specs.Rewriting.{Rewrites}
+use Rattle.program_import.specs.Importing.{Imports}
 use Rattle.program_judge.specs.Hears.{Hears, HearsLine}
 use Rattle.program_list.specs.Lists.{Lists, Prints}
 
@@ -63,10 +66,10 @@ once t a = record { places = 1; finds = λ i. t; gives = λ i. a }
 
 -- 1 and 2: a count "isn't a multiple of 3, or" is too high
 abbrev pub wordCount : List ℕ → Check
-wordCount words = once (not (threes limits.words (length words))) Words
+wordCount words = once (not (counts.threes limits.words (length words))) Words
 
 abbrev pub cornerCount : List ℕ → Check
-cornerCount corners = once (not (threes limits.corners (length corners))) Corners
+cornerCount corners = once (not (counts.threes limits.corners (length corners))) Corners
 
 -- 3: "a lent buffer is too short", "its number, lowest first"
 abbrev pub shortBuffer : List ℕ → List ℕ → Check
@@ -102,6 +105,21 @@ stateCount corners states = once (not (eqb (length (loops corners)) (length stat
 -- 10: "sheet text line is wrong", asked where one is
 abbrev pub wrongLine : ℕ → Check
 wrongLine line = once true (Line line)
+
+-- 16: "fewer than 84 bytes or a length that isn't 84 plus 50 times the count"
+abbrev pub wrongSize : List ℕ → Check
+wrongSize file = once (not (fits (length file) (facets file))) Misfit
+
+-- 2 and 1 of a file: "more than 1,024 facets", "more than 1,024 distinct points"
+abbrev pub manyFacets : List ℕ → Check
+manyFacets file = once (not (leb (facets file) limits.triangles)) Corners
+
+abbrev pub manyPoints : List ℕ → Check
+manyPoints file = once (not (leb (length (pointsIn file)) limits.points)) Words
+
+-- what is asked of a file of facets: 16 "comes first of all; then 2 ... then 1"
+abbrev pub fileChecks : List ℕ → List Check
+fileChecks file = wrongSize file ∷ manyFacets file ∷ manyPoints file ∷ []
 
 -- 4 to 8: what is asked of a sheet whose counts are right
 abbrev pub sheetChecks : List ℕ → List ℕ → List Check
@@ -161,6 +179,10 @@ pub record AnswersDemand : Type 0 where
   pub reading-set : (bytes : List ℕ) (before : ℕ) (states corners : List ℕ) (o : sets.SetOutcome) → sets.ReadsSet bytes before states corners o
       → (ss : List ℕ) (ts : List Three) → TextOf set.states set.triangles bytes ss ts
       → Answered (shortBuffer (length states ∷ length corners ∷ []) (length ss ∷ length (flat ts) ∷ []) ∷ []) (λ a. sets.notRead a states corners) (λ p. p .answer) o
+  -- a file of facets: 16, 2 and 1, "then 3 for short buffers (words 1, corners 2). No other refusal is the reader's."
+  pub reading-file : (file words corners : List ℕ)
+      → Answered (fileChecks file ++ (shortBuffer (length words ∷ length corners ∷ []) (3 * length (pointsIn file) ∷ 3 * facets file ∷ []) ∷ []))
+      (λ a. intake.notRead a words corners) (λ p. p .answer) (readsFile file words corners)
   -- a sheet's text that is patched: "Checks run in the order 10, 1 to 9"
   pub listing-wrong : (bytes : List ℕ) (b : patcher.Buffers) (o : patcher.Outcome) → Lists bytes b o
       → (line : ℕ) → Fault points triangles bytes line → o ≡ patcher.refused (Line line) b
@@ -182,7 +204,12 @@ pub record AnswersDemand : Type 0 where
       → (a : Answer) → Due (unnamedCorner (flat ps) (flat ts) ∷ []) a → out ≡ answerLine a
   pub rewriting : (bytes out : List ℕ) → Rewrites bytes out → (ps ts : List Three) → TextOf points triangles bytes ps ts
       → Clear (unnamedCorner (flat ps) (flat ts)) → out ≡ bytes
+  -- a file that is imported: 16, 2 and 1 are printed as an answer line, and for any other file the text of its sheet
+  pub importing-refused : (file out : List ℕ) → Imports file out → (a : Answer) → Due (fileChecks file) a → out ≡ answerLine a
+  pub importing : (file out : List ℕ) → Imports file out → Clear (wrongSize file) → Clear (manyFacets file) → Clear (manyPoints file)
+      → TextOf points triangles out (pointsIn file) (threes (cornersIn file))
   -- the same printed into a lent buffer
   pub listing-printed : (bytes : List ℕ) → PrintsAnswered (Prints bytes)
   pub hearing-printed : (sheet patches : List ℕ) → PrintsAnswered (HearsLine sheet patches)
   pub rewriting-printed : (bytes : List ℕ) → PrintsAnswered (Rewrites bytes)
+  pub importing-printed : (file : List ℕ) → PrintsAnswered (Imports file)

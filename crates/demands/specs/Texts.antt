@@ -1,8 +1,10 @@
 -- Demand 2, of texts: "a sheet we write reads back as the same sheet, and a text we accept is the one we would write."
 use mathlib.Core.Path.{_≡_}
+use mathlib.Core.Bool.{false}
 use mathlib.Core.List.{List}
 use Prim.Native.Nat.{ℕ, suc, _^_, _<_, _≤_}
 use lib.ListN.{length, getD, take}
+use Rattle.base_answers.specs.Numbers.{refusing}
 use Rattle.base_answers.specs.declared.Answer.the-variants.{Done, Line}
 use Rattle.base_limits.specs.Limits as limits
 use Rattle.surface_rules.specs.Buffers.{over}
@@ -12,6 +14,8 @@ use Rattle.text_rules.specs.Fault.{Fault}
 use Rattle.text_sheet.specs.Sheet.{points, triangles}
 use Rattle.text_read.specs.Outcome.{ReadOutcome, Reads}
 use Rattle.text_write.specs.Outcome.{WriteOutcome, writes}
+use Rattle.stl_rules.specs.Reading.{fileRefusal, readsFile}
+use Rattle.program_import.specs.Importing.{Imports}
 
 -- each word has 32 bits
 abbrev pub Words : List ℕ → Type 0
@@ -43,3 +47,6 @@ pub record TextsDemand : Type 0 where
   pub line-wrong : (bytes words corners : List ℕ) (o : ReadOutcome) → Reads bytes words corners o → (line : ℕ) → Fault points triangles bytes line → o .answer ≡ Line line
   -- So long a text needs no more than a byte past the longest to be answered.
   pub front-enough : (bytes : List ℕ) → limits.sheet-text < length bytes → (line : ℕ) → Fault points triangles (take (suc limits.sheet-text) bytes) line → Fault points triangles bytes line
+  -- "The outcome is a surface as if it had come by sheet text": reading a file that neither 16, 2 nor 1 refuses leaves what reading its text leaves.
+  pub as-text : (file out words corners : List ℕ) (o : ReadOutcome) → Imports file out → refusing (fileRefusal file) ≡ false
+      → Reads out words corners o → o ≡ readsFile file words corners

@@ -60,7 +60,8 @@ pub fn take_in(text: &[u8], words: &mut [u32], corners: &mut [u16]) -> Scan
     }
 }
 
-fn refused(answer: Answer) -> ReadSheet
+// The answer that refuses, with zero in both counts.
+pub fn refused(answer: Answer) -> ReadSheet
     ensures { λ r. ⌜ (r .answer ≡ answer) × (r .words ≡ 0) × (r .corners ≡ 0) ⌝ }
 {
     ReadSheet {

@@ -3,7 +3,7 @@ use mathlib.Core.Path.{_≡_, sym, ap, _∙_}
 use mathlib.Core.List.{List}
 use Prim.Native.Nat.{ℕ}
 use Rattle.base_answers.specs.Numbers.{numberOf, placeOf}
-use Rattle.text_read.specs.Outcome.{readOutcome, Reads}
+use Rattle.text_read.specs.Outcome.{ReadOutcome, readOutcome, Reads}
 use Rattle.text_read.specs.declared.ReadSheet.{ReadSheet}
 use Rattle.text_read.proofs.Theorems.{reads-once}
 use Rattle.text_read_set.specs.Outcome.{setOutcome, ReadsSet}
@@ -26,6 +26,11 @@ told-read bytes words corners r words′ corners′ n p en ep h = record {
 pub reads-told-once : (bytes words corners : List ℕ) (s t : TextTold) → ReadsTold bytes words corners s → ReadsTold bytes words corners t → s ≡ t
 reads-told-once bytes words corners s t p q =
     p .its-numbers ∙ ap sheetRead (reads-once bytes words corners (p .outcome) (q .outcome) (p .right) (q .right)) ∙ sym (q .its-numbers)
+
+-- a file of facets that was read, field by field
+pub told-file : {r : ReadSheet} {words′ corners′ : List ℕ} {n p : ℕ} {o : ReadOutcome} → n ≡ numberOf (r .answer) → p ≡ placeOf (r .answer) → readOutcome r words′ corners′ ≡ o
+    → textTold n p (r .words) (r .corners) words′ corners′ ≡ sheetRead o
+told-file {r} {words′} {corners′} en ep e = (λ t. textTold (en t) (ep t) (r .words) (r .corners) words′ corners′) ∙ ap sheetRead e
 
 -- a set that was read, field by field
 pub told-set : (bytes : List ℕ) (before : ℕ) (states corners : List ℕ) (r : ReadSet) (states′ corners′ : List ℕ) (n p : ℕ) → n ≡ numberOf (r .answer) → p ≡ placeOf (r .answer)

@@ -1,3 +1,4 @@
 pub mod ForC
 pub mod Texts
 pub mod Prints
+pub mod Facets

@@ -1,20 +1,28 @@
 // What other languages link: exported functions over numbers and slices, which answer as the library does.
 ghost use mathlib.Core.Path.{_≡_};
 ghost use lib.Ieee.{binary32, ofBits};
+ghost use Rattle.base_answers.specs.Numbers.{numberOf};
 ghost use Rattle.base_types.specs.Lent.{was, left};
 ghost use Rattle.survey_rules.specs.Outcome.{buffers, surveyOf};
 ghost use Rattle.patch_surface.specs.Outcome as patcher;
 ghost use Rattle.text_write.specs.Outcome.{writes};
+ghost use Rattle.stl_rules.specs.Reading.{sizeRefusal, readsFile};
 ghost use Rattle.base_limits.specs.Limits.{sheet-text};
 ghost use Rattle.program_rewrite.specs.Rewriting.{Rewrites};
+ghost use Rattle.program_import.specs.Importing.{Imports};
 ghost use Rattle.program_judge.specs.Hears.{HearsLine};
 ghost use Rattle.program_list.specs.Lists.{Prints};
 ghost use Rattle.wazelpunt.specs.ForC.{Tells, told, surveyed, JudgesTold, patchTold, PatchesTold};
-ghost use Rattle.wazelpunt.specs.Texts.{textTold, ReadsTold, ReadsSetTold, writeTold, written};
+ghost use Rattle.wazelpunt.specs.Texts.{textTold, sheetRead, ReadsTold, ReadsSetTold, writeTold, written};
 ghost use Rattle.wazelpunt.specs.Prints.{PrintsTold};
+ghost use Rattle.wazelpunt.specs.Facets.{handed, handsOut};
 use grid_coordinate::Coordinate;
 use program_lines::LINE;
 use program_roll::LISTING;
+use stl_facets::Step;
+
+// How many floats a facet has.
+const FLOATS: usize = 9;
 
 // The answer for the coordinate with these bits: its number is returned, 0 or refusal 7 or 8; the whole number, or 0, is
 // left in `whole`, and in `rest` are left the bits of the rest, or of the value itself where it is too far, or 0.
@@ -254,4 +262,71 @@ pub extern "C" fn wazelpunt_rewrite_text(
     *place = own.place();
     *bytes = rewritten.bytes;
     own.number()
+}
+
+// Reads a file of facets, as `read` of `stl_read` does: words and corners are left in the lent buffers; the number of the answer is
+// returned, and its place and how many words and corners there are are left too.
+#[no_mangle]
+pub extern "C" fn wazelpunt_read_stl(
+    file: &[u8],
+    words: &mut [u32],
+    corners: &mut [u16],
+    place: &mut usize,
+    words_read: &mut usize,
+    corners_read: &mut usize,
+) -> u32
+    ensures { λ r. ⌜ textTold r (left place) (left «words_read») (left «corners_read») (left words) (left corners)
+        ≡ sheetRead (readsFile (was file) (was words) (was corners)) ⌝ }
+{
+    let taken = stl_read::read(file, words, corners);
+    let met = taken.answer;
+    *place = met.place();
+    *words_read = taken.words;
+    *corners_read = taken.corners;
+    met.number()
+}
+
+// The number of the answer that a file of so many bytes with such a count of facets gets by its size alone.
+#[no_mangle]
+pub extern "C" fn wazelpunt_size_stl(length: usize, count: u32) -> u32
+    ensures { λ r. ⌜ r ≡ numberOf (sizeRefusal length count) ⌝ }
+{
+    stl_read::sized(length, count).number()
+}
+
+// Prints the text of a file's sheet, or an answer's line, as the importing program does, into the lent buffer; the number of the call's own
+// answer is returned, and its place and how many bytes were printed are left too.
+#[no_mangle]
+pub extern "C" fn wazelpunt_import_stl(
+    file: &[u8],
+    out: &mut [u8],
+    place: &mut usize,
+    bytes: &mut usize,
+) -> u32
+    ensures { λ r. ⌜ PrintsTold sheet-text (Imports (was file)) (was out) (writeTold r (left place) (left bytes) (left out)) ⌝ }
+{
+    let imported = program_import::print(file, out);
+    let own = imported.answer;
+    *place = own.place();
+    *bytes = imported.bytes;
+    own.number()
+}
+
+// Hands out the facet that begins at a place of a file: its nine floats are left at the start of the lent buffer, the place behind it is left in
+// `at`, and how many floats there are is returned. At the end, and for a buffer that is too short, that is 0, and nothing changes.
+#[no_mangle]
+pub extern "C" fn wazelpunt_facet(file: &[u8], at: &mut usize, floats: &mut [f32]) -> usize
+    ensures { λ r. ⌜ handed r (left at) (left floats) ≡ handsOut (was file) (was at) (was floats) ⌝ }
+{
+    if floats.len() < FLOATS {
+        return 0;
+    }
+    match stl_facets::hand_out(file, *at) {
+        Step::End => 0,
+        Step::Given(facet) => {
+            stl_facets::lay(facet, floats);
+            *at = stl_facets::after(file, *at);
+            FLOATS
+        }
+    }
 }

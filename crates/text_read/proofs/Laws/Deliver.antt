@@ -31,7 +31,7 @@ use Rattle.text_read.specs.declared.ReadSheet.{ReadSheet}
 abbrev pub Refused : ReadSheet → Answer → Type 0
 Refused r a = (r .answer ≡ a) × (r .words ≡ 0) × (r .corners ≡ 0)
 
-not-read : (r : ReadSheet) (a : Answer) (words corners : List ℕ) → Refused r a → readOutcome r words corners ≡ notRead a words corners
+pub not-read : (r : ReadSheet) (a : Answer) (words corners : List ℕ) → Refused r a → readOutcome r words corners ≡ notRead a words corners
 not-read r a words corners h = rw (h .0, h .1, h .2)
 
 module _ (ws cs words corners : List ℕ) where

@@ -1,0 +1,3 @@
+-- The laws of reading a file, each file for one idea.
+pub mod Reading
+pub mod Rooms

@@ -1,0 +1,2 @@
+-- Definitions that serve the code.
+pub mod Workings

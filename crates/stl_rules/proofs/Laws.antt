@@ -1,0 +1,3 @@
+pub mod Uses
+pub mod Files
+pub mod Sizes
