@@ -31,7 +31,10 @@ static void read_facet(const struct subject *subject, size_t facet, float *float
 {
     const struct text *file = &subject->stl->file;
     size_t at = byte_of(facet);
-    wazelpunt_facet(file->bytes, file->length, &at, floats, FLOATS);
+    if (wazelpunt_facet(file->bytes, file->length, &at, floats, FLOATS) != FLOATS) {
+        /* the library named a facet that the file has not, which it does not do; nothing is shown of it then */
+        memset(floats, 0, FLOATS * sizeof *floats);
+    }
 }
 
 /* Adds `(0, 30, 0.5)`. */

@@ -18,7 +18,7 @@ struct text {
     uint8_t *bytes;
     size_t length;
     bool cut;               /* there may be more than was read */
-    uint64_t size;          /* how long the whole is, or 0 where that is not known */
+    uint64_t size;          /* how long the whole is, or as far as it was counted (stl.longer), or 0 where that is not known */
     const struct stl *stl;  /* the file that this text of a sheet was made of; NULL where the text itself was given */
 };
 
