@@ -145,7 +145,8 @@ static bool has_mark_of_kind(const struct wrong *wrong)
         {"7z\xbc\xaf\x27\x1c", 6, "a 7z file"},
         {"%PDF-", 5, "a PDF file"},
         {"\x89PNG\r\n\x1a\n", 8, "a PNG picture"},
-        {"\xff\xd8\xff", 3, "a JPEG picture"},
+        {"\xff\xd8\xff\xe0", 4, "a JPEG picture"},
+        {"\xff\xd8\xff\xe1", 4, "a JPEG picture"},
     };
     for (size_t m = 0; m < sizeof marks / sizeof marks[0]; m++) {
         if (text_begins(wrong, marks[m].bytes, marks[m].count)) {
@@ -163,12 +164,14 @@ static bool is_bzip2(const struct wrong *wrong)
            memcmp(wrong->text->bytes + 4, block, sizeof block - 1) == 0 && tell_kind(wrong, "a bzip2 file");
 }
 
-/* By a NUL in every second of the first bytes, or of all where there are fewer; a mark of two bytes may come before. */
+/* By a NUL in every second of the first bytes, or of all where there are fewer; a mark of two bytes may come before. The header of an STL
+   file may be such a text too, so its count is looked at as well. */
 static bool is_utf_16(const struct wrong *wrong)
 {
     const uint8_t *bytes = wrong->text->bytes;
     size_t start = TEXT_BEGINS(wrong, "\xff\xfe") || TEXT_BEGINS(wrong, "\xfe\xff") ? 2 : 0;
-    size_t end = wrong->text->length < start + 12 ? wrong->text->length : start + 12;
+    size_t most = start + WAZELPUNT_STL_FRONT;
+    size_t end = wrong->text->length < most ? wrong->text->length : most;
     bool spaced = wrong->line->number == 1 && end >= start + 4;
     for (size_t b = start + 1; spaced && b < end; b++) {
         spaced = (bytes[b] == 0) != (bytes[b - 1] == 0);
@@ -210,9 +213,10 @@ static bool is_ascii_stl(const struct wrong *wrong)
         return false;
     }
     if (wrong->text->kind == SET) {
-        return tell_kind(wrong, "an STL file (ASCII)");
+        phrase_add(wrong->cause, "this begins as ASCII STL does, and a set is due");
+        return true;
     }
-    phrase_add(wrong->cause, "this is ASCII STL, which is not read; save it as binary STL: "
+    phrase_add(wrong->cause, "this begins as ASCII STL does, which is not read; save it as binary STL: "
                "admesh --no-check --write-binary-stl=OUT.stl IN.stl, or in MeshLab's export dialog tick \"Binary encoding\"");
     return true;
 }
@@ -539,6 +543,7 @@ static bool goes_on_behind_the_end(const struct wrong *wrong)
 
 /* ---- All causes, in the order in which they are tried, each list to its NULL ---- */
 
+/* Asked also of what was taken for an STL file, of which no line is due. */
 static bool (*const kinds[])(const struct wrong *wrong) = {
     has_mark_of_kind,
     is_bzip2,

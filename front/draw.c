@@ -190,13 +190,13 @@ void draw_sheet(const struct drawn *sheet)
     output("</g>\n");
 }
 
-void draw_refused(const char *name, uint32_t number, size_t place)
+void draw_refused(const char *name, uint32_t number, size_t place, const char *sentence)
 {
     char text[64];
     begin_panel(name);
     snprintf(text, sizeof text, "refused, answer %lu,%zu", (unsigned long)number, place);
     put_message(text, 260);
-    put_message(wazelpunt_sentence(number), 286);
+    put_message(sentence, 286);
     output("</g>\n");
 }
 

@@ -27,7 +27,7 @@ void draw_begin(size_t sheets, bool plan);
 void draw_sheet(const struct drawn *sheet);
 
 /* The next panel, which says that the sheet is refused, or that it could not be read. */
-void draw_refused(const char *name, uint32_t number, size_t place);
+void draw_refused(const char *name, uint32_t number, size_t place, const char *sentence);
 void draw_unread(const char *name);
 
 /* The end of the picture. */

@@ -118,8 +118,8 @@ static void explain_repeated(struct subject *subject)
     uint16_t from = desk.corners[edge];
     uint16_t to = desk.corners[edge_after(edge)];
     size_t earlier = find_edge(desk.corners, edge, from, to);
-    phrase_add(&subject->said, "two triangles run from point %u to point %u: one of them is turned over, or they lie on one another",
-               from, to);
+    phrase_add(&subject->said, "two triangles run from point %u to point %u: perhaps one of them is turned over, they lie on one another, "
+               "or more than two meet in this edge", from, to);
     show_line(subject, subject->sheet, line_of_triangle(subject->sheet, earlier / 3));
     show_line(subject, subject->sheet, line_of_triangle(subject->sheet, edge / 3));
 }

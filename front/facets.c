@@ -32,7 +32,7 @@ static void read_facet(const struct subject *subject, size_t facet, float *float
     const struct text *file = &subject->stl->file;
     size_t at = byte_of(facet);
     if (wazelpunt_facet(file->bytes, file->length, &at, floats, FLOATS) != FLOATS) {
-        /* the library named a facet that the file has not, which it does not do; nothing is shown of it then */
+        /* the library named a facet that the file has not, which it does not do; zeros would be shown */
         memset(floats, 0, FLOATS * sizeof *floats);
     }
 }
@@ -79,8 +79,8 @@ static bool has_many_points(const struct text *file, size_t facets)
     static uint8_t begun[WAZELPUNT_STL_BYTES];
     size_t place;
     memcpy(begun, file->bytes, byte_of(facets));
-    begun[80] = (uint8_t)facets;
-    begun[81] = (uint8_t)(facets >> 8);
+    begun[STL_COUNT_AT] = (uint8_t)facets;
+    begun[STL_COUNT_AT + 1] = (uint8_t)(facets >> 8);
     return wazelpunt_read_stl(begun, byte_of(facets), desk.words, WAZELPUNT_WORDS, desk.corners, WAZELPUNT_CORNERS, &place,
                               &desk.word_count, &desk.corner_count) == WAZELPUNT_WRONG_WORDS;
 }
@@ -126,7 +126,7 @@ static void explain_repeated(struct subject *subject)
     add_corner(&subject->said, floats + 3 * (edge % 3));
     phrase_add(&subject->said, " to ");
     add_corner(&subject->said, floats + 3 * (next % 3));
-    phrase_add(&subject->said, ": one of them is turned over, or they lie on one another");
+    phrase_add(&subject->said, ": perhaps one of them is turned over, they lie on one another, or more than two meet in this edge");
     show_facet(subject, earlier);
     show_facet(subject, facet);
 }

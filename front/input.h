@@ -11,7 +11,7 @@
 /* What is asked for: a sheet, as its text or as a binary STL file; a set; or a binary STL file whatever it looks like. */
 enum kind { SHEET, SET, FACETS };
 
-/* A text of a kind, as much of it as was read: at least the longest text of its kind and one byte, since more changes no answer. */
+/* A text of a kind: all of it, or of a longer one at least as much as the longest of its kind and one byte, since more changes no answer. */
 struct text {
     enum kind kind;
     const char *name;       /* as it was given; `-` is standard input */

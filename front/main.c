@@ -355,7 +355,7 @@ static enum status draw_one(const struct call *call, const char *name)
     struct answer answer = is_refused() ? refusal() : desk_patch(&sheet, &desk);
     if (answer.number != WAZELPUNT_DONE) {
         if (!alone) {
-            draw_refused(title, answer.number, answer.place);
+            draw_refused(title, answer.number, answer.place, stl_sentence(sheet.stl, answer.number));
         }
         return tell_answer(call, NULL, answer);
     }

@@ -66,11 +66,11 @@ static uint32_t turned_round(uint32_t count)
     return count >> 24 | (count >> 8 & 0xff00) | (count << 8 & 0xff0000) | count << 24;
 }
 
-/* Whether a file is so much shorter than its count says that the count is wrong rather than the rest lost. */
+/* Whether a file is so much shorter than its count says that the count is wrong rather than the rest lost: some hundred times, or half where
+   the count is so high that it hardly counts anything, as 0xffffffff is. */
 static bool is_far_off(uint32_t count, uint64_t size)
 {
-    uint64_t due = stl_size(count);
-    return size < due && (count > 4000000000 || due / 100 > size);
+    return stl_size(count) / (count > 4000000000 ? 2 : 100) > size;
 }
 
 /* Only a count that fits when it is turned round is certain. */
@@ -89,8 +89,8 @@ static void add_length_cause(const struct stl *stl, struct phrase *cause)
     if (is_far_off(count, size)) {
         phrase_add(cause, "more likely the count, bytes 80 to 83, is wrong, or this is no STL file, than that so much is cut off");
     } else if (size > due) {
-        phrase_add(cause, "perhaps bytes were put behind the last facet, from byte %llu on, or the count, bytes 80 to 83, is too low",
-                   (unsigned long long)due);
+        phrase_add(cause, "perhaps bytes were put behind the %s, from byte %llu on, or the count, bytes 80 to 83, is too low",
+                   count > 0 ? "last facet" : "count", (unsigned long long)due);
     } else {
         phrase_add(cause, "perhaps the file is cut off");
         if (room.rest > 0) {

@@ -8,14 +8,27 @@
 #include "listing.h"
 #include "output.h"
 
-#define COUNT_AT 80
 #define MARK_LENGTH 3
+
+/* ---- Answers ---- */
+
+/* The library speaks of words and corners, which nobody has seen of a file. */
+const char *stl_sentence(const struct stl *stl, uint32_t number)
+{
+    if (stl != NULL && number == WAZELPUNT_WRONG_WORDS) {
+        return "the file has more than 1,024 points";
+    }
+    if (stl != NULL && number == WAZELPUNT_WRONG_CORNERS) {
+        return "the file has more than 1,024 facets";
+    }
+    return wazelpunt_sentence(number);
+}
 
 /* ---- Sizes ---- */
 
 uint32_t stl_count(const uint8_t *file)
 {
-    const uint8_t *count = file + COUNT_AT;
+    const uint8_t *count = file + STL_COUNT_AT;
     return count[0] | (uint32_t)count[1] << 8 | (uint32_t)count[2] << 16 | (uint32_t)count[3] << 24;
 }
 
@@ -89,7 +102,7 @@ static bool looks_like_text(const struct text *given)
    pipe, and who sends a text without an end is answered. */
 bool stl_may_fit(const struct text *given)
 {
-    const uint8_t *count = given->bytes + COUNT_AT;
+    const uint8_t *count = given->bytes + STL_COUNT_AT;
     bool of_text = count[0] >= '\t' && count[1] >= '\t' && count[2] >= '\t' && count[3] >= '\t';
     return given->kind == FACETS || !of_text || !looks_like_text(given);
 }

@@ -4,6 +4,9 @@
 
 #include "input.h"
 
+/* Where the count of facets stands, behind the header. */
+#define STL_COUNT_AT 80
+
 /* How many facets a file has by its count; it has at least WAZELPUNT_STL_FRONT bytes. */
 uint32_t stl_count(const uint8_t *file);
 
@@ -31,6 +34,9 @@ bool begins_as_sheet(const struct text *given);
 
 /* Whether something whose size is not known has to be counted: its length may fit its count of facets. */
 bool stl_may_fit(const struct text *given);
+
+/* What an answer means, in a few words, of the file that a sheet was made of, or of the sheet itself where there is none. */
+const char *stl_sentence(const struct stl *stl, uint32_t number);
 
 /* Where something is a binary STL file, makes it the text of its sheet, with the file beside it; else leaves it as it is, a text. With
    `longer` it goes on behind its size. False if the library prints what it does not promise. */

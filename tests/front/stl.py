@@ -341,6 +341,13 @@ def try_several(bench):
     bench.tally.true('draw of three', got.status == 1 and got.out.count(b'<svg') == 1 and b'cut.stl' in got.out, repr(got))
     got = bench.call('draw', 'cut.stl')
     bench.tally.true('draw of one that is refused', got.status == 1 and got.out == b'' and b'answer 16,0' in got.err, repr(got))
+    # a panel speaks of the file's facets and points
+    bench.write('facets.stl', stl(apart(1025)))
+    bench.write('points.stl', stl(apart(342)))
+    got = bench.call('draw', 'part.stl', 'facets.stl', 'points.stl')
+    for number, what in (2, b'facets'), (1, b'points'):
+        said = got.out.partition(f'answer {number},0'.encode())[2]
+        bench.tally.true(f'the panel of {number}', b'the file has more than 1,024 ' + what in said, repr(said[:200]))
     # the set beside a file, and a set that cannot be read before a file that is refused
     for name in ('part.STL', 'Part.Stl'):
         bench.write(name, stl(PLATE))

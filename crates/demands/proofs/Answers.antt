@@ -1,5 +1,5 @@
 -- Demand 1 is kept by every outcome that an entry point may have.
-use mathlib.Core.Path.{_≡_, refl, sym, ap, ap₂, _∙_, subst}
+use mathlib.Core.Path.{_≡_, refl, ap, _∙_, subst}
 use mathlib.Core.Bool.{Bool, true, false}
 use mathlib.Core.List.{List, [], _∷_, _++_}
 use Prim.Native.Nat.{ℕ, _+_, _/_}
@@ -32,7 +32,7 @@ use Rattle.program_judge.specs.Hears.{HearsLine}
 use Rattle.program_list.specs.Lists.{Prints}
 use Rattle.demands.specs.Answers.{Check, wordCount, cornerCount, shortBuffer, unnamedCorner, stateCount, table, Answered, AnswersDemand}
 use Rattle.demands.proofs.Checks.{answerOf, answerBy, answered, last-of, counts-are, table-is, table-refuses, chosen, then-once}
-use Rattle.demands.proofs.Files.{reading-file, importing-refused, importing}
+use Rattle.demands.proofs.Files.{sizing, reading-file, importing-refused, importing}
 use Rattle.demands.proofs.Programs.{sheet-texts, set-texts, hearing-set-wrong, hearing, rewriting-refused, rewriting, printing}
 
 -- ---- the entry points
@@ -139,6 +139,7 @@ answers-demand = record {
   writing = writing;
   reading-set-wrong = λ bytes before states corners o r. r .of-fault;
   reading-set = reading-set;
+  sizing = sizing;
   reading-file = reading-file;
   listing-wrong = λ bytes b o l. l .of-fault;
   listing = λ bytes b o l ps ts t. patching (flat ps) (flat ts) b o (l .of-text ps ts t);

@@ -1,6 +1,5 @@
 -- Demand 1 of files of facets, read and imported.
 use mathlib.Core.Path.{_≡_, refl, sym, ap, ap₂, _∙_}
-use mathlib.Core.Bool.{Bool, cond}
 use mathlib.Core.List.{List, [], _∷_, _++_}
 use Prim.Native.Nat.{ℕ, _+_, _*_}
 use lib.Dec.{leb}
@@ -17,23 +16,29 @@ use Rattle.surface_rules.proofs.Laws.Smallest.{never-least}
 use Rattle.text_rules.specs.Text.{TextOf}
 use Rattle.text_sheet.specs.Sheet.{points, triangles}
 use Rattle.text_read.specs.Outcome.{notRead}
-use Rattle.stl_rules.specs.File.{facets, fits}
+use Rattle.stl_facets.specs.Facets.{facets}
+use Rattle.stl_rules.specs.File.{fits}
 use Rattle.stl_rules.specs.Reading.{pointsIn, cornersIn, sizeRefusal, fileRefusal, readRefusal, readsFile}
 use Rattle.program_lines.specs.Lines.{answerLine}
 use Rattle.program_import.specs.Importing.{Imports}
-use Rattle.demands.specs.Answers.{Clear, Due, shortBuffer, wrongSize, manyFacets, manyPoints, fileChecks, Answered}
-use Rattle.demands.proofs.Checks.{answerOf, answerBy, Refuses, due-is, due-refuses, then-then, last-of, once-is, append-is, append-refuses, chosen}
+use Rattle.demands.specs.Answers.{Clear, Due, shortBuffer, wrongSize, manyFacets, manyPoints, sizeChecks, fileChecks, Answered}
+use Rattle.demands.proofs.Checks.{answerOf, Refuses, due-is, due-refuses, answered, last-of, once-is, append-is, append-refuses, chosen}
+
+module _ (long count : ℕ) where
+  size-is : sizeRefusal long count ≡ answerOf (sizeChecks long count)
+  unfolding sizeRefusal
+  size-is = ap₂ thenCheck (once-is (fits long count) Misfit) (once-is (leb count limits.triangles) Corners ∙ last-of (λ i. Corners) (λ i. refl) (least (manyFacets count .finds) 1))
+
+  pub sizing : Answered (sizeChecks long count) (λ a. a) (λ a. a) (sizeRefusal long count)
+  sizing = answered (sizeChecks long count) (λ i. refl, (λ i. refl, tt)) (λ a. a) (λ a. a) (sizeRefusal long count) (λ a. refl) (λ h. size-is) (λ h. ap refusing size-is ∙ h)
 
 module _ (file : List ℕ) where
   file-is : fileRefusal file ≡ answerOf (fileChecks file)
-  unfolding fileRefusal sizeRefusal
+  unfolding fileRefusal
   file-is =
-      let s : Bool = fits (length file) (facets file) in
-      let f : Bool = leb (facets file) limits.triangles in
-      let p : Bool = leb (length (pointsIn file)) limits.points in
-      then-then (cond s Done Misfit) (cond f Done Corners) (cond p Done Words)
-      ∙ ap₂ (λ (x y : Answer). thenCheck x (thenCheck y (cond p Done Words))) (once-is s Misfit) (once-is f Corners)
-      ∙ ap (λ (x : Answer). thenCheck (answerBy (wrongSize file)) (thenCheck (answerBy (manyFacets file)) x)) (once-is p Words ∙ last-of (λ i. Words) (λ i. refl) (least (manyPoints file .finds) 1))
+      ap₂ thenCheck (size-is (length file) (facets file))
+      (once-is (leb (length (pointsIn file)) limits.points) Words ∙ last-of (λ i. Words) (λ i. refl) (least (manyPoints file .finds) 1))
+      ∙ sym (append-is (sizeChecks (length file) (facets file)) (manyPoints file ∷ []))
 
   file-refuses : Refuses (fileChecks file)
   file-refuses = (λ i. refl, (λ i. refl, (λ i. refl, tt)))
@@ -63,9 +68,9 @@ module _ (file : List ℕ) where
         let e : fileRefusal file ≡ a = file-is ∙ due-is (fileChecks file) file-refuses a d in
         p .of-refusal (ap refusing e ∙ due-refuses (fileChecks file) file-refuses a d) ∙ ap answerLine e
 
-    pub importing : Clear (wrongSize file) → Clear (manyFacets file) → Clear (manyPoints file) → TextOf points triangles out (pointsIn file) (threes (cornersIn file))
+    pub importing : Clear (wrongSize (length file) (facets file)) → Clear (manyFacets (facets file)) → Clear (manyPoints file) → TextOf points triangles out (pointsIn file) (threes (cornersIn file))
     importing s f q =
-        let a = never-least (wrongSize file .finds) 1 s in
-        let b = never-least (manyFacets file .finds) 1 f in
+        let a = never-least (wrongSize (length file) (facets file) .finds) 1 s in
+        let b = never-least (manyFacets (facets file) .finds) 1 f in
         let c = never-least (manyPoints file .finds) 1 q in
         p .of-sheet (file-is ∙ rw (a, b, c) refl)

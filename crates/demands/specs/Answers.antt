@@ -26,8 +26,9 @@ use Rattle.text_read.specs.Outcome as intake
 use Rattle.text_read_set.specs.Set as set
 use Rattle.text_read_set.specs.Outcome as sets
 use Rattle.text_write.specs.Outcome.{writes}
-use Rattle.stl_rules.specs.File.{facets, fits}
-use Rattle.stl_rules.specs.Reading.{pointsIn, cornersIn, readsFile}
+use Rattle.stl_facets.specs.Facets.{facets}
+use Rattle.stl_rules.specs.File.{fits}
+use Rattle.stl_rules.specs.Reading.{pointsIn, cornersIn, sizeRefusal, readsFile}
 use Rattle.program_lines.specs.Lines.{answerLine}
 use Rattle.program_lines.specs.Printout.{PrintOutcome, PrintsOver}
 use Rattle.program_rewrite.specs.Rewriting.{Rewrites}
@@ -107,19 +108,22 @@ abbrev pub wrongLine : ℕ → Check
 wrongLine line = once true (Line line)
 
 -- 16: "fewer than 84 bytes or a length that isn't 84 plus 50 times the count"
-abbrev pub wrongSize : List ℕ → Check
-wrongSize file = once (not (fits (length file) (facets file))) Misfit
+abbrev pub wrongSize : ℕ → ℕ → Check
+wrongSize long count = once (not (fits long count)) Misfit
 
 -- 2 and 1 of a file: "more than 1,024 facets", "more than 1,024 distinct points"
-abbrev pub manyFacets : List ℕ → Check
-manyFacets file = once (not (leb (facets file) limits.triangles)) Corners
+abbrev pub manyFacets : ℕ → Check
+manyFacets count = once (not (leb count limits.triangles)) Corners
 
 abbrev pub manyPoints : List ℕ → Check
 manyPoints file = once (not (leb (length (pointsIn file)) limits.points)) Words
 
--- what is asked of a file of facets: 16 "comes first of all; then 2 ... then 1"
+-- what is asked of a file of facets by its length and its count, and of all of it: 16 "comes first of all; then 2 ... then 1"
+abbrev pub sizeChecks : ℕ → ℕ → List Check
+sizeChecks long count = wrongSize long count ∷ manyFacets count ∷ []
+
 abbrev pub fileChecks : List ℕ → List Check
-fileChecks file = wrongSize file ∷ manyFacets file ∷ manyPoints file ∷ []
+fileChecks file = sizeChecks (length file) (facets file) ++ (manyPoints file ∷ [])
 
 -- 4 to 8: what is asked of a sheet whose counts are right
 abbrev pub sheetChecks : List ℕ → List ℕ → List Check
@@ -179,6 +183,8 @@ pub record AnswersDemand : Type 0 where
   pub reading-set : (bytes : List ℕ) (before : ℕ) (states corners : List ℕ) (o : sets.SetOutcome) → sets.ReadsSet bytes before states corners o
       → (ss : List ℕ) (ts : List Three) → TextOf set.states set.triangles bytes ss ts
       → Answered (shortBuffer (length states ∷ length corners ∷ []) (length ss ∷ length (flat ts) ∷ []) ∷ []) (λ a. sets.notRead a states corners) (λ p. p .answer) o
+  -- a file of facets by its size alone: 16 and 2
+  pub sizing : (long count : ℕ) → Answered (sizeChecks long count) (λ a. a) (λ a. a) (sizeRefusal long count)
   -- a file of facets: 16, 2 and 1, "then 3 for short buffers (words 1, corners 2). No other refusal is the reader's."
   pub reading-file : (file words corners : List ℕ)
       → Answered (fileChecks file ++ (shortBuffer (length words ∷ length corners ∷ []) (3 * length (pointsIn file) ∷ 3 * facets file ∷ []) ∷ []))
@@ -206,7 +212,7 @@ pub record AnswersDemand : Type 0 where
       → Clear (unnamedCorner (flat ps) (flat ts)) → out ≡ bytes
   -- a file that is imported: 16, 2 and 1 are printed as an answer line, and for any other file the text of its sheet
   pub importing-refused : (file out : List ℕ) → Imports file out → (a : Answer) → Due (fileChecks file) a → out ≡ answerLine a
-  pub importing : (file out : List ℕ) → Imports file out → Clear (wrongSize file) → Clear (manyFacets file) → Clear (manyPoints file)
+  pub importing : (file out : List ℕ) → Imports file out → Clear (wrongSize (length file) (facets file)) → Clear (manyFacets (facets file)) → Clear (manyPoints file)
       → TextOf points triangles out (pointsIn file) (threes (cornersIn file))
   -- the same printed into a lent buffer
   pub listing-printed : (bytes : List ℕ) → PrintsAnswered (Prints bytes)

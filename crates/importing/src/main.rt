@@ -31,7 +31,7 @@ fn count_on(room: &[u8], n: usize) -> usize
         return long;
     }
     let mut scratch = [0u8; SCRATCH];
-    let count = stl_facets::word_at(room, 80) as usize;
+    let count = stl_facets::count(room) as usize;
     let most = stl_facets::FRONT + stl_facets::FACET * count;
     while long <= most {
         let more = io::read_full(STDIN_FILENO, &mut scratch);

@@ -12,8 +12,7 @@ use Rattle.surface_rules.specs.Threes.{threes}
 use Rattle.text_rules.specs.Text.{TextOf}
 use Rattle.text_rules.specs.Room.{ReadInto}
 use Rattle.text_sheet.specs.Sheet.{points, triangles}
-use Rattle.stl_facets.specs.Facets.{front, facetBytes}
-use Rattle.stl_rules.specs.File.{facets}
+use Rattle.stl_facets.specs.Facets.{front, facetBytes, facets}
 use Rattle.stl_rules.specs.Reading.{pointsIn, cornersIn, fileRefusal}
 use Rattle.program_lines.specs.Lines.{answerLine}
 

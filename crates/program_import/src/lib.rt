@@ -40,7 +40,7 @@ pub fn import(room: &mut [u8], n: usize, long: usize) -> usize
     ensures { λ r. ⌜ ImportsIn (was room) n long r (left room) ⌝ }
 {
     if n == room.len() {
-        let size = stl_read::sized(long, stl_facets::word_at(room, 80));
+        let size = stl_read::sized(long, stl_facets::count(room));
         return program_lines::put_answer(room, size);
     }
     let mut words = [0u32; Surface::WORDS];

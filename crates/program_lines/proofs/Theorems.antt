@@ -16,6 +16,11 @@ use Rattle.text_rules.specs.Text.{feed}
 use Rattle.text_sheet.specs.Sheet.{comma}
 use Rattle.program_lines.specs.Lines.{joined, line, answerLine}
 use Rattle.program_lines.specs.Printout.{PrintOutcome, printedOver, PrintsOver}
+use Rattle.program_lines.proofs.Laws.Answering.{line-most}
+
+-- the room that an answer's line is lent, so that a buffer is too short exactly if it is shorter
+pub line-room : line-most ≡ 48
+line-room = refl
 
 -- a number that is ended by no digit is told by what begins with it
 ended-apart : (e n m : ℕ) (r s : List ℕ) → 10 ≤ valueOf e → (decimal n ++ (e ∷ [])) ++ r ≡ (decimal m ++ (e ∷ [])) ++ s → (n ≡ m) × (r ≡ s)

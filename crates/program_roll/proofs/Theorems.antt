@@ -22,6 +22,11 @@ use Rattle.program_roll.specs.Sections.{head, between, Sections, first, 
 use Rattle.program_roll.specs.Workings.Roll.{Begins, Puts, Fills}
 use Rattle.program_roll.proofs.Laws.Between.{between-joins}
 use Rattle.program_roll.proofs.Laws.Whole.{first-put, first-bytes}
+use Rattle.program_roll.proofs.Laws.Whole.{listing-most}
+
+-- the room that a listing is lent, so that a buffer is too short exactly if it is shorter
+pub listing-room : listing-most ≡ 161424
+listing-room = refl
 
 abbrev marked : ℕ → ℕ → ℕ → ℕ → Progress
 marked l v c b = record { loops = l; vertices = v; corners = c; bytes = b }

@@ -1,4 +1,4 @@
--- What stands at a place of a file of facets: a word of four bytes, the lowest first; a corner of three floats; a facet of three corners.
+-- What stands at a place of a file of facets: a word of four bytes, the lowest first; the count; a corner of three floats; a facet of three corners.
 use mathlib.Core.Bool.{Bool, cond}
 use mathlib.Core.List.{List, [], _∷_}
 use Prim.Native.Nat.{ℕ, _+_, _*_, _^_}
@@ -20,6 +20,10 @@ facetBytes = 50
 -- four bytes, the lowest first
 unfoldable pub wordAt : List ℕ → ℕ → ℕ
 wordAt b at = getD b at 0 + 256 * getD b (at + 1) 0 + 65536 * getD b (at + 2) 0 + 16777216 * getD b (at + 3) 0
+
+-- the count, behind the header
+abbrev pub facets : List ℕ → ℕ
+facets b = wordAt b 80
 
 -- "negative zero read as zero"
 unfoldable pub plainZero : ℕ → ℕ

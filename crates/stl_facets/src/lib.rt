@@ -7,10 +7,12 @@ ghost use lib.ListN.{length};
 ghost use lib.Ieee.{binary32, ofBits};
 ghost use Rattle.base_types.specs.Lent.{was, left};
 ghost use Rattle.surface_rules.specs.Buffers.{over};
-ghost use Rattle.stl_facets.specs.Facets.{front, facetBytes, wordAt, plainZero, plainAt, cornerAt, facetOf, holdsFacet, facetAt, behind, floatsOf};
+ghost use Rattle.stl_facets.specs.Facets.{front, facetBytes, wordAt, facets, plainZero, plainAt, cornerAt, facetOf, holdsFacet, facetAt, behind, floatsOf};
 
-// Where the facets begin, behind the header and the count.
-pub const FRONT: usize = 84;
+// Where the count stands, behind the header, and where the facets begin, behind the count.
+const HEADER: usize = 80;
+
+pub const FRONT: usize = HEADER + 4;
 
 // How many bytes a facet has.
 pub const FACET: usize = 50;
@@ -52,6 +54,14 @@ pub fn word_at(file: &[u8], at: usize) -> u32
     let c = wide(file[at + 2]);
     let d = wide(file[at + 3]);
     a + 256 * b + 65536 * c + 16777216 * d
+}
+
+// How many facets a file says that it has.
+pub fn count(file: &[u8]) -> u32
+    requires { ⌜ front ≤ length (now file) ⌝ }
+    ensures { λ r. ⌜ r ≡ facets (was file) ⌝ }
+{
+    word_at(file, HEADER)
 }
 
 // The float with these bits. The machine's cast is not defined at the patterns that are no number's, and all of these are one float.
@@ -190,4 +200,12 @@ pub fn hand_out(file: &[u8], at: usize) -> Step
     ensures { λ r. ⌜ r ≡ facetAt (was file) at ⌝ }
 {
     next(resumed(file, at))
+}
+
+// Where a reader at a place goes on. Its callers pass no reader either.
+pub fn move_on(file: &[u8], at: usize) -> usize
+    ensures { λ r. ⌜ r ≡ behind (was file) at ⌝ }
+{
+    let reader = past(resumed(file, at));
+    reader.at
 }

@@ -4,7 +4,8 @@ use mathlib.Core.List.{List}
 use Prim.Native.Nat.{ℕ, zero, suc, _*_, _≤_}
 use native.Mathlib.Omega.{arith}
 use lib.ListN.{length}
-use Rattle.stl_rules.specs.File.{facets, cornersTo, agree, pointAt, cornerPlace}
+use Rattle.stl_facets.specs.Facets.{facets}
+use Rattle.stl_rules.specs.File.{cornersTo, agree, pointAt, cornerPlace}
 use Rattle.stl_rules.specs.Reading.{none, allCorners, pointsIn}
 use Rattle.stl_rules.proofs.Laws.Uses.{more-length, uses-few}
 

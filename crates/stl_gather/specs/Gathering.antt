@@ -5,8 +5,7 @@ use Prim.Native.Nat.{ℕ, _+_, _*_, _<_, _≤_}
 use lib.ListN.{length, take, replicate}
 use Rattle.base_limits.specs.Limits as limits
 use Rattle.surface_rules.specs.Threes.{flat}
-use Rattle.stl_facets.specs.Facets.{front, facetBytes}
-use Rattle.stl_rules.specs.File.{facets}
+use Rattle.stl_facets.specs.Facets.{front, facetBytes, facets}
 use Rattle.stl_rules.specs.Reading.{pointsIn, cornersIn}
 use Rattle.stl_gather.specs.declared.Met.{Met}
 use Rattle.stl_gather.specs.declared.Met.the-variants.{Points, TooMany}

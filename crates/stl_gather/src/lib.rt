@@ -2,11 +2,13 @@
 // A caller lends the chains: by bucket the last point, and for each point the one before it in its bucket, numbered from 1, where
 // 0 ends a chain. There are as many buckets as there are heads, and at most as many points as there are links.
 ghost use mathlib.Core.Path.{_≡_};
-ghost use Prim.Native.Nat.{_+_, _<_};
+ghost use Prim.Native.Nat.{_+_, _*_, _<_};
 ghost use lib.ListN.{length};
 ghost use Rattle.base_types.specs.Lent.{was, left};
 ghost use Rattle.stl_gather.specs.Gathering.{GatherRoom, Gathers};
-ghost use Rattle.stl_gather.specs.Workings.Racks.{bucketOf, SeekRoom, Seeks, rack, SettleRoom, Settled, FacetRoom};
+ghost use Rattle.surface_rules.specs.Threes.{three};
+ghost use Rattle.stl_rules.specs.File.{agree};
+ghost use Rattle.stl_gather.specs.Workings.Racks.{bucketOf, pointIn, SeekRoom, Seeks, rack, SettleRoom, Settled, FacetRoom};
 use surface_rules::Found;
 
 // How many points were met, or that there are more than there are links.
@@ -54,13 +56,18 @@ fn settle_facet(
     requires { ⌜ FacetRoom (now file) (rack (now ws) (now cs) (now heads) (now links)) at i n ⌝ }
     ensures { λ r. ⌜ Settled (was file) (rack (left ws) (left cs) (left heads) (left links)) (i + 3) r ⌝ }
 {
-    let Met::Points(p) = settle(file, ws, cs, heads, links, at, i, n) else {
-        return Met::TooMany;
-    };
-    let Met::Points(q) = settle(file, ws, cs, heads, links, at + 12, i + 1, p) else {
-        return Met::TooMany;
-    };
-    settle(file, ws, cs, heads, links, at + 24, i + 2, q)
+    let mut place = at;
+    let mut corner = i;
+    let mut points = n;
+    while corner < i + 3 {
+        let Met::Points(m) = settle(file, ws, cs, heads, links, place, corner, points) else {
+            return Met::TooMany;
+        };
+        points = m;
+        place += 12;
+        corner += 1;
+    }
+    Met::Points(points)
 }
 
 // Corner i stands at a place: its point is one of the n met and has a number already, or gets the next.
@@ -98,24 +105,42 @@ fn settle(
     Met::Points(n + 1)
 }
 
-// The point with these words in the chain from `last` on.
+// The point with these words in the chain from `last` on. Nearly always it is the first one looked at, or there is none to look at, so
+// that one is looked at before the loop.
 fn seek(ws: &[u32], links: &[u16], last: u16, a: u32, b: u32, c: u32) -> Found
     requires { ⌜ SeekRoom (now ws) (now links) last a b c ⌝ }
     ensures { λ r. ⌜ Seeks (was ws) a b c last r ⌝ }
 {
-    let mut g = last as usize;
+    if last == 0 {
+        return Found::Nothing;
+    }
+    let e = last as usize - 1;
+    if has_words(ws, e, a, b, c) {
+        return Found::At(e);
+    }
+    let mut g = links[e] as usize;
     while 0 < g {
-        let e = g - 1;
-        if ws[3 * e] == a {
-            if ws[3 * e + 1] == b {
-                if ws[3 * e + 2] == c {
-                    return Found::At(e);
-                }
-            }
+        let k = g - 1;
+        if has_words(ws, k, a, b, c) {
+            return Found::At(k);
         }
-        g = links[e] as usize;
+        g = links[k] as usize;
     }
     Found::Nothing
+}
+
+// Whether point k has these words.
+fn has_words(ws: &[u32], k: usize, a: u32, b: u32, c: u32) -> bool
+    requires { ⌜ 3 * k + 2 < length (now ws) ⌝ }
+    ensures { λ r. ⌜ r ≡ agree (pointIn (was ws) k) (three a b c) ⌝ }
+{
+    if ws[3 * k] != a {
+        return false;
+    }
+    if ws[3 * k + 1] != b {
+        return false;
+    }
+    ws[3 * k + 2] == c
 }
 
 // Of `size` buckets, that of a point with these words. The words of a mesh differ in their high bits or in their low ones, and the

@@ -6,7 +6,6 @@ use Prim.Native.Nat.{ℕ, zero, suc, _+_, _*_, _<_, _≤_}
 use native.Mathlib.Omega.{arith}
 use lib.ListN.{length, getD, List·getD-append}
 use lib.Ieee.{binary32, ofBits}
-use borrow.Author.Tests.{leb-true}
 use Rattle.base_answers.specs.Numbers.{refusing}
 use Rattle.base_answers.specs.declared.Answer.{Answer}
 use Rattle.base_answers.specs.declared.Answer.the-variants.{Done}
@@ -18,10 +17,10 @@ use Rattle.text_sheet.specs.Sheet.{points, triangles}
 use Rattle.text_read.specs.Outcome.{ReadOutcome, notRead, deliver, Reads}
 use Rattle.stl_facets.specs.declared.Corner.{Corner}
 use Rattle.stl_facets.specs.declared.Step.the-variants.{Given, End}
-use Rattle.stl_facets.specs.Facets.{front, facetBytes, cornerAt, facetOf, facetAt, behind}
+use Rattle.stl_facets.specs.Facets.{front, facetBytes, facets, cornerAt, facetOf, facetAt, behind}
 use Rattle.stl_facets.proofs.Laws.{at-end, is-given, stays, goes-on}
-use Rattle.stl_rules.specs.File.{facets, fits, pointAt, cornerPlace, agree}
-use Rattle.stl_rules.specs.Reading.{none, pointsIn, cornersIn, sizeRefusal, fileRefusal, readRefusal, readsFile}
+use Rattle.stl_rules.specs.File.{fits, pointAt, cornerPlace, agree}
+use Rattle.stl_rules.specs.Reading.{none, pointsIn, cornersIn, fileRefusal, readRefusal, readsFile}
 use Rattle.stl_rules.proofs.Laws.Files as files
 use Rattle.stl_rules.proofs.Laws.Sizes.{fits-says}
 use Rattle.stl_read.proofs.Laws.Reading.{file-says, delivers}

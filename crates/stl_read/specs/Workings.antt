@@ -10,7 +10,7 @@ use Rattle.base_limits.specs.Limits as limits
 use Rattle.surface_rules.specs.Buffers.{over}
 use Rattle.surface_rules.specs.Refusals.{bufferRefusal}
 use Rattle.text_read.specs.Outcome.{ReadOutcome, notRead}
-use Rattle.stl_rules.specs.File.{facets}
+use Rattle.stl_facets.specs.Facets.{facets}
 use Rattle.stl_rules.specs.Reading.{pointsIn, sizeRefusal}
 use Rattle.stl_gather.specs.Gathering.{GatherRoom}
 

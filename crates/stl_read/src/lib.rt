@@ -140,7 +140,7 @@ pub fn read(file: &[u8], words: &mut [u32], corners: &mut [u16]) -> ReadSheet
     if file.len() < stl_facets::FRONT {
         return text_read::refused(Answer::Misfit);
     }
-    let count = stl_facets::word_at(file, 80);
+    let count = stl_facets::count(file);
     let fit = sized(file.len(), count);
     if fit.refuses() {
         return text_read::refused(fit);

@@ -3,13 +3,8 @@ use mathlib.Core.Bool.{Bool, _&&_}
 use mathlib.Core.List.{List, [], _∷_, _++_}
 use Prim.Native.Nat.{ℕ, zero, suc, _+_, _*_, _/_, _%_}
 use lib.Dec.{eqb, leb}
-use lib.ListN.{length}
 use Rattle.surface_rules.specs.Threes.{Three, three}
-use Rattle.stl_facets.specs.Facets.{front, facetBytes, wordAt, plainAt}
-
--- the count, behind the header
-abbrev pub facets : List ℕ → ℕ
-facets b = wordAt b 80
+use Rattle.stl_facets.specs.Facets.{front, facetBytes, plainAt}
 
 -- not "fewer than 84 bytes or a length that isn't 84 plus 50 times the count": over whole numbers
 unfoldable pub fits : ℕ → ℕ → Bool

@@ -12,8 +12,9 @@ use Rattle.surface_rules.specs.Buffers.{over}
 use Rattle.surface_rules.specs.Refusals.{thenCheck, bufferRefusal}
 use Rattle.surface_rules.specs.Threes.{Three, three, flat}
 use Rattle.text_read.specs.Outcome.{ReadOutcome, notRead}
+use Rattle.stl_facets.specs.Facets.{facets}
 use Rattle.stl_rules.specs.FirstUse.{firstUses, numbers}
-use Rattle.stl_rules.specs.File.{facets, fits, cornersTo, agree}
+use Rattle.stl_rules.specs.File.{fits, cornersTo, agree}
 
 abbrev pub none : Three
 none = three 0 0 0

@@ -325,7 +325,7 @@ pub extern "C" fn wazelpunt_facet(file: &[u8], at: &mut usize, floats: &mut [f32
         Step::End => 0,
         Step::Given(facet) => {
             stl_facets::lay(facet, floats);
-            *at = stl_facets::after(file, *at);
+            *at = stl_facets::move_on(file, *at);
             FLOATS
         }
     }

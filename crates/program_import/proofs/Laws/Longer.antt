@@ -12,8 +12,7 @@ use Rattle.base_answers.specs.declared.Answer.{Answer}
 use Rattle.base_answers.specs.declared.Answer.the-variants.{Misfit}
 use Rattle.base_limits.specs.Limits as limits
 use Rattle.surface_rules.proofs.Laws.Thens.{then-refused}
-use Rattle.stl_facets.specs.Facets.{front, facetBytes, wordAt}
-use Rattle.stl_rules.specs.File.{facets}
+use Rattle.stl_facets.specs.Facets.{front, facetBytes, facets, wordAt}
 use Rattle.stl_rules.specs.Reading.{sizeRefusal, fileRefusal}
 use Rattle.stl_rules.proofs.Laws.Sizes.{misfit-other, size-says}
 use Rattle.program_lines.specs.Lines.{answerLine}

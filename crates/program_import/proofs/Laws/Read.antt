@@ -20,7 +20,8 @@ use Rattle.check_shape.proofs.Laws.Refusing.{counts-done}
 use Rattle.text_rules.specs.Text.{TextOf}
 use Rattle.text_sheet.specs.Sheet.{points, triangles}
 use Rattle.text_read.specs.Outcome.{ReadOutcome, notRead}
-use Rattle.stl_rules.specs.File.{facets, fits}
+use Rattle.stl_facets.specs.Facets.{facets}
+use Rattle.stl_rules.specs.File.{fits}
 use Rattle.stl_rules.specs.Reading.{pointsIn, cornersIn, sizeRefusal, fileRefusal, readRefusal, readsFile}
 use Rattle.stl_rules.proofs.Laws.Files.{corners-count, all-named}
 use Rattle.program_import.specs.Importing.{Imports}

@@ -31,12 +31,12 @@ by-size : tie.Need-returns
 by-size c =
     let s : tie.Start = search in
     let t : tie.Then1 = search in
-    let w : tie.After-word-at = search in
+    let w : tie.After-count = search in
     let z : tie.After-sized = search in
     let u : tie.After-put-answer = search in
     record {
       out = answerLine (z .sized .result);
-      due = λ input seen. longer-imports (s .pre .0) (t .if1 .taken) seen (z .sized .ensures ∙ ap (sizeRefusal (s .args .long)) (w .word-at .ensures));
+      due = λ input seen. longer-imports (s .pre .0) (t .if1 .taken) seen (z .sized .ensures ∙ ap (sizeRefusal (s .args .long)) (w .count .ensures));
       many = u .put-answer .ensures .0 .1;
       lies = u .put-answer .ensures .0 .0;
     }

@@ -1,6 +1,6 @@
 -- A point with certain words is in the bucket of these words.
 use mathlib.Core.Path.{_≡_, refl, sym, ap, _∙_}
-use mathlib.Core.Bool.{Bool, true, false, _&&_, true≢false}
+use mathlib.Core.Bool.{Bool, true, false, true≢false}
 use mathlib.Core.List.{List}
 use Prim.Native.Nat.{ℕ, zero, suc, _-_, _<_, _≤_}
 use native.Mathlib.Nat.{le-refl}
@@ -9,31 +9,14 @@ use lib.Bits.{and-le-r}
 use lib.Dec.{eqb}
 use lib.ListN.{getD}
 use borrow.Author.Tests.{eqb-true, eq-eqb, ne-eqb}
-use Rattle.surface_rules.specs.Threes.{Three, three}
-use Rattle.surface_rules.proofs.Laws.Tests.{not-so, both-true}
+use Rattle.surface_rules.specs.Threes.{Three}
+use Rattle.surface_rules.proofs.Laws.Tests.{not-so}
 use Rattle.surface_twins.specs.Workings.Chains.{top}
 use Rattle.surface_twins.proofs.Laws.Tops.{top-says, top-never}
 use Rattle.stl_rules.specs.File.{agree}
 use Rattle.stl_rules.specs.Reading.{none}
+use Rattle.stl_rules.proofs.Laws.Files.{agree-says}
 use Rattle.stl_gather.specs.Workings.Racks.{mixed, bucketOf, bucketAt, home, inBucket}
-
--- ---- points that agree
-
-pub all-three : {a b c x y z : ℕ} → a ≡ x → b ≡ y → c ≡ z → three a b c ≡ three x y z
-all-three p q r = rw (p, q, r)
-
-pub agree-says : {p q : Three} → agree p q ≡ true → p ≡ q
-unfolding agree
-agree-says {p} {q} e =
-    let s = both-true (eqb (p .first) (q .first) && eqb (p .second) (q .second)) (eqb (p .third) (q .third)) e in
-    let t = both-true (eqb (p .first) (q .first)) (eqb (p .second) (q .second)) (s .0) in
-    all-three (eqb-true _ _ (t .0)) (eqb-true _ _ (t .1)) (eqb-true _ _ (s .1))
-
-pub agree-self : (p : Three) → agree p p ≡ true
-unfolding agree
-agree-self p = rw (eq-eqb (p .first) (p .first) refl, eq-eqb (p .second) (p .second) refl, eq-eqb (p .third) (p .third) refl)
-
--- ---- buckets
 
 -- a mask leaves no more than itself
 pub bucket-small : (size a b c : ℕ) → 0 < size → bucketOf size a b c < size
@@ -56,7 +39,7 @@ module _ (size : ℕ) (met : List Three) (b k : ℕ) where
 -- what is in another bucket has other words
 pub other-words : (size : ℕ) (met : List Three) (k : ℕ) (p : Three) → inBucket size met (bucketAt size p) k ≡ false → agree (getD met k none) p ≡ false
 unfolding home
-other-words size met k p e = not-so _ (λ q. true≢false (sym (bucket-home size met _ k (ap (bucketAt size) (agree-says q))) ∙ e))
+other-words size met k p e = not-so _ (λ q. true≢false (sym (bucket-home size met _ k (ap (bucketAt size) (agree-says _ _ q))) ∙ e))
 
 module _ (size : ℕ) (met : List Three) (b n last : ℕ) (e : last ≡ top (inBucket size met b) n) where
   -- the head of a chain is in its bucket

@@ -8,16 +8,16 @@ use lib.ListN.{length, getD, take}
 use borrow.Author.Tests.{leb-true, leb-false}
 use Rattle.base_limits.specs.Limits as limits
 use Rattle.surface_rules.specs.Threes.{Three, three, flat}
-use Rattle.stl_facets.specs.Facets.{front, facetBytes, holdsFacet, behind}
+use Rattle.stl_facets.specs.Facets.{front, facetBytes, facets, holdsFacet, behind}
 use Rattle.stl_rules.specs.FirstUse.{stands, indexOr, numbers}
-use Rattle.stl_rules.specs.File.{facets, cornersTo, agree, pointAt, cornerPlace}
+use Rattle.stl_rules.specs.File.{cornersTo, agree, pointAt, cornerPlace}
 use Rattle.stl_rules.specs.Reading.{none, pointsIn, cornersIn}
+use Rattle.stl_rules.proofs.Laws.Files.{agree-self}
 use Rattle.stl_rules.proofs.Laws.Uses.{uses-distinct, stands-at}
 use Rattle.stl_gather.specs.declared.Met.{Met}
 use Rattle.stl_gather.specs.declared.Met.the-variants.{Points, TooMany}
 use Rattle.stl_gather.specs.Gathering.{GatherRoom, Gathers}
 use Rattle.stl_gather.specs.Workings.Racks.{pointIn, Kept, Named, metBy, Rack, rack, RackedTo, SettleRoom, Settled, FacetRoom}
-use Rattle.stl_gather.proofs.Laws.Buckets.{agree-self}
 use Rattle.stl_gather.proofs.Laws.Racks.{met-grows, rack-begins}
 
 -- ---- what a call of `settle` says, where i is written as j
@@ -38,29 +38,75 @@ module _ (file : List ℕ) (w : Rack) (i : ℕ) (r : Met) (s : Settled file w i 
   unfolding Settled
   settled-stops e j q = settled-full e j q
 
-  pub settled-at : {j : ℕ} → i ≡ j → Settled file w j r
-  settled-at q = subst (λ (z : ℕ). Settled file w z r) q s
+-- the rack's lists are as long as they were
+pub record SameSizes (w₀ w : Rack) : Type 0 where
+  pub words-same : length (w .words) ≡ length (w₀ .words)
+  pub corners-same : length (w .corners) ≡ length (w₀ .corners)
+  pub heads-same : length (w .heads) ≡ length (w₀ .heads)
+  pub links-same : length (w .links) ≡ length (w₀ .links)
+
+sizes-begin : (w : Rack) → SameSizes w w
+sizes-begin w = record { words-same = refl; corners-same = refl; heads-same = refl; links-same = refl }
+
+sizes-go-on : {w₀ w w′ : Rack} → SameSizes w₀ w → SameSizes w w′ → SameSizes w₀ w′
+sizes-go-on s t =
+    record {
+      words-same = t .words-same ∙ s .words-same;
+      corners-same = t .corners-same ∙ s .corners-same;
+      heads-same = t .heads-same ∙ s .heads-same;
+      links-same = t .links-same ∙ s .links-same;
+    }
 
 -- ---- a facet's corners
 
-module _ {file : List ℕ} {w : Rack} {at i n : ℕ} (room : FacetRoom file w at i n) where
-  -- the next, after d of them
-  pub facet-next : (d : ℕ) → d < 3 → {at′ i′ : ℕ} → at′ ≡ at + 12 * d → i′ ≡ i + d → {w′ : Rack} {p : ℕ} → RackedTo file w′ i′ p → length (w′ .corners) ≡ length (w .corners) → SettleRoom file w′ at′ i′ p
-  unfolding cornerPlace
-  facet-next d l ea ei racked e =
-      record {
-        racked = racked;
-        place = omega (arith, ea, ei, room .first, room .place);
-        inside = omega (arith, room .inside);
-        room = omega (arith, room .room);
-      }
+-- so many of the three are done
+pub record Turning (file : List ℕ) (w₀ w : Rack) (at i n place corner points : ℕ) : Type 0 where
+  pub room : FacetRoom file w₀ at i n
+  pub racked : RackedTo file w corner points
+  pub done : ℕ
+  pub there : place ≡ at + 12 * done
+  pub next : corner ≡ i + done
+  pub within : done ≤ 3
+  pub same : SameSizes w₀ w
 
-  pub facet-first : SettleRoom file w at i n
-  facet-first = facet-next 0 (omega arith) (omega arith) (omega arith) (room .racked) refl
+pub facet-begins : {file : List ℕ} {w : Rack} {at i n : ℕ} → FacetRoom file w at i n → Turning file w w at i n at i n
+facet-begins {w = w} room = record { room = room; racked = room .racked; done = 0; there = omega arith; next = omega arith; within = omega arith; same = sizes-begin w }
+
+module _ {file : List ℕ} {w₀ w : Rack} {at i n place corner points : ℕ} (t : Turning file w₀ w at i n place corner points) where
+  pub facet-few : (place < 65536) × (corner < 65536)
+  facet-few = let r = t .room in (omega (arith, t .there, t .within, r .few, r .place), omega (arith, t .next, t .within, r .few, r .first))
+
+  pub facet-ends : i + 3 ≤ corner → Settled file w (i + 3) (Points points)
+  unfolding Settled
+  facet-ends l = subst (λ (z : ℕ). RackedTo file w z points) (let z : corner ≡ i + 3 = omega (arith, t .next, t .within) in z) (t .racked)
+
+  module _ (more : corner < i + 3) where
+    pub facet-corner : SettleRoom file w place corner points
+    unfolding cornerPlace
+    facet-corner =
+        let r = t .room in
+        record {
+          racked = t .racked;
+          place = omega (arith, more, t .there, t .next, r .first, r .place);
+          inside = omega (arith, more, t .there, t .next, r .inside);
+          room = omega (arith, more, t .same .corners-same, r .room);
+        }
+
+    pub facet-goes-on : {w′ : Rack} {r : Met} {m : ℕ} → Settled file w′ (corner + 1) r → r ≡ Points m → SameSizes w w′ → Turning file w₀ w′ at i n (place + 12) (corner + 1) m
+    facet-goes-on {w′} {r} s e same =
+        record {
+          room = t .room;
+          racked = settled-racked file w′ (corner + 1) r s e refl;
+          done = t .done + 1;
+          there = omega (arith, t .there);
+          next = omega (arith, t .next);
+          within = omega (arith, more, t .next);
+          same = sizes-go-on (t .same) same;
+        }
 
 -- ---- the whole file
 
--- so many facets are done, and the buffers are as long as they were
+-- so many facets are done
 pub record Going (file : List ℕ) (w₀ w : Rack) (at i n : ℕ) : Type 0 where
   pub racked : RackedTo file w i n
   pub done : ℕ
@@ -70,13 +116,10 @@ pub record Going (file : List ℕ) (w₀ w : Rack) (at i n : ℕ) : Type 0 where
   pub whole : length file ≡ front + facetBytes * facets file
   pub few : facets file ≤ limits.triangles
   pub room : 3 * facets file ≤ length (w .corners)
-  pub words-same : length (w .words) ≡ length (w₀ .words)
-  pub corners-same : length (w .corners) ≡ length (w₀ .corners)
-  pub heads-same : length (w .heads) ≡ length (w₀ .heads)
-  pub links-same : length (w .links) ≡ length (w₀ .links)
+  pub same : SameSizes w₀ w
 
 pub going-begins : {file ws cs heads links : List ℕ} → GatherRoom file ws cs heads links → Going file (rack ws cs heads links) (rack ws cs heads links) front 0 0
-going-begins g =
+going-begins {ws = ws} {cs = cs} {heads = heads} {links = links} g =
     record {
       racked = rack-begins g;
       done = 0;
@@ -86,10 +129,7 @@ going-begins g =
       whole = g .whole;
       few = g .few;
       room = g .room;
-      words-same = refl;
-      corners-same = refl;
-      heads-same = refl;
-      links-same = refl;
+      same = sizes-begin (rack ws cs heads links);
     }
 
 -- the numbers of all corners
@@ -133,7 +173,7 @@ module _ {file : List ℕ} {w₀ w : Rack} {at i n : ℕ} (g : Going file w₀ w
       let p : RackedTo file w (3 * facets file) n = subst (λ (z : ℕ). RackedTo file w z n) q (g .racked) in
       record {
         count = p .count;
-        within = rw (← g .links-same) (p .within);
+        within = rw (← g .same .links-same) (p .within);
         words-are =
             ap (λ (z : ℕ). take (3 * z) (w .words)) (p .count)
             ∙ take-flat (metBy file (3 * facets file)) (w .words) (omega (arith, p .count, p .within, p .words-long)) (λ j m. p .kept j (subst (λ (z : ℕ). j < z) (sym (p .count)) m));
@@ -174,15 +214,15 @@ module _ {file : List ℕ} {w₀ w : Rack} {at i n : ℕ} (g : Going file w₀ w
     unfolding behind
     going-less q = rw (q, h) (omega (arith, here))
 
-    module _ (w′ : Rack) (r : Met) (s : Settled file w′ (i + 3) r) (links : length (w′ .links) ≡ length (w .links)) where
+    module _ (w′ : Rack) (r : Met) (s : Settled file w′ (i + 3) r) (same : SameSizes w w′) where
       pub going-stops : r ≡ TooMany → (ws cs : List ℕ) → Gathers file (length (w₀ .links)) TooMany ws cs
       unfolding Gathers pointsIn metBy
-      going-stops e ws cs = rw (← g .links-same, ← links) (settled-full file w′ (i + 3) r s e (3 * facets file) (omega (arith, more, g .corner)))
+      going-stops e ws cs =
+          rw (← g .same .links-same, ← same .links-same) (settled-full file w′ (i + 3) r s e (3 * facets file) (omega (arith, more, g .corner)))
 
-      pub going-on : {m at′ : ℕ} → r ≡ Points m → at′ ≡ behind file at → length (w′ .words) ≡ length (w .words) → length (w′ .corners) ≡ length (w .corners) → length (w′ .heads) ≡ length (w .heads)
-          → Going file w₀ w′ at′ (i + 3) m
+      pub going-on : {m at′ : ℕ} → r ≡ Points m → at′ ≡ behind file at → Going file w₀ w′ at′ (i + 3) m
       unfolding behind
-      going-on e q words corners heads =
+      going-on e q =
           record {
             racked = settled-racked file w′ (i + 3) r s e refl;
             done = g .done + 1;
@@ -191,9 +231,6 @@ module _ {file : List ℕ} {w₀ w : Rack} {at i n : ℕ} (g : Going file w₀ w
             within = omega (arith, more);
             whole = g .whole;
             few = g .few;
-            room = rw corners (g .room);
-            words-same = words ∙ g .words-same;
-            corners-same = corners ∙ g .corners-same;
-            heads-same = heads ∙ g .heads-same;
-            links-same = links ∙ g .links-same;
+            room = rw (same .corners-same) (g .room);
+            same = sizes-go-on (g .same) same;
           }

@@ -21,11 +21,12 @@ use Rattle.stl_facets.specs.Facets.{plainAt}
 use Rattle.stl_rules.specs.FirstUse.{meet, meetAll, firstUses}
 use Rattle.stl_rules.specs.File.{cornersTo, agree, pointAt, cornerPlace}
 use Rattle.stl_rules.specs.Reading.{none}
+use Rattle.stl_rules.proofs.Laws.Files.{all-three, agree-self}
 use Rattle.stl_rules.proofs.Laws.Uses.{more-before, more-last, more-length, uses-more, meet-known, meet-new, meet-length}
 use Rattle.stl_gather.specs.declared.Met.the-variants.{Points, TooMany}
 use Rattle.stl_gather.specs.Gathering.{GatherRoom}
 use Rattle.stl_gather.specs.Workings.Racks.{bucketOf, bucketAt, home, inBucket, pointIn, Kept, Headed, Linked, Names, Named, metBy, Rack, rack, Racked, RackedTo, SeekRoom, Seeks, SettleRoom, Settled}
-use Rattle.stl_gather.proofs.Laws.Buckets.{all-three, agree-self, bucket-small, bucket-home, bucket-other, head-home, head-rest, top-same}
+use Rattle.stl_gather.proofs.Laws.Buckets.{bucket-small, bucket-home, bucket-other, head-home, head-rest, top-same}
 
 -- ---- the points met
 

@@ -1,21 +1,24 @@
 -- The walk along the chain of a point's words passes every point of their bucket, the last first, so that what it passed has other words.
 use mathlib.Core.Path.{_≡_, refl, sym, ap, _∙_, subst}
-use mathlib.Core.Bool.{false}
+use mathlib.Core.Bool.{true, false}
 use mathlib.Core.List.{List}
 use mathlib.Core.Logic.{⊎-elim}
 use Prim.Native.Nat.{ℕ, _+_, _-_, _*_, _<_, _≤_}
 use native.Mathlib.Omega.{arith}
 use native.Mathlib.Nat.{eq-or-lt-of-le}
+use lib.Dec.{eqb}
 use lib.ListN.{length, getD}
+use borrow.Author.Tests.{eq-eqb, ne-eqb}
 use Rattle.surface_rules.specs.declared.Found.the-variants.{At, Nothing}
 use Rattle.surface_rules.specs.Threes.{Three, three}
-use Rattle.surface_rules.proofs.Laws.Tests.{lt-or-le, not-so}
+use Rattle.surface_rules.proofs.Laws.Tests.{lt-or-le}
 use Rattle.surface_twins.specs.Workings.Chains.{top}
 use Rattle.surface_twins.proofs.Laws.Tops.{top-le}
 use Rattle.stl_rules.specs.File.{agree}
 use Rattle.stl_rules.specs.Reading.{none}
+use Rattle.stl_rules.proofs.Laws.Files.{agree-says}
 use Rattle.stl_gather.specs.Workings.Racks.{bucketOf, home, inBucket, pointIn, Kept, Linked, SeekRoom, Seeks}
-use Rattle.stl_gather.proofs.Laws.Buckets.{all-three, agree-says, head-home, head-rest}
+use Rattle.stl_gather.proofs.Laws.Buckets.{head-home, head-rest}
 
 -- the walk is at g, numbered from 1
 pub record Walking (ws links : List ℕ) (last a b c g : ℕ) : Type 0 where
@@ -30,9 +33,22 @@ pub record Standing (ws links : List ℕ) (k : ℕ) : Type 0 where
   pub link-in : k < length links
   pub back : getD links k 0 ≤ k
 
--- the words of point k are these
-abbrev pub Alike : List ℕ → ℕ → ℕ → ℕ → ℕ → Type 0
-Alike ws a b c k = (getD ws (3 * k) 0 ≡ a) × (getD ws (3 * k + 1) 0 ≡ b) × (getD ws (3 * k + 2) 0 ≡ c)
+-- ---- the words of a point
+
+module _ (ws : List ℕ) (k a b c : ℕ) where
+  pub first-other : (getD ws (3 * k) 0 ≡ a → ⊥) → false ≡ agree (pointIn ws k) (three a b c)
+  unfolding agree pointIn
+  first-other h = rw (ne-eqb _ _ h) refl
+
+  pub second-other : getD ws (3 * k) 0 ≡ a → (getD ws (3 * k + 1) 0 ≡ b → ⊥) → false ≡ agree (pointIn ws k) (three a b c)
+  unfolding agree pointIn
+  second-other p h = rw (eq-eqb _ _ p, ne-eqb _ _ h) refl
+
+  pub third-tells : getD ws (3 * k) 0 ≡ a → getD ws (3 * k + 1) 0 ≡ b → eqb (getD ws (3 * k + 2) 0) c ≡ agree (pointIn ws k) (three a b c)
+  unfolding agree pointIn
+  third-tells p q = rw (eq-eqb _ _ p, eq-eqb _ _ q) refl
+
+-- ---- the walk
 
 module _ {ws links : List ℕ} {last a b c : ℕ} where
   pub walk-begins : SeekRoom ws links last a b c → Walking ws links last a b c last
@@ -54,9 +70,9 @@ module _ {ws links : List ℕ} {last a b c : ℕ} where
       unfolding Linked
       link-is = w .room .linked (g - 1) (omega (arith, w .within)) ∙ ap (λ (z : ℕ). top (inBucket size met z) (g - 1)) (w .here more)
 
-      pub walk-found : Alike ws a b c (g - 1) → Seeks ws a b c last (At (g - 1))
-      unfolding Seeks pointIn
-      walk-found s = (omega (arith, w .within), all-three (s .0) (s .1) (s .2))
+      pub walk-found : true ≡ agree (pointIn ws (g - 1)) (three a b c) → Seeks ws a b c last (At (g - 1))
+      unfolding Seeks
+      walk-found s = (omega (arith, w .within), agree-says _ _ (sym s))
 
       pub walk-inside : Standing ws links (g - 1)
       walk-inside =
@@ -67,12 +83,10 @@ module _ {ws links : List ℕ} {last a b c : ℕ} where
             back = rw link-is (top-le (inBucket size met (bucketOf size a b c)) (g - 1));
           }
 
-      module _ (other : Alike ws a b c (g - 1) → ⊥) where
+      module _ (other : false ≡ agree (pointIn ws (g - 1)) (three a b c)) where
         here-not : agree (getD met (g - 1) none) (three a b c) ≡ false
-        unfolding Kept pointIn
-        here-not =
-            not-so _
-            (λ e. let q = w .room .kept (g - 1) (omega (arith, w .within)) ∙ agree-says e in other (ap (λ (p : Three). p .first) q, ap (λ (p : Three). p .second) q, ap (λ (p : Three). p .third) q))
+        unfolding Kept
+        here-not = ap (λ (p : Three). agree p (three a b c)) (sym (w .room .kept (g - 1) (omega (arith, w .within)))) ∙ sym other
 
         pub walk-more : Walking ws links last a b c (getD links (g - 1) 0)
         walk-more =

@@ -46,15 +46,20 @@ gather-spec =
     (λ c κs. let t : Turn = search in going-facet (loop t .loop .inv) (held t))
     (λ c. search needs)
     (λ c. search needs)
-    (λ c. let d : Done = search in let w : tie.After-ws Inv-loop μ-loop = search in w .ws .given ∙ loop (turn d) .loop .inv .words-same)
-    (λ c. let d : Done = search in let w : tie.After-cs Inv-loop μ-loop = search in w .cs .given ∙ loop (turn d) .loop .inv .corners-same)
-    (λ c. let d : Done = search in let w : tie.After-heads Inv-loop μ-loop = search in w .heads .given ∙ loop (turn d) .loop .inv .heads-same)
-    (λ c. let d : Done = search in let w : tie.After-links Inv-loop μ-loop = search in w .links .given ∙ loop (turn d) .loop .inv .links-same)
+    (λ c. let d : Done = search in let w : tie.After-ws Inv-loop μ-loop = search in w .ws .given ∙ loop (turn d) .loop .inv .same .words-same)
+    (λ c. let d : Done = search in let w : tie.After-cs Inv-loop μ-loop = search in w .cs .given ∙ loop (turn d) .loop .inv .same .corners-same)
+    (λ c. let d : Done = search in let w : tie.After-heads Inv-loop μ-loop = search in w .heads .given ∙ loop (turn d) .loop .inv .same .heads-same)
+    (λ c. let d : Done = search in let w : tie.After-links Inv-loop μ-loop = search in w .links .given ∙ loop (turn d) .loop .inv .same .links-same)
     (λ c.
     let d : Done = search in
     let t = turn d in
-    let w : tie.After-links Inv-loop μ-loop = search in
-    going-stops (loop t .loop .inv) (held t) _ _ (d .settle-facet .ensures) (w .links .given) (c .enum-told .given .1) _ _)
+    let w : tie.After-ws Inv-loop μ-loop = search in
+    let x : tie.After-cs Inv-loop μ-loop = search in
+    let y : tie.After-heads Inv-loop μ-loop = search in
+    let z : tie.After-links Inv-loop μ-loop = search in
+    going-stops (loop t .loop .inv) (held t) _ _ (d .settle-facet .ensures)
+    (record { words-same = w .ws .given; corners-same = x .cs .given; heads-same = y .heads .given; links-same = z .links .given })
+    (c .enum-told .given .1) _ _)
     (λ c. let d : Done = search in omega (arith, going-few (loop (turn d) .loop .inv) (held (turn d))))
     (λ c κs. search needs)
     (λ c. let d : Done = search in let a : tie.After-after Inv-loop μ-loop = search in going-less (loop (turn d) .loop .inv) (held (turn d)) (a .after .ensures))
@@ -67,9 +72,11 @@ gather-spec =
     let x : tie.After-cs Inv-loop μ-loop = search in
     let y : tie.After-heads Inv-loop μ-loop = search in
     let z : tie.After-links Inv-loop μ-loop = search in
-    going-on (loop t .loop .inv) (held t) _ _ (d .settle-facet .ensures) (z .links .given) (m .m .given .1) (a .after .ensures) (w .ws .given) (x .cs .given) (y .heads .given))
-    (λ c. let l : tie.At-loop Inv-loop μ-loop = search in l .loop .inv .words-same)
-    (λ c. let l : tie.At-loop Inv-loop μ-loop = search in l .loop .inv .corners-same)
-    (λ c. let l : tie.At-loop Inv-loop μ-loop = search in l .loop .inv .heads-same)
-    (λ c. let l : tie.At-loop Inv-loop μ-loop = search in l .loop .inv .links-same)
+    going-on (loop t .loop .inv) (held t) _ _ (d .settle-facet .ensures)
+    (record { words-same = w .ws .given; corners-same = x .cs .given; heads-same = y .heads .given; links-same = z .links .given })
+    (m .m .given .1) (a .after .ensures))
+    (λ c. let l : tie.At-loop Inv-loop μ-loop = search in l .loop .inv .same .words-same)
+    (λ c. let l : tie.At-loop Inv-loop μ-loop = search in l .loop .inv .same .corners-same)
+    (λ c. let l : tie.At-loop Inv-loop μ-loop = search in l .loop .inv .same .heads-same)
+    (λ c. let l : tie.At-loop Inv-loop μ-loop = search in l .loop .inv .same .links-same)
     (λ c. let l : tie.At-loop Inv-loop μ-loop = search in going-ends (l .loop .inv) (sym (c .before .holds-facet .ensures) ∙ c .if1 .left)))

@@ -1,64 +1,59 @@
 -- `settle_facet` settles three corners, twelve bytes from one to the next.
-use mathlib.Core.Path.{refl, _∙_}
+use mathlib.Core.Path.{_∙_}
+use Prim.Native.Nat.{_+_, _-_}
 use native.Mathlib.Omega.{arith}
 use borrow.Author.Needs.{needs}
-use Rattle.stl_gather.proofs.Laws.Facets.{settled-racked, settled-at, settled-stops, facet-first, facet-next}
+use Rattle.stl_gather.specs.Workings.Racks.{rack}
+use Rattle.stl_gather.proofs.Laws.Facets.{settled-stops, Turning, facet-begins, facet-few, facet-corner, facet-goes-on, facet-ends}
 use Rattle.stl_gather.proofs.settle_facet.Statement.{statement}
 use Rattle.stl_gather.proofs.settle_facet.Tie as tie
 
--- where the first corner was settled, and the second: what lies behind each
-abbrev entry : tie.After-settle → tie.Start
-entry s = search
+abbrev Inv-loop : tie.InvT-loop
+Inv-loop file ws₀ cs₀ heads₀ links₀ at i n place₀ corner₀ points₀ ws cs heads links place corner points =
+    Turning file (rack ws₀ cs₀ heads₀ links₀) (rack ws cs heads links) at i n place corner points
 
-abbrev first : tie.After-p → tie.After-settle
-first p = search
+abbrev μ-loop : tie.MeasureT-loop
+μ-loop file ws₀ cs₀ heads₀ links₀ at i n place₀ corner₀ points₀ ws cs heads links place corner points = i + 3 - corner
 
-abbrev known : tie.After-settle2 → tie.After-p
-known s = search
+-- where a corner is due, and where it was settled: what lies behind each
+abbrev Turn : Type 0
+Turn = tie.In-loop Inv-loop μ-loop
 
-abbrev second : tie.After-q → tie.After-settle2
-second q = search
+abbrev Done : Type 0
+Done = tie.After-settle Inv-loop μ-loop
 
-abbrev cornered : tie.After-p → tie.After-cs
-cornered p = search
-
-abbrev again : tie.After-q → tie.After-cs2
-again q = search
+abbrev turn : Done → Turn
+turn d = search
 
 pub settle-facet-spec : {M : Type 1} → statement M
 settle-facet-spec =
     tie.close
-    (tie.spec
-    (λ c κs. let s : tie.Start = search in facet-first (s .pre))
+    (tie.spec Inv-loop μ-loop
+    (λ c. let s : tie.Start Inv-loop μ-loop = search in facet-begins (s .pre))
+    (λ c. let l : tie.At-loop Inv-loop μ-loop = search in omega (arith, facet-few (l .loop .inv), l .loop .inv .next))
+    (λ c κs. let t : Turn = search in facet-corner (t .before .loop .inv) (t .loop-test .taken))
     (λ c. search needs)
     (λ c. search needs)
-    (λ c. search needs)
-    (λ c. search needs)
-    (λ c. search needs)
-    (λ c. search needs)
-    (λ c. let s : tie.After-settle = search in settled-stops _ _ _ _ (s .settle .ensures) (c .enum-told .given .1) _ (omega arith))
-    (λ c. search needs)
-    (λ c. search needs)
-    (λ c κs.
-    let p : tie.After-p = search in
-    let s = first p in
-    facet-next (entry s .pre) 1 (omega arith) refl refl (settled-racked _ _ _ _ (s .settle .ensures) (p .p .given .1) refl) (cornered p .cs .given))
-    (λ c. search needs)
-    (λ c. search needs)
-    (λ c. search needs)
-    (λ c. search needs)
-    (λ c. search needs)
-    (λ c. search needs)
-    (λ c. let s : tie.After-settle2 = search in settled-stops _ _ _ _ (s .settle2 .ensures) (c .enum-told2 .given .1) _ (omega arith))
-    (λ c. let q : tie.After-q = search in let s = entry (first (known (second q))) in omega (arith, s .pre .few, s .pre .first, s .pre .place))
-    (λ c. let q : tie.After-q = search in let s = entry (first (known (second q))) in omega (arith, s .pre .few, s .pre .first, s .pre .place))
-    (λ c κs.
-    let q : tie.After-q = search in
-    let s = second q in
-    let p = known s in
-    facet-next (entry (first p) .pre) 2 (omega arith) refl refl (settled-racked _ _ _ _ (s .settle2 .ensures) (q .q .given .1) (omega arith)) (again q .cs2 .given ∙ cornered p .cs .given))
-    (λ c. let w : tie.After-ws3 = search in let v : tie.After-ws2 = search in let u : tie.After-ws = search (known (search)) in w .ws3 .given ∙ v .ws2 .given ∙ u .ws .given)
-    (λ c. let w : tie.After-cs3 = search in let v : tie.After-cs2 = search in let u : tie.After-cs = search (known (search)) in w .cs3 .given ∙ v .cs2 .given ∙ u .cs .given)
-    (λ c. let w : tie.After-heads3 = search in let v : tie.After-heads2 = search in let u : tie.After-heads = search (known (search)) in w .heads3 .given ∙ v .heads2 .given ∙ u .heads .given)
-    (λ c. let w : tie.After-links3 = search in let v : tie.After-links2 = search in let u : tie.After-links = search (known (search)) in w .links3 .given ∙ v .links2 .given ∙ u .links .given)
-    (λ c. let s : tie.After-settle3 = search in settled-at _ _ _ _ (s .settle3 .ensures) (omega arith)))
+    (λ c. let d : Done = search in let w : tie.After-ws Inv-loop μ-loop = search in w .ws .given ∙ turn d .before .loop .inv .same .words-same)
+    (λ c. let d : Done = search in let w : tie.After-cs Inv-loop μ-loop = search in w .cs .given ∙ turn d .before .loop .inv .same .corners-same)
+    (λ c. let d : Done = search in let w : tie.After-heads Inv-loop μ-loop = search in w .heads .given ∙ turn d .before .loop .inv .same .heads-same)
+    (λ c. let d : Done = search in let w : tie.After-links Inv-loop μ-loop = search in w .links .given ∙ turn d .before .loop .inv .same .links-same)
+    (λ c. let d : Done = search in settled-stops _ _ _ _ (d .settle .ensures) (c .enum-told .given .1) _ (omega (arith, turn d .loop-test .taken)))
+    (λ c. let d : Done = search in omega (arith, facet-few (turn d .before .loop .inv)))
+    (λ c. let d : Done = search in omega (arith, facet-few (turn d .before .loop .inv)))
+    (λ c. let d : Done = search in omega (arith, turn d .loop-test .taken))
+    (λ c.
+    let d : Done = search in
+    let t = turn d in
+    let m : tie.After-m Inv-loop μ-loop = search in
+    let w : tie.After-ws Inv-loop μ-loop = search in
+    let x : tie.After-cs Inv-loop μ-loop = search in
+    let y : tie.After-heads Inv-loop μ-loop = search in
+    let z : tie.After-links Inv-loop μ-loop = search in
+    facet-goes-on (t .before .loop .inv) (t .loop-test .taken) (d .settle .ensures) (m .m .given .1)
+    (record { words-same = w .ws .given; corners-same = x .cs .given; heads-same = y .heads .given; links-same = z .links .given }))
+    (λ c. let l : tie.At-loop Inv-loop μ-loop = search in l .loop .inv .same .words-same)
+    (λ c. let l : tie.At-loop Inv-loop μ-loop = search in l .loop .inv .same .corners-same)
+    (λ c. let l : tie.At-loop Inv-loop μ-loop = search in l .loop .inv .same .heads-same)
+    (λ c. let l : tie.At-loop Inv-loop μ-loop = search in l .loop .inv .same .links-same)
+    (λ c. facet-ends (c .before .loop .inv) (c .loop-test .left)))

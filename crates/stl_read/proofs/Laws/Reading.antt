@@ -1,5 +1,5 @@
 -- Reading, case by case, in the order of its refusals.
-use mathlib.Core.Path.{_≡_, refl, sym, ap, ap₂, _∙_}
+use mathlib.Core.Path.{_≡_, refl, sym, ap, _∙_}
 use mathlib.Core.Bool.{Bool, true, false, true≢false, cond}
 use mathlib.Core.List.{List, [], _∷_}
 use Prim.Native.Nat.{ℕ, _*_, _/_, _≤_, _<_}
@@ -18,8 +18,7 @@ use Rattle.surface_rules.proofs.Laws.Threes.{flat-length}
 use Rattle.text_read.specs.declared.ReadSheet.{ReadSheet}
 use Rattle.text_read.specs.Outcome.{ReadOutcome, readOutcome, notRead, deliver}
 use Rattle.text_read.proofs.Laws.Deliver.{Refused, not-read}
-use Rattle.stl_facets.specs.Facets.{front}
-use Rattle.stl_rules.specs.File.{facets}
+use Rattle.stl_facets.specs.Facets.{front, facets}
 use Rattle.stl_rules.specs.Reading.{pointsIn, cornersIn, sizeRefusal, fileRefusal, readRefusal, readsFile}
 use Rattle.stl_rules.proofs.Laws.Files.{corners-count, all-named}
 use Rattle.stl_rules.proofs.Laws.Sizes.{misfit-short}

@@ -1,5 +1,5 @@
 -- Little scratch is enough for a file of few facets, and for any other that for a whole surface.
-use mathlib.Core.Path.{_≡_, refl, sym, ap, ap₂, _∙_, subst}
+use mathlib.Core.Path.{_≡_, sym, ap, ap₂, _∙_, subst}
 use mathlib.Core.List.{List, [], _∷_}
 use Prim.Native.Nat.{ℕ, zero, suc, _+_, _*_, _≤_, _<_}
 use native.Mathlib.Omega.{arith}
@@ -8,8 +8,7 @@ use Rattle.base_limits.specs.Limits as limits
 use Rattle.surface_rules.specs.Threes.{flat}
 use Rattle.surface_rules.proofs.Laws.Threes.{flat-length}
 use Rattle.text_read.specs.Outcome.{ReadOutcome}
-use Rattle.stl_facets.specs.Facets.{front, facetBytes}
-use Rattle.stl_rules.specs.File.{facets}
+use Rattle.stl_facets.specs.Facets.{front, facetBytes, facets}
 use Rattle.stl_rules.specs.Reading.{pointsIn, cornersIn, readsFile}
 use Rattle.stl_rules.proofs.Laws.Files.{corners-count}
 use Rattle.stl_rules.proofs.Laws.Sizes.{size-says}

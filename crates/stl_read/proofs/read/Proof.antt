@@ -9,14 +9,14 @@ use Rattle.stl_read.proofs.read.Tie as tie
 abbrev Fits : Type 0
 Fits = tie.Else2
 
-abbrev counted : tie.After-sized → tie.After-word-at
+abbrev counted : tie.After-sized → tie.After-count
 counted p = search
 
-abbrev entry : tie.After-word-at → tie.Start
+abbrev entry : tie.After-count → tie.Start
 entry p = search
 
-fits : (f : Fits) → let p = counted (f .before .before) in Fitting (entry p .args .file .now) (p .word-at .result)
-fits f = let q = f .before in let s = q .before in fitting _ _ (counted s .word-at .ensures) (s .sized .ensures) (q .refuses .ensures) (f .if2 .left)
+fits : (f : Fits) → let p = counted (f .before .before) in Fitting (entry p .args .file .now) (p .count .result)
+fits f = let q = f .before in let s = q .before in fitting _ _ (counted s .count .ensures) (s .sized .ensures) (q .refuses .ensures) (f .if2 .left)
 
 pub read-spec : {M : Type 1} → statement M
 read-spec =

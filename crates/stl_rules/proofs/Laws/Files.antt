@@ -3,7 +3,7 @@ use mathlib.Core.Path.{_≡_, refl, sym, ap, _∙_, subst}
 use mathlib.Core.Bool.{Bool, true, false, true≢false, cond, _&&_}
 use mathlib.Core.Logic.{⊎-elim}
 use mathlib.Core.List.{List, [], _∷_, _++_}
-use Prim.Native.Nat.{ℕ, zero, suc, _+_, _*_, _/_, _%_, _<_, _≤_}
+use Prim.Native.Nat.{ℕ, zero, suc, _+_, _*_, _/_, _<_, _≤_}
 use native.Mathlib.Omega.{arith}
 use native.Mathlib.Nat.{eq-or-lt-of-le}
 use lib.Dec.{eqb}
@@ -17,8 +17,9 @@ use Rattle.surface_rules.proofs.Laws.Lists.{map-at}
 use Rattle.surface_rules.proofs.Laws.Smallest.{never-least}
 use Rattle.surface_rules.proofs.Laws.Tests.{both-true, lt-or-le}
 use Rattle.surface_rules.proofs.Laws.Threes.{flat-length}
+use Rattle.stl_facets.specs.Facets.{facets}
 use Rattle.stl_rules.specs.FirstUse.{stands, meet, meetAll, firstUses, indexOr, numbers}
-use Rattle.stl_rules.specs.File.{facets, pointAt, cornerPlace, cornersTo, agree}
+use Rattle.stl_rules.specs.File.{pointAt, cornerPlace, cornersTo, agree}
 use Rattle.stl_rules.specs.Reading.{none, allCorners, pointsIn, cornersIn}
 use Rattle.stl_rules.proofs.Laws.Uses.{more-before, more-last, more-length, uses-more, Distinct, uses-distinct, number-stands, number-below}
 

@@ -24,4 +24,4 @@ wazelpunt-facet-spec =
     let h : tie.After-hand-out = search in
     let f : tie.After-facet = search in
     let y : tie.After-lay = search in
-    let a : tie.After-after = search in hand-given _ _ _ (l .if1 .left) (h .hand-out .ensures) (f .facet .given .1) (y .lay .ensures) (a .after .ensures)))
+    let a : tie.After-move-on = search in hand-given _ _ _ (l .if1 .left) (h .hand-out .ensures) (f .facet .given .1) (y .lay .ensures) (a .move-on .ensures)))
