@@ -57,7 +57,7 @@ __all__ = [
 ]
 
 # As in include/wazelpunt.h.
-VERSION = "1.3.0"
+VERSION = "1.3.1"
 POINTS = 1024
 TRIANGLES = 1024
 WORDS = 3072

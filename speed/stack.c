@@ -1,7 +1,8 @@
 /* How much stack each exported function takes at most: it is called on a stack that was painted before, and what is no longer painted was
    used. The stack that an empty call takes is taken off.
    stack COUNT SEED  measures on the full sheets, on plates whose hole is closed by a fan, on the files of facets that are counted, and on
-                     that many made surfaces, sets, texts and files of facets.
+                     that many made surfaces, sets, texts and files of facets; then, of the functions that patch or judge, by the longest
+                     loop that a sheet has to patch.
    stack sheet       prints one of these plates as a sheet text.
    stack facets      prints the file of facets with the most points. */
 #include <inttypes.h>
@@ -178,6 +179,42 @@ static void make_fan(size_t apex) {
     generate_lend_exactly(&surface);
 }
 
+/* What patching and judging take by the longest loop that is patched, on sheets that have as many points and triangles as there may be, and on
+   one that has few of either. */
+static void print_kind(const char *kind, struct generator *generator, void (*make)(struct generator *)) {
+    make(generator);
+    for (size_t w = 1; w < WORKS; w++) works[w].most = 0;
+    measure_on(generator);
+    printf("%-26s", kind);
+    for (size_t w = 0; w < WORKS; w++)
+        if (works[w].work == work_patch || works[w].work == work_judge || works[w].work == work_list_text || works[w].work == work_judge_texts)
+            printf(" %11zu", works[w].most - works[0].most);
+    printf("\n");
+}
+
+static void make_named(struct generator *generator, const char *name) {
+    for (size_t sheet = 0; strcmp(sheet_make(generator, sheet, &surface), name) != 0; sheet++) continue;
+}
+
+static void make_closed(struct generator *generator) { make_named(generator, "closed"); }
+static void make_fours(struct generator *generator) { make_named(generator, "plate with holes of 4"); }
+static void make_sixes(struct generator *generator) { make_named(generator, "128 holes of 6"); }
+static void make_longest(struct generator *generator) { make_named(generator, "plate with holes closed by fans"); }
+static void make_small(struct generator *generator) { make_named(generator, "plate with a hole of 8"); }
+static void make_sixteens(struct generator *generator) { sheet_make_pair(generator, &surface, 16, 16, 0); }
+static void make_seventeens(struct generator *generator) { sheet_make_pair(generator, &surface, 17, 17, 0); }
+
+static void print_kinds(struct generator *generator) {
+    printf("\n%-26s %11s %11s %11s %11s\n", "bytes by the holes", "patch", "judge", "list_text", "judge_texts");
+    print_kind("none", generator, make_closed);
+    print_kind("4", generator, make_fours);
+    print_kind("6", generator, make_sixes);
+    print_kind("16", generator, make_sixteens);
+    print_kind("17", generator, make_seventeens);
+    print_kind("64", generator, make_longest);
+    print_kind("8, in 11 triangles", generator, make_small);
+}
+
 static int print(const uint8_t *bytes, size_t length) {
     return fwrite(bytes, 1, length, stdout) != length;
 }
@@ -211,5 +248,6 @@ int main(int argc, char **argv) {
         measure_on(&generator);
     }
     for (size_t w = 1; w < WORKS; w++) printf("%-22s %8zu bytes\n", works[w].name, works[w].most - works[0].most);
+    print_kinds(&generator);
     return 0;
 }

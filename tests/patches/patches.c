@@ -312,6 +312,32 @@ static size_t compare_lengths(void) {
     return wrong;
 }
 
+/* Plates with two holes, of which the longer decides how large a table both are given: lengths on either side of each size, the longer
+   one first and last, and the same where neither hole has an allowed cover. */
+static size_t compare_pairs(uint64_t seed) {
+    static const size_t lengths[] = {3, 4, 5, 15, 16, 17, 63, 64, 65};
+    static struct generated_surface surface;
+    struct generator generator;
+    size_t many = sizeof lengths / sizeof *lengths, wrong = 0;
+    generate_start(&generator, seed);
+    for (size_t pair = 0; pair < 2 * many * many; pair++) {
+        size_t first = lengths[pair / 2 / many], second = lengths[pair / 2 % many];
+        int shut = pair % 2 == 1;
+        sheet_make_pair(&generator, &surface, first, second, shut);
+        if (pair % 16 == 0) fill(&before, sizeof before, &generator);
+        int right = agree(&surface) && said.number == 0;
+        for (size_t l = 0, holes = 0; right && l < said.loops; l++) {
+            size_t length = ours.lengths[GUARD + l], state = ours.states[GUARD + l];
+            if (state == 4) continue;
+            right = length == (holes == 0 ? first : second) && state == (length > REFERENCE_LONGEST_LOOP ? 2 : shut && length > 3 ? 3 : 1);
+            holes++;
+        }
+        wrong += !right;
+        if (!right) printf("holes of %zu and %zu%s: answered %zu, %zu\n", first, second, shut ? ", shut" : "", said.number, said.place);
+    }
+    return wrong;
+}
+
 static size_t refusals;
 
 /* A refusal leaves the buffers as they were and all counts 0. */
@@ -377,7 +403,7 @@ int main(int count, char **arguments) {
     size_t wrong = compare_sheets(seed, &sheets) + compare_refusals();
     for (size_t i = 0; i < named; i++) wrong += !shows(&examples[i]);
     for (size_t i = 0; i < closed_in; i++) wrong += !shows_holes(&holes[i]);
-    wrong += compare_lengths();
+    wrong += compare_lengths() + compare_pairs(seed);
     wrong += compare_made(many, seed);
     wrong += count < 2 && !met_all();
     for (size_t n = 4; n <= REFERENCE_LONGEST_LOOP; n++) barred_loops += barred[n];

@@ -1370,15 +1370,18 @@ static void expect_file(struct generator *generator)
     tallies[taken.answer.number == 1 ? TALLY_MANY_POINTS : taken.answer.number == 2 ? TALLY_MANY_FACETS : TALLY_MISFITS] += 1;
 }
 
-/* ---- Full sheets ---- */
+/* ---- Full sheets, and small ones with one hole ---- */
 
-/* Each full sheet has so many loops of states 1 to 4. */
+/* Each of these sheets has so many loops of states 1 to 4. Where a torus is pierced, one of the holes is the rim. */
 static void expect_sheets(uint64_t seed)
 {
     static const size_t counts[][4] = {
         {0, 0, 0, 0}, {203, 0, 0, 1}, {0, 1, 0, 1}, {0, 0, 0, 1022}, {0, 0, 0, 1}, {0, 0, 0, 1},
         {0, 0, 0, 16}, {0, 0, 0, 16}, {0, 0, 0, 16},
-        {170, 0, 0, 1}, {146, 0, 0, 1}, {78, 0, 0, 1}, {26, 0, 0, 1}, {15, 0, 0, 1}, {8, 0, 0, 481}, {15, 0, 0, 1}};
+        {170, 0, 0, 1}, {146, 0, 0, 1}, {78, 0, 0, 1}, {26, 0, 0, 1}, {15, 0, 0, 1}, {8, 0, 0, 481}, {15, 0, 0, 1},
+        {145, 0, 0, 1}, {127, 0, 0, 1}, {0, 0, 5, 611},
+        {1, 0, 0, 1}, {1, 0, 0, 1}, {1, 0, 0, 1}, {1, 0, 0, 1}, {1, 0, 0, 1},
+        {1, 0, 0, 1}, {1, 0, 0, 1}, {1, 0, 0, 1}, {1, 0, 0, 1}, {1, 0, 0, 1}};
     static struct generated_surface surface;
     struct generator generator;
     struct reference_patch_answer answer;
@@ -1396,7 +1399,7 @@ static void expect_sheets(uint64_t seed)
             faults += 1;
         }
     }
-    expect(sheet == sizeof counts / sizeof counts[0], "there are fewer full sheets");
+    expect(sheet == sizeof counts / sizeof counts[0], "there are fewer such sheets");
 }
 
 /* ---- The run ---- */

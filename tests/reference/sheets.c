@@ -231,32 +231,122 @@ static void add_flaps(struct generator *generator, struct generated_surface *sur
     }
 }
 
+/* Single triangles over all diagonals of a hole's first and last vertex: the edge between these two then lies in no allowed cover, though
+   most stretches have one. */
+static void shut_hole(struct generated_surface *surface, const uint16_t *ring, size_t length, size_t *points)
+{
+    for (size_t r = 1; r < length - 1; r++) {
+        if (r > 1) {
+            sheet_add_triangle(surface, ring[0], ring[r], *points);
+            *points += 1;
+        }
+        if (r < length - 2) {
+            sheet_add_triangle(surface, ring[length - 1], ring[r], *points);
+            *points += 1;
+        }
+    }
+}
+
+/* The ring of a plate's next hole, in a collar with the frame. */
+static void open_hole(struct generated_surface *surface, uint16_t *ring, size_t length, const uint16_t *frame, size_t *points)
+{
+    for (size_t r = 0; r < length; r++) {
+        ring[r] = (uint16_t)*points;
+        *points += 1;
+    }
+    sheet_add_collar(surface, ring, length, frame, 3);
+}
+
+/* The next frame has the newest point's edge, in turn the one to it and the one from it, the other way round. */
+static void move_frame(uint16_t *frame, size_t hole, size_t *points)
+{
+    frame[hole % 2 == 0 ? 1 : 0] = frame[2];
+    frame[2] = (uint16_t)*points;
+    *points += 1;
+}
+
 /* One plate with as many holes of that length as fit: each lies in a collar with a frame of three edges, of which one is an
    edge of the frame before. The rim is what is left of the frames. */
 static void make_plate(struct generator *generator, struct generated_surface *surface, size_t length, size_t holes,
-                       int fans, size_t flaps)
+                       int fans, size_t flaps, int shut)
 {
     uint16_t ring[REFERENCE_LONGEST_LOOP];
     uint16_t frame[3] = {0, 1, 2};
     size_t points = 3;
     for (size_t hole = 0; hole < holes; hole++) {
-        for (size_t r = 0; r < length; r++) {
-            ring[r] = (uint16_t)points;
-            points += 1;
-        }
-        sheet_add_collar(surface, ring, length, frame, 3);
+        open_hole(surface, ring, length, frame, &points);
         if (fans) {
             place_fan(surface, ring, length, length - 1 - 4 * hole % length);
         } else {
             place_hole(generator, surface, ring, length);
         }
         add_flaps(generator, surface, ring, length, flaps, &points);
-        /* the next frame has the newest point's edge, in turn the one to it and the one from it, the other way round */
-        frame[hole % 2 == 0 ? 1 : 0] = frame[2];
-        frame[2] = (uint16_t)points;
-        points += 1;
+        if (shut) {
+            shut_hole(surface, ring, length, &points);
+        }
+        move_frame(frame, hole, &points);
     }
 }
+
+void sheet_make_pair(struct generator *generator, struct generated_surface *surface, size_t first, size_t second, int shut)
+{
+    uint16_t ring[REFERENCE_LONGEST_LOOP + 1];
+    uint16_t frame[3] = {0, 1, 2};
+    size_t points = 3;
+    surface->corner_count = 0;
+    place_points(generator, surface, REFERENCE_MOST_POINTS, REFERENCE_GREATEST_COORDINATE);
+    for (size_t hole = 0; hole < 2; hole++) {
+        size_t length = hole == 0 ? first : second;
+        open_hole(surface, ring, length, frame, &points);
+        place_hole(generator, surface, ring, length);
+        if (shut && length > 3) {
+            shut_hole(surface, ring, length, &points);
+        }
+        move_frame(frame, hole, &points);
+    }
+    surface->word_count = 3 * points;
+    generate_lend_exactly(surface);
+}
+
+/* A torus of so many points in a row that closes: each has an edge to the next, to the one a stride on, and to the one after that,
+   and so two triangles. Cut out are those about every seventh point, which makes holes of six edges, or three triangles side by side at
+   every fifth, which makes holes of five. By the strides 2 mod 7 and 2 mod 5 no two holes share a point. One hole is the rim: that with
+   the greatest run. */
+static void make_pierced(struct generated_surface *surface, size_t points, size_t stride, size_t every)
+{
+    for (size_t v = 0; v < points; v++) {
+        size_t next = (v + 1) % points;
+        size_t beyond = (v + stride) % points;
+        size_t across = (v + stride + 1) % points;
+        int star = every == 7;
+        if (star ? v % 7 != 0 && next % 7 != 0 && across % 7 != 0 : v % 5 != 0) {
+            sheet_add_triangle(surface, v, next, across);
+        }
+        if (star ? v % 7 != 0 && across % 7 != 0 && beyond % 7 != 0 : v % 5 > 1) {
+            sheet_add_triangle(surface, v, across, beyond);
+        }
+    }
+}
+
+/* A cone whose tip is cut off: a hole of that length, and a foot of as many edges that runs further. */
+static void make_cut_cone(struct generator *generator, struct generated_surface *surface, size_t length)
+{
+    uint16_t ring[REFERENCE_LONGEST_LOOP];
+    uint16_t foot[REFERENCE_LONGEST_LOOP];
+    for (size_t r = 0; r < length; r++) {
+        ring[r] = (uint16_t)r;
+        foot[r] = (uint16_t)(length + r);
+    }
+    sheet_add_collar(surface, ring, length, foot, length);
+    place_hole(generator, surface, ring, length);
+    place_far(surface, foot, length);
+}
+
+/* ---- Sheets by their number ---- */
+
+/* After so many full sheets come small ones: a plate and a cut cone with one hole of each length from SMALLEST on. */
+#define FULL_SHEETS 19
+#define SMALLEST 4
 
 const char *sheet_make(struct generator *generator, size_t sheet, struct generated_surface *surface)
 {
@@ -265,9 +355,28 @@ const char *sheet_make(struct generator *generator, size_t sheet, struct generat
                                         "rims that share half", "rims that share all",
                                         "plate with holes of 3", "plate with holes of 4", "plate with holes of 10",
                                         "plate with holes of 36", "plate with holes of 64",
-                                        "plate with barred holes of 64", "plate with holes closed by fans"};
+                                        "plate with barred holes of 64", "plate with holes closed by fans",
+                                        "146 holes of 5", "128 holes of 6", "plate with shut holes of 64",
+                                        "plate with a hole of 4", "cone with a hole of 4",
+                                        "plate with a hole of 5", "cone with a hole of 5",
+                                        "plate with a hole of 6", "cone with a hole of 6",
+                                        "plate with a hole of 7", "cone with a hole of 7",
+                                        "plate with a hole of 8", "cone with a hole of 8"};
     if (sheet >= sizeof names / sizeof names[0]) {
         return 0;
+    }
+    if (sheet >= FULL_SHEETS) {
+        size_t length = SMALLEST + (sheet - FULL_SHEETS) / 2;
+        int cone = (sheet - FULL_SHEETS) % 2 == 1;
+        surface->corner_count = 0;
+        place_points(generator, surface, cone ? 2 * length : length + 3, REFERENCE_GREATEST_COORDINATE);
+        if (cone) {
+            make_cut_cone(generator, surface, length);
+        } else {
+            make_plate(generator, surface, length, 1, 0, 0, 0);
+        }
+        generate_lend_exactly(surface);
+        return names[sheet];
     }
     surface->corner_count = 0;
     place_points(generator, surface, REFERENCE_MOST_POINTS, REFERENCE_GREATEST_COORDINATE);
@@ -281,13 +390,16 @@ const char *sheet_make(struct generator *generator, size_t sheet, struct generat
     case 6: make_rims(surface, 63); break;
     case 7: make_rims(surface, 32); break;
     case 8: make_rims(surface, 0); break;
-    case 9: make_plate(generator, surface, 3, 170, 0, 0); break;
-    case 10: make_plate(generator, surface, 4, 146, 0, 0); break;
-    case 11: make_plate(generator, surface, 10, 78, 0, 0); break;
-    case 12: make_plate(generator, surface, 36, 26, 0, 0); break;
-    case 13: make_plate(generator, surface, 64, 15, 0, 0); break;
-    case 14: make_plate(generator, surface, 64, 8, 0, 60); break;
-    default: make_plate(generator, surface, 64, 15, 1, 0); break;
+    case 9: make_plate(generator, surface, 3, 170, 0, 0, 0); break;
+    case 10: make_plate(generator, surface, 4, 146, 0, 0, 0); break;
+    case 11: make_plate(generator, surface, 10, 78, 0, 0, 0); break;
+    case 12: make_plate(generator, surface, 36, 26, 0, 0, 0); break;
+    case 13: make_plate(generator, surface, 64, 15, 0, 0, 0); break;
+    case 14: make_plate(generator, surface, 64, 8, 0, 60, 0); break;
+    case 15: make_plate(generator, surface, 64, 15, 1, 0, 0); break;
+    case 16: make_pierced(surface, 730, 27, 5); break;
+    case 17: make_pierced(surface, 896, 30, 7); break;
+    default: make_plate(generator, surface, 64, 5, 0, 0, 1); break;
     }
     generate_lend_exactly(surface);
     return names[sheet];

@@ -23,7 +23,11 @@ void sheet_add_collar(struct generated_surface *surface, const uint16_t *ring, s
    are holes; the others are islands. */
 void sheet_make_cones(struct generator *generator, struct generated_surface *surface);
 
-/* The full sheet of that number, its points anywhere on the plate, buffers
+/* A plate with two holes of these lengths, up to one edge more than the longest that is patched; where they are to be shut, no allowed
+   cover is left to them; buffers exact. */
+void sheet_make_pair(struct generator *generator, struct generated_surface *surface, size_t first, size_t second, int shut);
+
+/* The sheet of that number: first full ones, then small ones with one hole; its points anywhere on the plate, buffers
    exact; gives its name, or 0 where there is no sheet of that number. */
 const char *sheet_make(struct generator *generator, size_t sheet, struct generated_surface *surface);
 

@@ -785,6 +785,19 @@ static size_t compare_sheets(uint64_t seed) {
     return sheets;
 }
 
+/* Plates with two holes of lengths on either side of each size that a table may have. */
+static void compare_pairs(uint64_t seed) {
+    static const size_t lengths[] = {3, 4, 5, 15, 16, 17, 63, 64, 65};
+    static struct generated_surface surface;
+    struct generator generator;
+    size_t many = sizeof lengths / sizeof *lengths;
+    generate_start(&generator, seed);
+    for (size_t pair = 0; pair < 2 * many * many; pair++) {
+        sheet_make_pair(&generator, &surface, lengths[pair / 2 / many], lengths[pair / 2 % many], pair % 2 == 1);
+        compare_sheet("two holes", &generator, &surface);
+    }
+}
+
 /* ---- Made sets ---- */
 
 #define STATES 6
@@ -858,6 +871,7 @@ int main(int count, char **arguments) {
     compare_sixes(EVEN_CONE, 2, 0, 0);
     compare_threes();
     compare_lengths(seed);
+    compare_pairs(seed);
     size_t sheets = compare_sheets(seed), named = cases;
     compare_made(many, seed);
     if (count < 2) met_all();

@@ -6,7 +6,7 @@ ghost use Rattle.cover_lay.specs.Workings.Patches.{PatchRoom, ThreeRoom,
 use cover_table::Least;
 
 // Finds the patch of the loop with this ring and these bars and lays it from p on; or leaves all as it is. The table's floats find it, and
-// what it weighs is the sum of its triangles as they were laid.
+// what it weighs is the sum of its triangles as they were laid. Where the bars alone shut the loop, no table is made.
 pub fn lay_patch(
     grid: &[i32],
     ring: &[u16],
@@ -21,11 +21,14 @@ pub fn lay_patch(
     if ring.len() == 4 {
         return cover_four::lay_four(grid, ring, bars, out, p);
     }
+    if cover_shut::is_shut(bars, ring.len()) {
+        return Least::Nothing;
+    }
     let least = cover_table::least_weight(grid, ring, bars, table);
     let Least::Weight(_) = least else {
         return Least::Nothing;
     };
-    let end = cover_trace::list(table, ring, out, p, 0, ring.len() - 1);
+    let end = cover_trace::list(table, ring, out, p, 0, ring.len() - 1, table.len() / 4);
     Least::Weight(cover_sum::weigh_set(grid, &out[p..end]))
 }
 
@@ -36,6 +39,9 @@ pub fn least(grid: &[i32], ring: &[u16], bars: &[u64], table: &mut [f64]) -> Lea
 {
     if ring.len() == 4 {
         return cover_four::least_four(grid, ring, bars);
+    }
+    if cover_shut::is_shut(bars, ring.len()) {
+        return Least::Nothing;
     }
     cover_table::least_weight(grid, ring, bars, table)
 }

@@ -10,9 +10,9 @@ use Rattle.cover_weight.proofs.Laws.Naturals.{naturals-lawful}
 use Rattle.cover_trace.specs.Workings.Ways.{Weighable}
 use Rattle.cover_trace.specs.Workings.Lists.{ListsPatch}
 
-pub lists-once : (table : List Float) (ring buffer : List ℕ) (p i k : ℕ) → Weighable table i k → (q r : ℕ) (b c : List ℕ)
-    → ListsPatch table ring buffer p i k q b → ListsPatch table ring buffer p i k r c → (q ≡ r) × (b ≡ c)
-lists-once table ring buffer p i k h q r b c x y =
+pub lists-once : (quarter : ℕ) (table : List Float) (ring buffer : List ℕ) (p i k : ℕ) → Weighable quarter table i k → (q r : ℕ) (b c : List ℕ)
+    → ListsPatch quarter table ring buffer p i k q b → ListsPatch quarter table ring buffer p i k r c → (q ≡ r) × (b ≡ c)
+lists-once quarter table ring buffer p i k h q r b c x y =
     (x .0 ∙ sym (y .0), go (patched naturals naturals-lawful (triOf (h .at)) (h .barred) i k (h .weighed .low)))
   where
     go : Patched naturals (triOf (h .at)) (h .barred) i k → b ≡ c

@@ -9,48 +9,47 @@ ghost use Rattle.surface_rules.specs.Buffers.{laid};
 ghost use Rattle.cover_rules.specs.Covers.{vertexOf};
 ghost use Rattle.cover_trace.specs.Workings.Ways.{triangleOf, TriangleRoom, Weighable, IsWay, Middle};
 ghost use Rattle.cover_trace.specs.Workings.Lists.{ListRoom, ListsPatch};
-use cover_column::WS;
-use cover_column::YS;
-use cover_column::ZS;
 
 // What the triangle i, k, m weighs, by the products of its corners, which stand at these places of each part.
-fn triangle(table: &[f64], im: usize, ik: usize, mk: usize) -> f64
-    requires { ⌜ TriangleRoom (now table) im ik mk ⌝ }
-    ensures { λ r. ⌜ r ≡ triangleOf (was table) im ik mk ⌝ }
+fn triangle(table: &[f64], im: usize, ik: usize, mk: usize, quarter: usize) -> f64
+    requires { ⌜ TriangleRoom quarter (now table) im ik mk ⌝ }
+    ensures { λ r. ⌜ r ≡ triangleOf quarter (was table) im ik mk ⌝ }
 {
     cover_floats::size(table[im] - table[ik] + table[mk])
-        + cover_floats::size(table[YS + im] - table[YS + ik] + table[YS + mk])
-        + cover_floats::size(table[ZS + im] - table[ZS + ik] + table[ZS + mk])
+        + cover_floats::size(table[quarter + im] - table[quarter + ik] + table[quarter + mk])
+        + cover_floats::size(
+            table[2 * quarter + im] - table[2 * quarter + ik] + table[2 * quarter + mk],
+        )
 }
 
 // Whether i..k has its least weight by way of m.
-fn is_way(table: &[f64], i: usize, k: usize, m: usize) -> bool
-    requires { ⌜ Weighable (now table) i k × (i < m) × (m < k) ⌝ }
-    ensures { λ r. ⌜ IsWay (was table) i k m r ⌝ }
+fn is_way(table: &[f64], i: usize, k: usize, m: usize, quarter: usize) -> bool
+    requires { ⌜ Weighable quarter (now table) i k × (i < m) × (m < k) ⌝ }
+    ensures { λ r. ⌜ IsWay quarter (was table) i k m r ⌝ }
 {
     let im = cover_column::row_of(m) + i;
     let ik = cover_column::row_of(k) + i;
     let mk = cover_column::row_of(k) + m;
-    let parts = table[WS + im] + table[WS + mk];
-    if table[WS + ik] < parts {
+    let parts = table[3 * quarter + im] + table[3 * quarter + mk];
+    if table[3 * quarter + ik] < parts {
         return false;
     }
-    parts + triangle(table, im, ik, mk) <= table[WS + ik]
+    parts + triangle(table, im, ik, mk, quarter) <= table[3 * quarter + ik]
 }
 
-// The smallest apex by way of which i..k has its least weight.
-fn middle(table: &[f64], i: usize, k: usize) -> usize
-    requires { ⌜ Weighable (now table) i k × (suc i < k) ⌝ }
-    ensures { λ r. ⌜ (i < r) × (r < k) × Middle (was table) i k r ⌝ }
+// The smallest apex by way of which i..k has its least weight. Where no other has it, the last one must.
+fn middle(table: &[f64], i: usize, k: usize, quarter: usize) -> usize
+    requires { ⌜ Weighable quarter (now table) i k × (suc i < k) ⌝ }
+    ensures { λ r. ⌜ (i < r) × (r < k) × Middle quarter (was table) i k r ⌝ }
 {
     let mut m = i + 1;
-    while m < k {
-        if is_way(table, i, k, m) {
+    while m + 1 < k {
+        if is_way(table, i, k, m, quarter) {
             return m;
         }
         m += 1;
     }
-    k
+    m
 }
 
 // One triangle.
@@ -63,16 +62,31 @@ pub fn lay(ring: &[u16], out: &mut [u16], p: usize, i: usize, k: usize, m: usize
     out[p + 2] = ring[m];
 }
 
-// The patch of i..k from p on: the triangle, then i..m, then m..k. Gives the place after it.
-pub fn list(table: &[f64], ring: &[u16], out: &mut [u16], p: usize, i: usize, k: usize) -> usize
-    requires { ⌜ ListRoom (now table) (now ring) (now out) p i k ⌝ }
-    ensures { λ r. ⌜ ListsPatch (was table) (was ring) (was out) p i k r (left out) ⌝ }
+// The patch of i..k from p on, which is no side: the triangle, then i..m, then m..k. Gives the place after it.
+pub fn list(
+    table: &[f64],
+    ring: &[u16],
+    out: &mut [u16],
+    p: usize,
+    i: usize,
+    k: usize,
+    quarter: usize,
+) -> usize
+    requires { ⌜ ListRoom quarter (now table) (now ring) (now out) p i k ⌝ }
+    ensures { λ r. ⌜ ListsPatch quarter (was table) (was ring) (was out) p i k r (left out) ⌝ }
 {
-    if i + 1 == k {
-        return p;
-    }
-    let m = middle(table, i, k);
+    let m = middle(table, i, k, quarter);
     lay(ring, out, p, i, k, m);
-    let q = list(table, ring, out, p + 3, i, m);
-    list(table, ring, out, q, m, k)
+    // a part that is a side has no triangle
+    if i + 1 == m {
+        if m + 1 == k {
+            return p + 3;
+        }
+        return list(table, ring, out, p + 3, m, k, quarter);
+    }
+    let q = list(table, ring, out, p + 3, i, m, quarter);
+    if m + 1 == k {
+        return q;
+    }
+    list(table, ring, out, q, m, k, quarter)
 }

@@ -3,3 +3,4 @@ pub mod Rings
 pub mod Reading
 pub mod Tray
 pub mod Sights
+pub mod Tables

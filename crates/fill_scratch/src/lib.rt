@@ -1,10 +1,8 @@
 // What going from loop to loop takes, for the patcher and for the checker alike.
-ghost use mathlib.Core.Path.{_≡_};
-ghost use mathlib.Core.Bool.{false};
 ghost use Prim.Native.Nat.{_≤_};
 ghost use lib.ListN.{length};
 ghost use Rattle.base_types.specs.Lent.{was};
-ghost use Rattle.fill_scratch.specs.Workings.Rings.{AtSight};
+ghost use Rattle.fill_scratch.specs.Workings.Rings.{Within};
 use base_types::Loop;
 use base_types::State;
 
@@ -12,15 +10,17 @@ use base_types::State;
 // may have: to clear that would take longer than the work.
 pub const FEW: usize = 48;
 
-// Whether some loop that is no rim has more than three edges and is not long: only such loops need bars and a table.
-pub fn any_middling(lengths: &[u16], marks: &[u16]) -> bool
+// The greatest number of edges of a loop that needs bars: one that is no rim and not long and has more than three; or 3, if there is
+// none.
+pub fn longest_middling(lengths: &[u16], marks: &[u16]) -> usize
     requires { ⌜ length (now lengths) ≤ length (now marks) ⌝ }
-    ensures { λ r. ⌜ (r ≡ false → AtSight (was lengths) (was marks)) ⌝ }
+    ensures { λ r. ⌜ Within r (was lengths) (was marks) ⌝ }
 {
+    let mut most = 3;
     let mut l = 0;
     while l < lengths.len() {
         let n = lengths[l] as usize;
-        if n <= 3 {
+        if n <= most {
             l += 1;
             continue;
         }
@@ -32,7 +32,8 @@ pub fn any_middling(lengths: &[u16], marks: &[u16]) -> bool
             l += 1;
             continue;
         }
-        return true;
+        most = n;
+        l += 1;
     }
-    false
+    most
 }

@@ -53,17 +53,16 @@ fn judge_few(
     ensures { λ r. ⌜ Judges (was words) (was corners) (was states) (was set) (buffers (was grid) (was rings) (was lengths))
         (outcome r (buffers (left grid) (left rings) (left lengths))) ⌝ }
 {
-    let mut turns = [0u16; FEW];
-    let mut path = [0u16; FEW];
+    let mut turns = [0u16; 2 * FEW];
+    let mut path = [0u16; 2 * FEW];
     let mut places = [0u16; FEW];
     let mut found = [0u16; FEW];
     let mut sizes = [0u16; FEW];
     let mut marks = [0u16; FEW];
-    judge_surface::judge_with(
+    let listed = judge_surface::find_with(
         words,
         corners,
         states,
-        set,
         &mut turns,
         &mut path,
         &mut places,
@@ -73,6 +72,23 @@ fn judge_few(
         grid,
         rings,
         lengths,
+    );
+    let answer = listed.answer;
+    if answer.refuses() {
+        return listed;
+    }
+    judge_surface::judge_found(
+        words,
+        corners,
+        states,
+        set,
+        &mut turns,
+        &mut path,
+        &marks,
+        grid,
+        rings,
+        lengths,
+        listed,
     )
 }
 
@@ -90,17 +106,16 @@ fn judge_many(
     ensures { λ r. ⌜ Judges (was words) (was corners) (was states) (was set) (buffers (was grid) (was rings) (was lengths))
         (outcome r (buffers (left grid) (left rings) (left lengths))) ⌝ }
 {
-    let mut turns = [0u16; Surface::CORNERS];
-    let mut path = [0u16; Surface::CORNERS];
+    let mut turns = [0u16; 2 * Surface::CORNERS];
+    let mut path = [0u16; 2 * Surface::CORNERS];
     let mut places = [0u16; Surface::POINTS];
     let mut found = [0u16; Surface::CORNERS];
     let mut sizes = [0u16; Surface::TRIANGLES];
     let mut marks = [0u16; Surface::TRIANGLES];
-    judge_surface::judge_with(
+    let listed = judge_surface::find_with(
         words,
         corners,
         states,
-        set,
         &mut turns,
         &mut path,
         &mut places,
@@ -110,5 +125,22 @@ fn judge_many(
         grid,
         rings,
         lengths,
+    );
+    let answer = listed.answer;
+    if answer.refuses() {
+        return listed;
+    }
+    judge_surface::judge_found(
+        words,
+        corners,
+        states,
+        set,
+        &mut turns,
+        &mut path,
+        &marks,
+        grid,
+        rings,
+        lengths,
+        listed,
     )
 }

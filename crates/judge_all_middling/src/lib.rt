@@ -1,18 +1,14 @@
 // The verdict over all loops, with one tray for those that need bars and a table.
 ghost use Rattle.base_types.specs.Lent.{was};
+ghost use Rattle.fill_scratch.specs.Workings.Tray.{EdgeRoom, Serves};
 ghost use Rattle.judge_all_sight.specs.Workings.Gives.{VerdictRoom, Gives};
 use base_answers::Answer;
 use base_types::Loop;
 use base_types::State;
 use base_types::Surface;
-use cover_column::FAR;
-use cover_column::PLACES;
 use judge_loop::InHand;
 
-// Edges of the input, and at most as many diagonals.
-const EDGES: usize = 2 * Surface::CORNERS;
-
-// All loops.
+// All loops; of the tray the links and the ends of the edges and the table are lent.
 pub fn verdict_all(
     grid: &[i32],
     corners: &[u16],
@@ -21,17 +17,18 @@ pub fn verdict_all(
     rims: &[u16],
     states: &[u16],
     set: &[u16],
+    links: &mut [u16],
+    ends: &mut [u16],
+    table: &mut [f64],
 ) -> Answer
-    requires { ⌜ VerdictRoom (now grid) (now corners) (now rings) (now lengths) (now rims) (now states) ⌝ }
+    requires { ⌜ VerdictRoom (now grid) (now corners) (now rings) (now lengths) (now rims) (now states)
+        × EdgeRoom (now corners) (now links) (now ends) × Serves (now lengths) (now rims) (now table) ⌝ }
     ensures { λ r. ⌜ Gives (was grid) (was corners) (was rings) (was lengths) (was rims) (was states) (was set) r ⌝ }
 {
     let mut heads = [0u16; Surface::POINTS];
-    let mut links = [0u16; EDGES];
-    let mut ends = [0u16; EDGES];
     let mut stamps = [0u16; Surface::POINTS];
     let mut rows = [0u64; Loop::LONGEST];
-    let mut table = [FAR; PLACES];
-    cover_bars::chain_input(corners, &mut heads, &mut links, &mut ends);
+    cover_bars::chain_input(corners, &mut heads, links, ends);
     let mut r = 0;
     let mut at = 0;
     let mut e = corners.len();
@@ -58,11 +55,11 @@ pub fn verdict_all(
             &rings[r..end],
             set,
             &mut heads,
-            &mut links,
-            &mut ends,
+            links,
+            ends,
             &mut stamps,
             &mut rows,
-            &mut table,
+            table,
             hand,
         );
         let answer = found.answer;

@@ -1,18 +1,21 @@
 // Judges a patch set of a surface whose counts fit, with lent scratch: the other checks, the grid, the loops, the rims, and the
 // verdict on the set.
+ghost use mathlib.Core.List.{List};
+ghost use Prim.Native.Nat.{ℕ};
 ghost use Rattle.base_types.specs.Lent.{was, left};
-ghost use Rattle.survey_rules.specs.Outcome.{buffers};
+ghost use Rattle.survey_rules.specs.Outcome.{Buffers, buffers};
 ghost use Rattle.judge_surface.specs.Outcome.{outcome, Judges};
 ghost use Rattle.judge_surface.specs.Workings.Listing.{ListingRoom};
+ghost use Rattle.judge_surface.specs.Workings.Finding.{Ready, Finds};
 use base_answers::Answer;
 use judge_answer::Judged;
 
-// Refusals 3 to 9, and the verdict. The loops are listed apart from the lent buffers first, in room that is long enough.
-pub fn judge_with(
+// Refusals 3 to 9, or what the verdict is taken on: the grid, the loops and the rims. The loops are listed apart from the lent buffers first, in
+// room that is long enough. The verdict is another function's, which the caller calls: what this one needs on the stack is gone when that begins.
+pub fn find_with(
     words: &[u32],
     corners: &[u16],
     states: &[u16],
-    set: &[u16],
     turns: &mut [u16],
     path: &mut [u16],
     places: &mut [u16],
@@ -24,8 +27,8 @@ pub fn judge_with(
     lengths: &mut [u16],
 ) -> Judged
     requires { ⌜ ListingRoom (now words) (now corners) (now turns) (now path) (now places) (now found) (now sizes) (now marks) ⌝ }
-    ensures { λ r. ⌜ Judges (was words) (was corners) (was states) (was set) (buffers (was grid) (was rings) (was lengths))
-        (outcome r (buffers (left grid) (left rings) (left lengths))) ⌝ }
+    ensures { λ r. ⌜ ((set : List ℕ) → Finds (was words) (was corners) (was states) set (buffers (was grid) (was rings) (was lengths)) r
+        (buffers (left grid) (left rings) (left lengths)) (left marks) (left turns) (left path)) ⌝ }
 {
     let n = corners.len();
     let lent = [grid.len(), rings.len(), lengths.len()];
@@ -39,19 +42,48 @@ pub fn judge_with(
     if listed.loops != states.len() {
         return judge_answer::refused(Answer::States(listed.loops));
     }
+    let loops = listed.loops;
+    let vertices = listed.vertices;
     survey_grid::lay_grid(words, grid);
-    judge_answer::lay_front(found, listed.vertices, rings);
-    judge_answer::lay_front(sizes, listed.loops, lengths);
+    judge_answer::lay_front(found, vertices, rings);
+    judge_answer::lay_front(sizes, loops, lengths);
     rim_mark::mark(
         &grid[..words.len()],
         corners,
-        &rings[..listed.vertices],
-        &lengths[..listed.loops],
+        &rings[..vertices],
+        &lengths[..loops],
         turns,
         path,
         places,
         marks,
     );
+    Judged {
+        answer: Answer::Done,
+        loops,
+        vertices,
+    }
+}
+
+// The verdict on what was found. The turns and the path are free, and become the links and the ends of the chained edges.
+pub fn judge_found(
+    words: &[u32],
+    corners: &[u16],
+    states: &[u16],
+    set: &[u16],
+    turns: &mut [u16],
+    path: &mut [u16],
+    marks: &[u16],
+    grid: &[i32],
+    rings: &[u16],
+    lengths: &[u16],
+    listed: Judged,
+) -> Judged
+    requires { ⌜ ((b : Buffers) × Ready (now words) (now corners) (now states) (now set) b listed
+        (buffers (now grid) (now rings) (now lengths)) (now marks) (now turns) (now path)) ⌝ }
+    ensures { λ r. ⌜ ((b : Buffers) → Ready (was words) (was corners) (was states) (was set) b listed
+        (buffers (was grid) (was rings) (was lengths)) (was marks) (was turns) (was path)
+        → Judges (was words) (was corners) (was states) (was set) b (outcome r (buffers (was grid) (was rings) (was lengths)))) ⌝ }
+{
     let answer = judge_all::verdict(
         &grid[..words.len()],
         corners,
@@ -60,6 +92,8 @@ pub fn judge_with(
         marks,
         states,
         set,
+        turns,
+        path,
     );
     Judged {
         answer,

@@ -72,10 +72,10 @@ fn patch_few(
     ensures { λ r. ⌜ Patches (was words) (was corners) (buffers (was grid) (was rings) (was lengths) (was states) (was weights) (was patches))
         (outcome r (buffers (left grid) (left rings) (left lengths) (left states) (left weights) (left patches))) ⌝ }
 {
-    let mut turns = [0u16; FEW];
-    let mut path = [0u16; FEW];
+    let mut turns = [0u16; 2 * FEW];
+    let mut path = [0u16; 2 * FEW];
     let mut places = [0u16; FEW];
-    patch_surface::patch_with(
+    let found = patch_surface::find_with(
         words,
         corners,
         &mut turns,
@@ -87,6 +87,23 @@ fn patch_few(
         states,
         weights,
         patches,
+    );
+    let answer = found.answer;
+    if answer.refuses() {
+        return found;
+    }
+    patch_surface::patch_found(
+        words,
+        corners,
+        &mut turns,
+        &mut path,
+        grid,
+        rings,
+        lengths,
+        states,
+        weights,
+        patches,
+        found,
     )
 }
 
@@ -105,10 +122,10 @@ fn patch_many(
     ensures { λ r. ⌜ Patches (was words) (was corners) (buffers (was grid) (was rings) (was lengths) (was states) (was weights) (was patches))
         (outcome r (buffers (left grid) (left rings) (left lengths) (left states) (left weights) (left patches))) ⌝ }
 {
-    let mut turns = [0u16; Surface::CORNERS];
-    let mut path = [0u16; Surface::CORNERS];
+    let mut turns = [0u16; 2 * Surface::CORNERS];
+    let mut path = [0u16; 2 * Surface::CORNERS];
     let mut places = [0u16; Surface::POINTS];
-    patch_surface::patch_with(
+    let found = patch_surface::find_with(
         words,
         corners,
         &mut turns,
@@ -120,5 +137,22 @@ fn patch_many(
         states,
         weights,
         patches,
+    );
+    let answer = found.answer;
+    if answer.refuses() {
+        return found;
+    }
+    patch_surface::patch_found(
+        words,
+        corners,
+        &mut turns,
+        &mut path,
+        grid,
+        rings,
+        lengths,
+        states,
+        weights,
+        patches,
+        found,
     )
 }

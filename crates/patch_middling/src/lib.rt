@@ -1,5 +1,5 @@
 // Patches a middling loop: one of more than three edges that is not long.
-ghost use Prim.Native.Nat.{_≤_};
+ghost use Prim.Native.Nat.{_<_, _≤_};
 ghost use lib.ListN.{length};
 ghost use Rattle.base_types.specs.Lent.{was, left};
 ghost use Rattle.base_limits.specs.Limits.{longest};
@@ -26,7 +26,7 @@ pub fn patch_middling(
     spot: Spot,
 ) -> Became
     requires { ⌜ TakeRoom (now grid) (now ring) (tray (now heads) (now links) (now ends) (now stamps) (now rows) (now table)) (now patches) spot
-        × (length (now ring) ≤ longest) ⌝ }
+        × (length (now ring) ≤ longest) × (3 < length (now ring)) ⌝ }
     ensures { λ r. ⌜ Takes (was grid) (was ring) (tray (was heads) (was links) (was ends) (was stamps) (was rows) (was table)) (was patches) spot
         r (tray (left heads) (left links) (left ends) (left stamps) (left rows) (left table)) (left patches) ⌝ }
 {

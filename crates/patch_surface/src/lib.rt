@@ -1,8 +1,10 @@
-// Patches a surface whose counts fit, with lent scratch: the other checks, the grid, the loops, the rims, and what becomes of each.
+// Patches a surface whose counts fit, with lent scratch: the other checks, the grid, the loops and the rims; then what becomes of each loop.
+// These are two functions, so that what the first needs on the stack is gone when the second begins.
 ghost use mathlib.Core.Path.{_≡_};
 ghost use Rattle.base_types.specs.Lent.{was, left};
 ghost use Rattle.fill_scratch.specs.Workings.Scratch.{Scratch};
-ghost use Rattle.patch_surface.specs.Outcome.{outcome, buffers, Patches};
+ghost use Rattle.patch_surface.specs.Outcome.{outcome, buffers};
+ghost use Rattle.patch_surface.specs.Workings.Finding.{Finds, Readied, Finishes};
 use base_answers::Answer;
 
 // What the patcher answers: done or a refusal, how many loops there are, how many vertices their rings have, and how many corners
@@ -14,8 +16,9 @@ pub struct Patched {
     pub corners: usize,
 }
 
-// Refusals 3 to 8, and the patching, with a table of turns, a path and places that are long enough.
-pub fn patch_with(
+// Refusals 3 to 8, and what comes before the course: the grid, the loops, and the rims marked among the states; with a table of turns, a
+// path and places that are long enough.
+pub fn find_with(
     words: &[u32],
     corners: &[u16],
     turns: &mut [u16],
@@ -29,8 +32,8 @@ pub fn patch_with(
     patches: &mut [u16],
 ) -> Patched
     requires { ⌜ Scratch (now words) (now corners) (now turns) (now path) (now places) ⌝ }
-    ensures { λ r. ⌜ Patches (was words) (was corners) (buffers (was grid) (was rings) (was lengths) (was states) (was weights) (was patches))
-        (outcome r (buffers (left grid) (left rings) (left lengths) (left states) (left weights) (left patches))) ⌝ }
+    ensures { λ r. ⌜ Finds (was words) (was corners) (buffers (was grid) (was rings) (was lengths) (was states) (was weights) (was patches))
+        r (buffers (left grid) (left rings) (left lengths) (left states) (left weights) (left patches)) (left turns) (left path) ⌝ }
 {
     let n = corners.len();
     let lent = [
@@ -59,19 +62,49 @@ pub fn patch_with(
         places,
         states,
     );
+    Patched {
+        answer: checked,
+        loops: listed.loops,
+        vertices: listed.vertices,
+        corners: 0,
+    }
+}
+
+// The course over the loops that were found. Nobody needs the turns and the path any more: they become the links and the ends of the
+// chained edges.
+pub fn patch_found(
+    words: &[u32],
+    corners: &[u16],
+    turns: &mut [u16],
+    path: &mut [u16],
+    grid: &[i32],
+    rings: &[u16],
+    lengths: &[u16],
+    states: &mut [u16],
+    weights: &mut [u64],
+    patches: &mut [u16],
+    found: Patched,
+) -> Patched
+    requires { ⌜ Readied (now words) (now corners) found (buffers (now grid) (now rings) (now lengths) (now states) (now weights) (now patches))
+        (now turns) (now path) ⌝ }
+    ensures { λ r. ⌜ Finishes (was words) (was corners) found (buffers (was grid) (was rings) (was lengths) (was states) (was weights) (was patches))
+        (was turns) (was path) (outcome r (buffers (was grid) (was rings) (was lengths) (left states) (left weights) (left patches))) ⌝ }
+{
     let laid = patch_all::patch_all(
         &grid[..words.len()],
         corners,
-        &rings[..listed.vertices],
-        &lengths[..listed.loops],
+        &rings[..found.vertices],
+        &lengths[..found.loops],
         states,
         weights,
         patches,
+        turns,
+        path,
     );
     Patched {
         answer: Answer::Done,
-        loops: listed.loops,
-        vertices: listed.vertices,
+        loops: found.loops,
+        vertices: found.vertices,
         corners: laid,
     }
 }

@@ -1,5 +1,7 @@
 // Marks the rims: in each piece the loop with the greatest run, among equals the first listed.
 ghost use mathlib.Core.Path.{_≡_};
+ghost use Prim.Native.Nat.{_≤_};
+ghost use lib.ListN.{length};
 ghost use Rattle.base_types.specs.Lent.{was, left};
 ghost use Rattle.surface_rules.specs.Buffers.{over};
 ghost use Rattle.rim_mark.specs.Workings.Running.{ringRun, RingRoom, MeasureRoom, Measures};
@@ -13,6 +15,9 @@ const OTHER: u16 = 0;
 
 // What stands for the run of a loop that has a rival until it is measured: any number but 0.
 const RIVAL: u32 = 1;
+
+// So many loops are few: to clear room for the runs of as many as a surface may have would take longer than to mark them.
+const FEW_LOOPS: usize = 16;
 
 // A mark for each loop, a rim's or another's, where its first half-edge stood. The table of turns may be as it was before the loops were
 // listed or as it is after that; it is used up, and so are path and places.
@@ -37,11 +42,44 @@ pub fn mark(
         marks[0] = State::RIM;
         return;
     }
-    mark_some(grid, corners, rings, lengths, turns, path, places, marks);
+    if lengths.len() <= FEW_LOOPS {
+        mark_few(grid, corners, rings, lengths, turns, path, places, marks);
+        return;
+    }
+    mark_many(grid, corners, rings, lengths, turns, path, places, marks);
 }
 
-// The same where there is some loop beside another: only then room for the runs is made.
-fn mark_some(
+// The same for a few loops, with a short list of runs.
+fn mark_few(
+    grid: &[i32],
+    corners: &[u16],
+    rings: &[u16],
+    lengths: &[u16],
+    turns: &mut [u16],
+    path: &mut [u16],
+    places: &mut [u16],
+    marks: &mut [u16],
+)
+    requires { ⌜ MarkRoom (now grid) (now corners) (now rings) (now lengths) (now turns) (now path) (now places) (now marks) ⌝ }
+    requires { do most ← ⟦FEW_LOOPS⟧; ⌜ length (now lengths) ≤ most ⌝ }
+    ensures { λ _. ⌜ Marked (was grid) (was corners) (was marks) (left marks) ⌝ }
+{
+    let mut runs = [0u32; FEW_LOOPS];
+    mark_some(
+        grid,
+        corners,
+        rings,
+        lengths,
+        turns,
+        path,
+        places,
+        marks,
+        &mut runs,
+    );
+}
+
+// The same for any number of loops.
+fn mark_many(
     grid: &[i32],
     corners: &[u16],
     rings: &[u16],
@@ -54,15 +92,45 @@ fn mark_some(
     requires { ⌜ MarkRoom (now grid) (now corners) (now rings) (now lengths) (now turns) (now path) (now places) (now marks) ⌝ }
     ensures { λ _. ⌜ Marked (was grid) (was corners) (was marks) (left marks) ⌝ }
 {
-    let n = lengths.len();
     let mut runs = [0u32; Surface::TRIANGLES];
+    mark_some(
+        grid,
+        corners,
+        rings,
+        lengths,
+        turns,
+        path,
+        places,
+        marks,
+        &mut runs,
+    );
+}
+
+// The same where there is some loop beside another, with room for a run of each. What stands there at first does not matter, but 0
+// spares measuring a loop that has no rival.
+fn mark_some(
+    grid: &[i32],
+    corners: &[u16],
+    rings: &[u16],
+    lengths: &[u16],
+    turns: &mut [u16],
+    path: &mut [u16],
+    places: &mut [u16],
+    marks: &mut [u16],
+    runs: &mut [u32],
+)
+    requires { ⌜ MarkRoom (now grid) (now corners) (now rings) (now lengths) (now turns) (now path) (now places) (now marks) ⌝ }
+    requires { ⌜ length (now lengths) ≤ length (now runs) ⌝ }
+    ensures { λ _. ⌜ Marked (was grid) (was corners) (was marks) (left marks) ⌝ }
+{
+    let n = lengths.len();
     let count = rim_pieces::number(corners, turns, path, places);
     house(marks, places, n, turns);
     rim_pieces::clear(path, count);
-    find_rivals(turns, n, path, &mut runs);
-    measure(grid, rings, lengths, &mut runs);
+    find_rivals(turns, n, path, runs);
+    measure(grid, rings, lengths, runs);
     rim_pieces::clear(path, count);
-    rank(turns, &runs, n, path);
+    rank(turns, runs, n, path);
     tell(turns, path, n, marks);
 }
 

@@ -1,5 +1,4 @@
 -- `relax` has taken the lesser way below i, and from i on the column is as it was.
-use mathlib.Core.Path.{sym, _∙_}
 use Prim.Native.Nat.{_-_}
 use native.Mathlib.Omega.{arith}
 use borrow.Author.Needs.{needs}
@@ -8,10 +7,10 @@ use Rattle.cover_column.proofs.relax.Statement.{statement}
 use Rattle.cover_column.proofs.relax.Tie as tie
 
 abbrev Inv-loop : tie.InvT-loop
-Inv-loop table at m v xs ys zs column₀ end i₀ column i = Relaxing table at m v xs ys zs column₀ i column
+Inv-loop table at m v xs ys zs column₀ quarter end i₀ column i = Relaxing quarter table at m v xs ys zs column₀ i column
 
 abbrev μ-loop : tie.MeasureT-loop
-μ-loop table at m v xs ys zs column₀ end i₀ column i = end - i
+μ-loop table at m v xs ys zs column₀ quarter end i₀ column i = end - i
 
 -- where a turn begins, where its way is weighed, and the function's entry
 abbrev entry : tie.In-loop Inv-loop μ-loop → tie.Start Inv-loop μ-loop
@@ -39,5 +38,5 @@ relax-spec =
     (λ c. search needs)
     (λ c. search needs)
     (λ c. let w = weighed c in let t = turn w in relaxing-more (entry t .pre) (t .before .loop .inv) (omega arith) (w .by-way .ensures) (c .lesser .ensures))
-    (λ c. let s : tie.Start Inv-loop μ-loop = search in c .before .loop .inv .long ∙ sym (s .pre .column-long))
+    (λ c. c .before .loop .inv .kept)
     (λ c. let s : tie.Start Inv-loop μ-loop = search in relaxed (s .pre) (c .before .loop .inv) (omega arith)))

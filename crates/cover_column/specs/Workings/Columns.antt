@@ -24,9 +24,9 @@ noughtFloat = ofBits binary64 0
 unfoldable pub lesserOf : Float → Float → Float
 lesserOf a b = cond (lt a b) a b
 
--- an array for the positions of a loop
-abbrev pub Long : List Float → Type 0
-Long floats = length floats ≡ limits.longest
+-- the array has a place for position k
+abbrev pub Reaches : ℕ → List Float → Type 0
+Reaches k floats = k < length floats
 
 -- ---- places of the table
 
@@ -34,28 +34,43 @@ Long floats = length floats ≡ limits.longest
 unfoldable pub row : ℕ → ℕ
 row k = (k * k - k) / 2
 
--- how many stretches a loop has at most: each of the table's four parts has a place for every one
+-- how many stretches a loop has at most
 abbrev pub pairs : ℕ
 pairs = limits.longest * (limits.longest - 1) / 2
 
-abbrev pub Table : List Float → Type 0
-Table table = length table ≡ 4 * pairs
+-- each of the table's four parts is a quarter of what is lent for it
+abbrev pub quarterOf : List Float → ℕ
+quarterOf table = length table / 4
+
+-- four parts of that length stand in the table, and each has a place for every stretch of n positions
+pub record Table (n quarter : ℕ) (table : List Float) : Type 0 where
+  pub deep : row n ≤ quarter
+  pub four : 4 * quarter ≤ length table
+
+-- the table is long enough for a loop of n edges, if such a loop takes one: of four edges and fewer none does
+abbrev pub TableFor : ℕ → List Float → Type 0
+TableFor n table = 4 < n → row n ≤ quarterOf table
+
+-- so many edges a short loop has at most
+abbrev pub short : ℕ
+short = 16
 
 -- ---- the products of a column
 
 unfoldable pub productOf : Float → Float → Float → Float → Float
 productOf a b c d = sub binary64 (mul binary64 a d) (mul binary64 b c)
 
-pub record ProductsRoom (k : ℕ) (px py pz xs ys zs column : List Float) : Type 0 where
+pub record ProductsRoom (k quarter : ℕ) (px py pz xs ys zs column table : List Float) : Type 0 where
   pub some : 0 < k
   pub short : k < limits.longest
-  pub px-long : Long px
-  pub py-long : Long py
-  pub pz-long : Long pz
-  pub xs-long : Long xs
-  pub ys-long : Long ys
-  pub zs-long : Long zs
-  pub column-long : Long column
+  pub px-long : Reaches k px
+  pub py-long : Reaches k py
+  pub pz-long : Reaches k pz
+  pub xs-long : Reaches k xs
+  pub ys-long : Reaches k ys
+  pub zs-long : Reaches k zs
+  pub column-long : Reaches k column
+  pub table-long : Table (suc k) quarter table
 
 -- the products of k with each position before it, and of the stretches ..k only the side has a weight yet
 pub record Multiplied (k : ℕ) (px py pz xs ys zs column : List Float) : Type 0 where
@@ -65,23 +80,15 @@ pub record Multiplied (k : ℕ) (px py pz xs ys zs column : List Float) : Type 0
   pub unknown : (i : ℕ) → suc i < k → cell column i ≡ farFloat
   pub side : cell column (k - 1) ≡ noughtFloat
 
-pub record CopyRoom (k : ℕ) (xs ys zs table : List Float) : Type 0 where
-  pub some : 0 < k
-  pub short : k < limits.longest
-  pub xs-long : Long xs
-  pub ys-long : Long ys
-  pub zs-long : Long zs
-  pub table-long : Table table
-
 -- row k of the first three parts has the products; the rows below it and the fourth part are as they were
-pub record Copied (k : ℕ) (xs ys zs table table′ : List Float) : Type 0 where
+pub record Copied (k quarter : ℕ) (xs ys zs table table′ : List Float) : Type 0 where
   pub x : (i : ℕ) → i < k → cell table′ (row k + i) ≡ cell xs i
-  pub y : (i : ℕ) → i < k → cell table′ (pairs + row k + i) ≡ cell ys i
-  pub z : (i : ℕ) → i < k → cell table′ (2 * pairs + row k + i) ≡ cell zs i
+  pub y : (i : ℕ) → i < k → cell table′ (quarter + row k + i) ≡ cell ys i
+  pub z : (i : ℕ) → i < k → cell table′ (2 * quarter + row k + i) ≡ cell zs i
   pub x-below : (q : ℕ) → q < row k → cell table′ q ≡ cell table q
-  pub y-below : (q : ℕ) → q < row k → cell table′ (pairs + q) ≡ cell table (pairs + q)
-  pub z-below : (q : ℕ) → q < row k → cell table′ (2 * pairs + q) ≡ cell table (2 * pairs + q)
-  pub weights : (q : ℕ) → q < pairs → cell table′ (3 * pairs + q) ≡ cell table (3 * pairs + q)
+  pub y-below : (q : ℕ) → q < row k → cell table′ (quarter + q) ≡ cell table (quarter + q)
+  pub z-below : (q : ℕ) → q < row k → cell table′ (2 * quarter + q) ≡ cell table (2 * quarter + q)
+  pub weights : (q : ℕ) → q < quarter → cell table′ (3 * quarter + q) ≡ cell table (3 * quarter + q)
 
 -- ---- a step of the column
 
@@ -90,46 +97,44 @@ abbrev pub gapOf : List Float → ℕ → List Float → ℕ → ℕ → Float
 gapOf table place column m i = add binary64 (sub binary64 (cell table place) (cell column i)) (cell column m)
 
 -- what i..k weighs by way of m, where row m begins at `at` and m..k weighs v
-unfoldable pub byWay : List Float → ℕ → ℕ → Float → List Float → List Float → List Float → ℕ → Float
-byWay table at m v xs ys zs i =
+unfoldable pub byWay : ℕ → List Float → ℕ → ℕ → Float → List Float → List Float → List Float → ℕ → Float
+byWay quarter table at m v xs ys zs i =
     add binary64
     (add binary64
     (add binary64
-    (add binary64 (cell table (3 * pairs + at + i)) v)
+    (add binary64 (cell table (3 * quarter + at + i)) v)
     (sizeOf (gapOf table (at + i) xs m i)))
-    (sizeOf (gapOf table (pairs + at + i) ys m i)))
-    (sizeOf (gapOf table (2 * pairs + at + i) zs m i))
+    (sizeOf (gapOf table (quarter + at + i) ys m i)))
+    (sizeOf (gapOf table (2 * quarter + at + i) zs m i))
 
 -- what the step takes the size of are whole numbers
-pub record Sizable (table : List Float) (at m : ℕ) (xs ys zs : List Float) (i : ℕ) : Type 0 where
+pub record Sizable (quarter : ℕ) (table : List Float) (at m : ℕ) (xs ys zs : List Float) (i : ℕ) : Type 0 where
   pub x : ℤ
   pub y : ℤ
   pub z : ℤ
   pub x-whole : Whole (gapOf table (at + i) xs m i) x
-  pub y-whole : Whole (gapOf table (pairs + at + i) ys m i) y
-  pub z-whole : Whole (gapOf table (2 * pairs + at + i) zs m i) z
+  pub y-whole : Whole (gapOf table (quarter + at + i) ys m i) y
+  pub z-whole : Whole (gapOf table (2 * quarter + at + i) zs m i) z
 
-pub record WayRoom (table : List Float) (at m : ℕ) (xs ys zs : List Float) (i : ℕ) : Type 0 where
-  pub inside : at + i < pairs
-  pub low : i < limits.longest
-  pub short : m < limits.longest
-  pub table-long : Table table
-  pub xs-long : Long xs
-  pub ys-long : Long ys
-  pub zs-long : Long zs
-  pub sizable : Sizable table at m xs ys zs i
+pub record WayRoom (quarter : ℕ) (table : List Float) (at m : ℕ) (xs ys zs : List Float) (i : ℕ) : Type 0 where
+  pub inside : at + i < quarter
+  pub low : i ≤ m
+  pub four : 4 * quarter ≤ length table
+  pub xs-long : Reaches m xs
+  pub ys-long : Reaches m ys
+  pub zs-long : Reaches m zs
+  pub sizable : Sizable quarter table at m xs ys zs i
 
-pub record RelaxRoom (table : List Float) (at m : ℕ) (xs ys zs column : List Float) : Type 0 where
-  pub inside : at + m < pairs
-  pub short : m < limits.longest
-  pub table-long : Table table
-  pub xs-long : Long xs
-  pub ys-long : Long ys
-  pub zs-long : Long zs
-  pub column-long : Long column
-  pub sizable : (i : ℕ) → i ≤ m → Sizable table at m xs ys zs i
+pub record RelaxRoom (quarter : ℕ) (table : List Float) (at m : ℕ) (xs ys zs column : List Float) : Type 0 where
+  pub inside : at + m < quarter
+  pub four : 4 * quarter ≤ length table
+  pub xs-long : Reaches m xs
+  pub ys-long : Reaches m ys
+  pub zs-long : Reaches m zs
+  pub column-long : Reaches m column
+  pub sizable : (i : ℕ) → i ≤ m → Sizable quarter table at m xs ys zs i
 
 -- below m each place of the column takes the way by m where that is lighter
-abbrev pub Relaxed : List Float → ℕ → ℕ → Float → List Float → List Float → List Float → List Float → List Float → Type 0
-Relaxed table at m v xs ys zs column column′ =
-    (i : ℕ) → i < m → cell column′ i ≡ lesserOf (byWay table at m v xs ys zs i) (cell column i)
+abbrev pub Relaxed : ℕ → List Float → ℕ → ℕ → Float → List Float → List Float → List Float → List Float → List Float → Type 0
+Relaxed quarter table at m v xs ys zs column column′ =
+    (i : ℕ) → i < m → cell column′ i ≡ lesserOf (byWay quarter table at m v xs ys zs i) (cell column i)

@@ -1,7 +1,7 @@
 -- A loop's patch is what is listed of the whole loop as one stretch, and it weighs what its triangles do as they stand in the buffer.
 use mathlib.Core.Path.{_≡_, refl, sym, ap, _∙_, subst}
 use mathlib.Core.Logic.{inl, inr}
-use mathlib.Core.Bool.{Bool}
+use mathlib.Core.Bool.{Bool, true}
 use mathlib.Core.List.{List, [], _∷_, _++_}
 use Prim.Native.Nat.{ℕ, _+_, _-_, _*_, _≤_}
 use native.Mathlib.Omega.{arith}
@@ -24,10 +24,12 @@ use Rattle.cover_weight.proofs.Laws.Naturals.{naturals-lawful}
 use Rattle.cover_weight.proofs.Laws.Named.{named-on-grid}
 use Rattle.cover_sum.specs.Workings.Weighing.{setWeight, WeighRoom}
 use Rattle.cover_sum.proofs.Laws.Patches.{patch-weight, patch-room}
+use Rattle.cover_column.specs.Workings.Columns.{quarterOf}
+use Rattle.cover_shut.specs.Workings.Shut.{ShutRoom, TellsShut}
 use Rattle.cover_table.specs.declared.Least.{Least}
 use Rattle.cover_table.specs.declared.Least.the-variants.{Weight, Nothing}
 use Rattle.cover_table.specs.Workings.Table.{OnLoop}
-use Rattle.cover_table.specs.Workings.Loops.{OnGrid, Barring, LeastIs, Found}
+use Rattle.cover_table.specs.Workings.Loops.{OnGrid, Barring, LoopRoom, TableRoom, LeastIs, Found}
 use Rattle.cover_table.proofs.Theorems.{least-once}
 use Rattle.cover_trace.specs.Workings.Ways.{Weighed}
 use Rattle.cover_trace.specs.Workings.Lists.{ListRoom, ListsPatch}
@@ -65,7 +67,7 @@ module _ {grid : List ℤ} {ring bars : List ℕ} {table : List Float} {buffer :
     {table′ : List Float} (least : Least) (f : Found grid ring bars least table′) where
   -- what was found is a weight
   module _ {w : ℕ} (e : least ≡ Weight w) where
-    weighed : (barred : ℕ → ℕ → Bool) → Barring barred ring bars → Weighed (along grid ring) barred (length ring) table′ 0 (length ring - 1) w
+    weighed : (barred : ℕ → ℕ → Bool) → Barring barred ring bars → Weighed (along grid ring) barred (quarterOf table′) (length ring) table′ 0 (length ring - 1) w
     weighed barred b = record {
       loop = loop-along (r .loop .on) b;
       filled = f barred b .1;
@@ -74,19 +76,20 @@ module _ {grid : List ℤ} {ring bars : List ℕ} {table : List Float} {buffer :
       least = subst (LeastIs grid ring barred) e (f barred b .0);
     }
 
-    pub list-room : ListRoom table′ ring buffer p 0 (length ring - 1)
+    pub list-room : ListRoom (quarterOf table′) table′ ring buffer p 0 (length ring - 1)
     list-room = record {
       weighable = record { at = along grid ring; barred = r .loop .barred; n = length ring; w = w; weighed = weighed (r .loop .barred) (r .loop .barring) };
+      no-side = omega (arith, r .loop .some);
       in-ring = omega (arith, r .loop .some);
       room = omega (arith, r .loop .some, r .room);
     }
 
-    module _ {o : ℕ} {buffer′ : List ℕ} (l : ListsPatch table′ ring buffer p 0 (length ring - 1) o buffer′) where
+    module _ {o : ℕ} {buffer′ : List ℕ} (l : ListsPatch (quarterOf table′) table′ ring buffer p 0 (length ring - 1) o buffer′) where
       -- the patch by whatever bars these rows are, and where it stands
       stood : (barred : ℕ → ℕ → Bool) → Barring barred ring bars → Stood grid ring barred buffer p o buffer′
       stood barred b = go (patched naturals naturals-lawful (triOf (along grid ring)) barred 0 (length ring - 1) (x .low))
         where
-          x : Weighed (along grid ring) barred (length ring) table′ 0 (length ring - 1) w
+          x : Weighed (along grid ring) barred (quarterOf table′) (length ring) table′ 0 (length ring - 1) w
           x = weighed barred b
 
           go : Patched naturals (triOf (along grid ring)) barred 0 (length ring - 1) → Stood grid ring barred buffer p o buffer′
@@ -126,6 +129,23 @@ module _ {grid : List ℤ} {ring bars : List ℕ} {table : List Float} {buffer :
   -- nothing was found
   pub lays-none : least ≡ Nothing → LaysPatch grid ring bars buffer p Nothing buffer
   lays-none e barred b = (subst (LeastIs grid ring barred) e (f barred b .0), refl)
+
+-- ---- a loop that its bars shut
+
+pub shut-room : {grid : List ℤ} {ring bars : List ℕ} {table : List Float} → LoopRoom grid ring bars table → ShutRoom (length ring) bars
+shut-room r = let l = r .barring .rows .long in record { long = omega (arith, r .some); short = r .on .few; rows = omega (arith, r .on .few) }
+
+pub lays-shut : (grid : List ℤ) (ring bars buffer : List ℕ) (p : ℕ) {t : Bool} → TellsShut (length ring) bars t → t ≡ true
+    → LaysPatch grid ring bars buffer p Nothing buffer
+lays-shut grid ring bars buffer p tells e barred b = (tells e barred (b .rows), refl)
+
+pub finds-shut : (grid : List ℤ) (ring bars : List ℕ) {t : Bool} → TellsShut (length ring) bars t → t ≡ true → FindsLeast grid ring bars Nothing
+finds-shut grid ring bars tells e barred b = tells e barred (b .rows)
+
+-- any other loop takes a table
+pub takes-table : {grid : List ℤ} {ring bars : List ℕ} {table : List Float} → LoopRoom grid ring bars table → (length ring ≡ 4 → ⊥)
+    → TableRoom grid ring bars table
+takes-table r n = (r, omega (arith, r .some))
 
 -- ---- two answers for one loop are equal
 

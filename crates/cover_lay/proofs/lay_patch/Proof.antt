@@ -2,7 +2,7 @@
 use Prim.Native.Nat.{_≤_}
 use native.Mathlib.Omega.{arith}
 use borrow.Author.Needs.{needs}
-use Rattle.cover_lay.proofs.Laws.Patches.{list-room, listed-from, listed-in, weigh-room, lays-some, lays-none, four-room}
+use Rattle.cover_lay.proofs.Laws.Patches.{list-room, listed-from, listed-in, weigh-room, lays-some, lays-none, four-room, shut-room, lays-shut, takes-table}
 use Rattle.cover_lay.proofs.lay_patch.Statement.{statement}
 use Rattle.cover_lay.proofs.lay_patch.Tie as tie
 
@@ -33,7 +33,7 @@ weigh-requires c κs =
     weigh-room (entry w .pre) _ (w .least-weight .ensures) (told l .enum-told .given .1) (l .list .ensures)
 
 -- and its weight is told
-weighed : tie.Need-returns-3
+weighed : tie.Need-returns-4
 weighed c =
     let l : tie.After-list = search in
     let w = found l in
@@ -46,13 +46,18 @@ lay-patch-spec =
     (λ c κs. search four-room)
     (λ c. search needs)
     (λ c. search needs)
-    (λ c κs. search needs)
+    (λ c κs. let s : tie.Start = search in shut-room (s .pre .loop))
+    (λ c. let s : tie.Start = search in let t : tie.After-is-shut = search in lays-shut (s .args .grid .now) _ _ _ (s .args .p) (t .is-shut .ensures) (c .if2 .taken))
+    (λ c κs. let s : tie.Start = search in let n : tie.Else1 = search in takes-table (s .pre .loop) (n .if1 .left))
     (λ c. search needs)
     (λ c. search needs)
     (λ c. search needs)
     (λ c. search lays-none)
     (λ c. search needs)
-    (λ c κs. search list-room)
+    (λ c κs.
+    let w : tie.After-least-weight = search in
+    let e : tie.After-enum-told = search in
+    list-room (entry w .pre) _ (w .least-weight .ensures) (e .enum-told .given .1))
     (λ c. let l : tie.After-list = search in omega (arith, entry (found l) .pre .room, entry (found l) .good))
     (λ c. omega (arith, from (search)))
     (λ c. omega (arith, from (search)))

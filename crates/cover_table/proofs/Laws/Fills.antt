@@ -15,11 +15,11 @@ use Rattle.cover_weight.specs.Weight.{Coordinate, OnGrid}
 use Rattle.cover_floats.specs.Workings.Whole.{Whole, Natural}
 use Rattle.cover_floats.proofs.Laws.Sums.{whole-sub, whole-mul}
 use Rattle.cover_floats.proofs.Laws.Casts.{natural-nought}
-use Rattle.cover_column.specs.Workings.Columns.{cell, noughtFloat, Long, Table, row, pairs, productOf, CopyRoom, Multiplied, Copied}
-use Rattle.cover_column.proofs.Laws.Rows.{row-more, row-inside}
+use Rattle.cover_column.specs.Workings.Columns.{cell, noughtFloat, Table, row, productOf, Multiplied, Copied}
+use Rattle.cover_column.proofs.Laws.Rows.{row-more, table-fewer, table-kept}
 use Rattle.cover_table.specs.Workings.Products.{pair, pairX, pairY, pairZ}
 use Rattle.cover_table.specs.Workings.Told.{far}
-use Rattle.cover_table.specs.Workings.Table.{Strips, strips, Multiples, Tells, Due, Loop, Filled, Sweeping}
+use Rattle.cover_table.specs.Workings.Table.{Long, Strips, strips, Multiples, Tells, Due, Loop, Filled, Sweeping}
 use Rattle.cover_table.proofs.Laws.Told.{lowest-begins}
 use Rattle.cover_table.proofs.Laws.Products.{pair-most, product-small}
 use Rattle.cover_table.proofs.Laws.Sweeps.{far-natural}
@@ -37,8 +37,9 @@ product-whole {a} {b} {c} {d} {y} {z} {s} {t} ha hb hc hd ny nz ns nt =
 -- ---- a column begins
 
 module _ {at : ℕ → Point} {barred : ℕ → ℕ → Bool} {n : ℕ} {px py pz : List Float} {bars : List ℕ} (l : Loop at barred n px py pz bars) {k : ℕ} (h : k < n)
-    {xs ys zs column table table′ : List Float} (r : CopyRoom k xs ys zs table) (lc : Long column) (lt : length table′ ≡ length table)
-    (f : Filled at barred k table) (p : Multiplied k px py pz xs ys zs column) (c : Copied k xs ys zs table table′) where
+    {quarter : ℕ} {xs ys zs column table table′ : List Float} (lx : Long n xs) (ly : Long n ys) (lz : Long n zs) (lc : Long n column)
+    (t : Table n quarter table) (lt : length table′ ≡ length table) (f : Filled at barred quarter k table)
+    (p : Multiplied k px py pz xs ys zs column) (c : Copied k quarter xs ys zs table table′) where
   module _ (i : ℕ) (g : i < k) where
     in-i : i < n
     in-i = omega arith
@@ -64,12 +65,12 @@ module _ {at : ℕ → Point} {barred : ℕ → ℕ → Bool} {n : ℕ} {px py p
         subst (λ (v : Float). Whole v (pairZ (at i) (at k))) (sym (p .z i g))
         (product-whole (l .points .x i in-i) (l .points .y i in-i) (l .points .x k h) (l .points .y k h) (near-i .near-x) (near-i .near-y) (near-k .near-x) (near-k .near-y))
 
-  products-here : (i j : ℕ) → i < j → j ≤ k → Multiples at barred table′ i j
+  products-here : (i j : ℕ) → i < j → j ≤ k → Multiples at barred quarter table′ i j
   products-here i j lo hi = go (eq-or-lt-of-le hi)
     where
-      go : (j ≡ k) ⊎ (j < k) → Multiples at barred table′ i j
+      go : (j ≡ k) ⊎ (j < k) → Multiples at barred quarter table′ i j
       go (inl e) =
-          subst (Multiples at barred table′ i) (sym e)
+          subst (Multiples at barred quarter table′ i) (sym e)
           (record {
             x = subst (λ (v : Float). Whole v (pairX (at i) (at k))) (sym (c .x i (omega arith))) (x-whole i (omega arith));
             y = subst (λ (v : Float). Whole v (pairY (at i) (at k))) (sym (c .y i (omega arith))) (y-whole i (omega arith));
@@ -85,9 +86,9 @@ module _ {at : ℕ → Point} {barred : ℕ → ℕ → Bool} {n : ℕ} {px py p
             z = subst (λ (v : Float). Whole v (pairZ (at i) (at j))) (sym (subst (λ (q : ℕ). cell table′ q ≡ cell table q) (omega arith) (c .z-below (row j + i) b))) (m .z);
           }
 
-  weights-here : (i j : ℕ) → i < j → j < k → Tells at barred i j (cell table′ (3 * pairs + row j + i))
+  weights-here : (i j : ℕ) → i < j → j < k → Tells at barred i j (cell table′ (3 * quarter + row j + i))
   weights-here i j lo hi =
-      let b : row j + i < pairs = omega (arith, row-more j k hi, row-inside k (r .short)) in
+      let b : row j + i < quarter = omega (arith, row-more j k hi, row-more k n h, t .deep) in
       subst (Tells at barred i j) (sym (subst (λ (q : ℕ). cell table′ q ≡ cell table q) (omega arith) (c .weights (row j + i) b))) (f .weights i j lo hi)
 
   due-here : (i : ℕ) → i < k → Due at barred i k k (cell column i)
@@ -105,17 +106,17 @@ module _ {at : ℕ → Point} {barred : ℕ → ℕ → Bool} {n : ℕ} {px py p
       })
       (eq-or-lt-of-le g)
 
-  pub sweeping-begins : Sweeping at barred n k k bars (strips xs ys zs column) table′
+  pub sweeping-begins : Sweeping at barred quarter n k k bars (strips xs ys zs column) table′
   sweeping-begins = record {
     loop = l .on;
     here = h;
     reach = le-refl k;
     rows = l .rows;
-    xs-long = r .xs-long;
-    ys-long = r .ys-long;
-    zs-long = r .zs-long;
+    xs-long = lx;
+    ys-long = ly;
+    zs-long = lz;
     column-long = lc;
-    table-long = lt ∙ r .table-long;
+    table-long = table-kept lt t;
     x = x-whole;
     y = y-whole;
     z = z-whole;
@@ -127,18 +128,19 @@ module _ {at : ℕ → Point} {barred : ℕ → ℕ → Bool} {n : ℕ} {px py p
 
 -- ---- a column ends
 
-pub sweeping-ends : {at : ℕ → Point} {barred : ℕ → ℕ → Bool} {n k m : ℕ} {bars : List ℕ} {s : Strips} {table : List Float} → m ≡ 0
-    → Sweeping at barred n k m bars s table → Filled at barred (suc k) table
-sweeping-ends {at} {barred} {n} {k} {m} {bars} {s} {table} e p = record {
-  long = p .table-long;
+pub sweeping-ends : {at : ℕ → Point} {barred : ℕ → ℕ → Bool} {quarter n k m : ℕ} {bars : List ℕ} {s : Strips} {table : List Float} → m ≡ 0
+    → Sweeping at barred quarter n k m bars s table → Filled at barred quarter (suc k) table
+sweeping-ends {at} {barred} {quarter} {n} {k} {m} {bars} {s} {table} e p = record {
+  long = table-fewer (p .here) (p .table-long);
   products = λ i j lo hi. p .products i j lo (le-of-suc-le-suc hi);
   weights = λ i j lo hi.
       ⊎-elim
-      (λ (f : j ≡ k). subst (λ (j : ℕ). Tells at barred i j (cell table (3 * pairs + row j + i))) (sym f) (p .done i (omega arith) (omega arith)))
+      (λ (f : j ≡ k). subst (λ (j : ℕ). Tells at barred i j (cell table (3 * quarter + row j + i))) (sym f) (p .done i (omega arith) (omega arith)))
       (λ (g : j < k). p .weights i j lo g)
       (eq-or-lt-of-le (le-of-suc-le-suc hi));
 }
 
 -- the first row is of nothing
-pub filled-begins : {at : ℕ → Point} {barred : ℕ → ℕ → Bool} {table : List Float} → Table table → Filled at barred 1 table
-filled-begins t = record { long = t; products = λ i k lo hi. absurd (omega arith); weights = λ i k lo hi. absurd (omega arith) }
+pub filled-begins : {at : ℕ → Point} {barred : ℕ → ℕ → Bool} {n quarter : ℕ} {table : List Float} → 0 < n → Table n quarter table
+    → Filled at barred quarter 1 table
+filled-begins h t = record { long = table-fewer h t; products = λ i k lo hi. absurd (omega arith); weights = λ i k lo hi. absurd (omega arith) }

@@ -1,7 +1,7 @@
 -- The points of a ring, read from the grid one by one.
-use mathlib.Core.Path.{_≡_, refl, ap, _∙_, subst}
+use mathlib.Core.Path.{_≡_, refl, sym, ap, _∙_, subst}
 use mathlib.Core.List.{List}
-use Prim.Native.Nat.{ℕ, _+_, _*_, _≤_, _<_}
+use Prim.Native.Nat.{ℕ, _+_, _*_, _≤_, _<_, zero-le}
 use native.Mathlib.Nat.{lt-of-le-of-lt}
 use native.Mathlib.Omega.{arith}
 use lib.Dec.{lit<}
@@ -10,7 +10,6 @@ use lib.ListN.{length, getD, set, length-set}
 use lib.Ieee.{Float, binary64, ofInt}
 use mir.Syntax.{w32}
 use mir.Val.{toZ, ofZ}
-use Rattle.base_limits.specs.Limits.{longest}
 use Rattle.cover_weight.specs.Weight.{Coordinates, pointOf}
 use Rattle.cover_weight.specs.Edition.{along}
 use Rattle.cover_floats.specs.Workings.Whole.{Whole}
@@ -55,9 +54,9 @@ module _ {grid : List ℤ} {ring : List ℕ} {px₀ py₀ pz₀ : List Float} (r
       x = λ j h. absurd (omega arith);
       y = λ j h. absurd (omega arith);
       z = λ j h. absurd (omega arith);
-      px-long = r .px-long;
-      py-long = r .py-long;
-      pz-long = r .pz-long;
+      px-long = zero-le;
+      py-long = zero-le;
+      pz-long = zero-le;
     };
     most = omega arith;
     px-kept = refl;
@@ -71,11 +70,7 @@ module _ {grid : List ℤ} {ring : List ℕ} {px₀ py₀ pz₀ : List Float} (r
 
     pub in-column : (j < length px) × (j < length py) × (j < length pz)
     in-column =
-        let a : length ring ≤ longest = r .on .few in
-        let b : length px ≡ longest = g .points .px-long in
-        let c : length py ≡ longest = g .points .py-long in
-        let d : length pz ≡ longest = g .points .pz-long in
-        (omega arith, omega arith, omega arith)
+        (omega (arith, r .px-long, g .px-kept), omega (arith, r .py-long, g .py-kept), omega (arith, r .pz-long, g .pz-kept))
 
     pub gathering-more : {v : ℕ} → v ≡ 3 * getD ring j 0 → Gathering grid ring px₀ py₀ pz₀ (j + 1)
         (set px j (gridFloat grid v)) (set py j (gridFloat grid (v + 1))) (set pz j (gridFloat grid (v + 2)))
@@ -84,9 +79,9 @@ module _ {grid : List ℤ} {ring : List ℕ} {px₀ py₀ pz₀ : List Float} (r
         x = cells-more (λ i f. Whole f (along grid ring i .x)) px j _ (in-column .0) (g .points .x) (subst (Whole _) (along-x grid ring j v e) (whole-coordinate grid (r .on .coordinates) v));
         y = cells-more (λ i f. Whole f (along grid ring i .y)) py j _ (in-column .1) (g .points .y) (subst (Whole _) (along-y grid ring j v e) (whole-coordinate grid (r .on .coordinates) (v + 1)));
         z = cells-more (λ i f. Whole f (along grid ring i .z)) pz j _ (in-column .2) (g .points .z) (subst (Whole _) (along-z grid ring j v e) (whole-coordinate grid (r .on .coordinates) (v + 2)));
-        px-long = length-set px j _ ∙ g .points .px-long;
-        py-long = length-set py j _ ∙ g .points .py-long;
-        pz-long = length-set pz j _ ∙ g .points .pz-long;
+        px-long = subst (λ (n : ℕ). j + 1 ≤ n) (sym (length-set px j _)) (omega (arith, in-column));
+        py-long = subst (λ (n : ℕ). j + 1 ≤ n) (sym (length-set py j _)) (omega (arith, in-column));
+        pz-long = subst (λ (n : ℕ). j + 1 ≤ n) (sym (length-set pz j _)) (omega (arith, in-column));
       };
       most = omega arith;
       px-kept = length-set px j _ ∙ g .px-kept;

@@ -25,11 +25,11 @@ use Rattle.cover_floats.proofs.Laws.Orders.{natural-less}
 use Rattle.cover_floats.proofs.Laws.Clearing.{whole-size}
 use Rattle.cover_floats.proofs.Laws.Casts.{natural-far}
 use Rattle.cover_bits.specs.Workings.Masks.{bit}
-use Rattle.cover_column.specs.Workings.Columns.{cell, farFloat, Long, Table, row, pairs, gapOf, byWay, Sizable, RelaxRoom, Relaxed, lesserOf}
-use Rattle.cover_column.proofs.Laws.Rows.{row-next, row-more, row-inside}
+use Rattle.cover_column.specs.Workings.Columns.{cell, farFloat, Table, row, gapOf, byWay, Sizable, RelaxRoom, Relaxed, lesserOf}
+use Rattle.cover_column.proofs.Laws.Rows.{row-next, row-more, table-kept}
 use Rattle.cover_table.specs.Workings.Products.{pairX, pairY, pairZ}
 use Rattle.cover_table.specs.Workings.Told.{far, Told, Way, Lowest}
-use Rattle.cover_table.specs.Workings.Table.{settledOf, strips, Multiples, Tells, Due, OnLoop, Sweeping}
+use Rattle.cover_table.specs.Workings.Table.{settledOf, Long, strips, Multiples, Tells, Due, OnLoop, Sweeping}
 use Rattle.cover_table.proofs.Laws.Told.{told-side, told-barred, told-free, told-most, lowest-take, lowest-keep, lowest-skip}
 use Rattle.cover_table.proofs.Laws.Products.{pair-most, sum-most, weight-by-products}
 
@@ -83,8 +83,8 @@ summed {a} {v} {x} {y} {z} {u} {w} {p} {q} {r} ha hv hx hy hz bu bw bp bq br =
     hy (omega arith))
     hz (omega arith)
 
-module _ {at : ℕ → Point} {barred : ℕ → ℕ → Bool} {n k m : ℕ} {bars : List ℕ} {xs ys zs column table : List Float}
-    (s : Sweeping at barred n k (suc m) bars (strips xs ys zs column) table) where
+module _ {at : ℕ → Point} {barred : ℕ → ℕ → Bool} {quarter n k m : ℕ} {bars : List ℕ} {xs ys zs column table : List Float}
+    (s : Sweeping at barred quarter n k (suc m) bars (strips xs ys zs column) table) where
   below : m < k
   below = s .reach
 
@@ -119,7 +119,7 @@ module _ {at : ℕ → Point} {barred : ℕ → ℕ → Bool} {n k m : ℕ} {bar
 
   module _ {v : Float} (t : Tells at barred m k v) where
     abbrev place : ℕ
-    place = 3 * pairs + row k + m
+    place = 3 * quarter + row k + m
 
     abbrev table′ : List Float
     table′ = set table place v
@@ -127,41 +127,42 @@ module _ {at : ℕ → Point} {barred : ℕ → ℕ → Bool} {n k m : ℕ} {bar
     kept : (q : ℕ) → (q ≡ place → ⊥) → cell table′ q ≡ cell table q
     kept q d = getD-set-other table place q v nan d
 
-    room : row k + k ≤ pairs
-    room = row-inside k few
+    -- a row of the loop lies within a part
+    room : (j : ℕ) → j < n → row j + j ≤ quarter
+    room j h = le-trans (row-more j n h) (s .table-long .deep)
 
-    table-long′ : Table table′
-    table-long′ = length-set table place v ∙ s .table-long
+    table-long′ : Table n quarter table′
+    table-long′ = table-kept (length-set table place v) (s .table-long)
 
     place-in : place < length table
-    place-in = omega (arith, room, below, s .table-long)
+    place-in = omega (arith, room k (s .here), below, s .table-long .four)
 
-    products-kept : (i j : ℕ) → i < j → j ≤ k → Multiples at barred table′ i j
+    products-kept : (i j : ℕ) → i < j → j ≤ k → Multiples at barred quarter table′ i j
     products-kept i j lo hi =
         let p = s .products i j lo hi in
-        let r : row j + j ≤ pairs = row-inside j (omega (arith, few)) in
+        let r : row j + j ≤ quarter = room j (omega (arith, s .here)) in
         record {
           x = subst (λ (f : Float). Whole f (pairX (at i) (at j))) (sym (kept (row j + i) (λ e. absurd (omega arith)))) (p .x);
-          y = subst (λ (f : Float). Whole f (pairY (at i) (at j))) (sym (kept (pairs + row j + i) (λ e. absurd (omega arith)))) (p .y);
-          z = subst (λ (f : Float). Whole f (pairZ (at i) (at j))) (sym (kept (2 * pairs + row j + i) (λ e. absurd (omega arith)))) (p .z);
+          y = subst (λ (f : Float). Whole f (pairY (at i) (at j))) (sym (kept (quarter + row j + i) (λ e. absurd (omega arith)))) (p .y);
+          z = subst (λ (f : Float). Whole f (pairZ (at i) (at j))) (sym (kept (2 * quarter + row j + i) (λ e. absurd (omega arith)))) (p .z);
         }
 
-    weights-kept : (i j : ℕ) → i < j → j < k → Tells at barred i j (cell table′ (3 * pairs + row j + i))
+    weights-kept : (i j : ℕ) → i < j → j < k → Tells at barred i j (cell table′ (3 * quarter + row j + i))
     weights-kept i j lo hi =
         let r : row j + j ≤ row k = row-more j k hi in
-        subst (Tells at barred i j) (sym (kept (3 * pairs + row j + i) (λ e. absurd (omega arith)))) (s .weights i j lo hi)
+        subst (Tells at barred i j) (sym (kept (3 * quarter + row j + i) (λ e. absurd (omega arith)))) (s .weights i j lo hi)
 
-    done-more : (i : ℕ) → m ≤ i → i < k → Tells at barred i k (cell table′ (3 * pairs + row k + i))
+    done-more : (i : ℕ) → m ≤ i → i < k → Tells at barred i k (cell table′ (3 * quarter + row k + i))
     done-more i lo hi =
         ⊎-elim
-        (λ (e : m ≡ i). subst (λ (j : ℕ). Tells at barred j k (cell table′ (3 * pairs + row k + j))) e (subst (Tells at barred m k) (sym (getD-set-same table place v nan place-in)) t))
-        (λ (g : m < i). subst (Tells at barred i k) (sym (kept (3 * pairs + row k + i) (λ e. absurd (omega arith)))) (s .done i g hi))
+        (λ (e : m ≡ i). subst (λ (j : ℕ). Tells at barred j k (cell table′ (3 * quarter + row k + j))) e (subst (Tells at barred m k) (sym (getD-set-same table place v nan place-in)) t))
+        (λ (g : m < i). subst (Tells at barred i k) (sym (kept (3 * quarter + row k + i) (λ e. absurd (omega arith)))) (s .done i g hi))
         (eq-or-lt-of-le lo)
 
     -- ---- the ways by m
 
     -- the gaps of the products of i and j, q and k, and m and k
-    module _ {i j : ℕ} (q : ℕ) (lo : i < n) (hi : j < n) (p : Multiples at barred table′ i j) (g : q < k) where
+    module _ {i j : ℕ} (q : ℕ) (lo : i < n) (hi : j < n) (p : Multiples at barred quarter table′ i j) (g : q < k) where
       mk : Most (at m) (at k)
       mk = product-most (s .loop) m k in-m (s .here)
 
@@ -174,14 +175,14 @@ module _ {at : ℕ → Point} {barred : ℕ → ℕ → Bool} {n k m : ℕ} {bar
       gap-x : Gap (gapOf table′ (row j + i) xs m q) (pairX (at i) (at j) -ℤ pairX (at q) (at k) +ℤ pairX (at m) (at k))
       gap-x = gap (p .x) (s .x q g) (s .x m below) (ij .0) (qk .0) (mk .0)
 
-      gap-y : Gap (gapOf table′ (pairs + row j + i) ys m q) (pairY (at i) (at j) -ℤ pairY (at q) (at k) +ℤ pairY (at m) (at k))
+      gap-y : Gap (gapOf table′ (quarter + row j + i) ys m q) (pairY (at i) (at j) -ℤ pairY (at q) (at k) +ℤ pairY (at m) (at k))
       gap-y = gap (p .y) (s .y q g) (s .y m below) (ij .1) (qk .1) (mk .1)
 
-      gap-z : Gap (gapOf table′ (2 * pairs + row j + i) zs m q) (pairZ (at i) (at j) -ℤ pairZ (at q) (at k) +ℤ pairZ (at m) (at k))
+      gap-z : Gap (gapOf table′ (2 * quarter + row j + i) zs m q) (pairZ (at i) (at j) -ℤ pairZ (at q) (at k) +ℤ pairZ (at m) (at k))
       gap-z = gap (p .z) (s .z q g) (s .z m below) (ij .2) (qk .2) (mk .2)
 
       -- whatever the product at the place is of
-      sizable-by : row j + i ≡ row m + q → Sizable table′ (row m) m xs ys zs q
+      sizable-by : row j + i ≡ row m + q → Sizable quarter table′ (row m) m xs ys zs q
       sizable-by e = record {
         x = pairX (at i) (at j) -ℤ pairX (at q) (at k) +ℤ pairX (at m) (at k);
         y = pairY (at i) (at j) -ℤ pairY (at q) (at k) +ℤ pairY (at m) (at k);
@@ -192,7 +193,7 @@ module _ {at : ℕ → Point} {barred : ℕ → ℕ → Bool} {n k m : ℕ} {bar
       }
 
     -- at the place m of row m the next row begins
-    sizable : (i : ℕ) → i ≤ m → Sizable table′ (row m) m xs ys zs i
+    sizable : (i : ℕ) → i ≤ m → Sizable quarter table′ (row m) m xs ys zs i
     sizable i l =
         ⊎-elim
         (λ (e : i ≡ m).
@@ -201,18 +202,17 @@ module _ {at : ℕ → Point} {barred : ℕ → ℕ → Bool} {n k m : ℕ} {bar
         (λ (g : i < m). sizable-by i (omega (arith, in-m)) in-m (products-kept i m g (le-of-lt below)) (omega (arith, below)) refl)
         (eq-or-lt-of-le l)
 
-    pub relax-room : RelaxRoom table′ (row m) m xs ys zs column
+    pub relax-room : RelaxRoom quarter table′ (row m) m xs ys zs column
     relax-room =
         let f : row (suc m) ≡ row m + m = row-next m in
-        let g : row (suc m) + suc m ≤ pairs = row-inside (suc m) (lt-of-le-of-lt below few) in
+        let g : row (suc m) + suc m ≤ quarter = room (suc m) (lt-of-le-of-lt below (s .here)) in
         record {
           inside = omega arith;
-          short = omega (arith, few, below);
-          table-long = table-long′;
-          xs-long = s .xs-long;
-          ys-long = s .ys-long;
-          zs-long = s .zs-long;
-          column-long = s .column-long;
+          four = table-long′ .four;
+          xs-long = omega (arith, in-m, s .xs-long);
+          ys-long = omega (arith, in-m, s .ys-long);
+          zs-long = omega (arith, in-m, s .zs-long);
+          column-long = omega (arith, in-m, s .column-long);
           sizable = sizable;
         }
 
@@ -220,10 +220,10 @@ module _ {at : ℕ → Point} {barred : ℕ → ℕ → Bool} {n k m : ℕ} {bar
       in-k : i < k
       in-k = omega (arith, below)
 
-      before : Tells at barred i m (cell table′ (3 * pairs + row m + i))
+      before : Tells at barred i m (cell table′ (3 * quarter + row m + i))
       before = weights-kept i m g below
 
-      p : Multiples at barred table′ i m
+      p : Multiples at barred quarter table′ i m
       p = products-kept i m g (le-of-lt below)
 
       in-i : i < n
@@ -236,7 +236,7 @@ module _ {at : ℕ → Point} {barred : ℕ → ℕ → Bool} {n k m : ℕ} {bar
       unfolding by
       way = record { low = g; high = below; left = before .weighs; right = t .weighs; left-told = before .told; right-told = t .told; makes = refl }
 
-      by-held : Natural (byWay table′ (row m) m v xs ys zs i) by
+      by-held : Natural (byWay quarter table′ (row m) m v xs ys zs i) by
       unfolding byWay by
       by-held =
           let x = gap-x i in-i in-m p in-k in
@@ -260,12 +260,12 @@ module _ {at : ℕ → Point} {barred : ℕ → ℕ → Bool} {n k m : ℕ} {bar
       unfolding by
       due-skips f = record { weighs = d .weighs; held = d .held; low = inr (omega (arith, below), lowest-skip way low (omega arith)) }
 
-      due-less : (x : Float) → x ≡ lesserOf (byWay table′ (row m) m v xs ys zs i) (cell column i) → Due at barred i k m x
+      due-less : (x : Float) → x ≡ lesserOf (byWay quarter table′ (row m) m v xs ys zs i) (cell column i) → Due at barred i k m x
       unfolding lesserOf
       due-less x e = go (ltb by (d .weighs)) refl
         where
-          chosen : (b : Bool) → ltb by (d .weighs) ≡ b → x ≡ cond b (byWay table′ (row m) m v xs ys zs i) (cell column i)
-          chosen b f = e ∙ ap (λ (c : Bool). cond c (byWay table′ (row m) m v xs ys zs i) (cell column i)) (natural-less _ _ by (d .weighs) by-held (d .held) ∙ f)
+          chosen : (b : Bool) → ltb by (d .weighs) ≡ b → x ≡ cond b (byWay quarter table′ (row m) m v xs ys zs i) (cell column i)
+          chosen b f = e ∙ ap (λ (c : Bool). cond c (byWay quarter table′ (row m) m v xs ys zs i) (cell column i)) (natural-less _ _ by (d .weighs) by-held (d .held) ∙ f)
 
           go : (b : Bool) → ltb by (d .weighs) ≡ b → Due at barred i k m x
           go true f = record {
@@ -281,8 +281,8 @@ module _ {at : ℕ → Point} {barred : ℕ → ℕ → Bool} {n k m : ℕ} {bar
 
     -- ---- the turn of m is done
 
-    turned : (column′ : List Float) → Long column′ → ((i : ℕ) → i < m → Due at barred i k m (cell column′ i))
-        → Sweeping at barred n k m bars (strips xs ys zs column′) table′
+    turned : (column′ : List Float) → Long n column′ → ((i : ℕ) → i < m → Due at barred i k m (cell column′ i))
+        → Sweeping at barred quarter n k m bars (strips xs ys zs column′) table′
     turned column′ l f = record {
       loop = s .loop;
       here = s .here;
@@ -302,9 +302,9 @@ module _ {at : ℕ → Point} {barred : ℕ → ℕ → Bool} {n k m : ℕ} {bar
       due = f;
     }
 
-    pub offered-skips : far ≤ t .weighs → Sweeping at barred n k m bars (strips xs ys zs column) table′
+    pub offered-skips : far ≤ t .weighs → Sweeping at barred quarter n k m bars (strips xs ys zs column) table′
     offered-skips f = turned column (s .column-long) (λ i g. due-skips i g f)
 
-    pub offered-relaxes : {column′ : List Float} → Long column′ → Relaxed table′ (row m) m v xs ys zs column column′
-        → Sweeping at barred n k m bars (strips xs ys zs column′) table′
+    pub offered-relaxes : {column′ : List Float} → Long n column′ → Relaxed quarter table′ (row m) m v xs ys zs column column′
+        → Sweeping at barred quarter n k m bars (strips xs ys zs column′) table′
     offered-relaxes {column′} l r = turned column′ l (λ i g. due-less i g (cell column′ i) (r i g))

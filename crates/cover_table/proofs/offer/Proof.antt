@@ -14,34 +14,33 @@ settled r = search
 abbrev placed : tie.After-relax → tie.After-row-of
 placed r = search
 
-abbrev before : tie.After-relax → tie.After-row-of2
-before r = search
-
 -- the places that are asked for
-room : (r : tie.After-row-of) → OfferRoom (entry (settled r) .args .k) (entry (settled r) .args .m) (entry (settled r) .args .bars .now) (entry (settled r) .args .column .now) (entry (settled r) .args .table .now)
-room r = offer-room (entry (settled r) .pre)
+room : (r : tie.After-row-of)
+    → let a = entry (settled r) .args in OfferRoom (a .quarter) (a .k) (a .m) (a .bars .now) (a .column .now) (a .table .now)
+room r = offer-room (entry (settled r) .pre .0)
 
 pub offer-spec : {M : Type 1} → statement M
 offer-spec =
     tie.close
     (tie.spec
     (λ c. search needs)
+    (λ c. search (needs, offer-room))
     (λ c. search needs)
-    (λ c. search needs)
-    (λ c. search needs)
-    (λ c κs. search needs)
-    (λ c κs. search needs)
+    (λ c. search (needs, offer-room))
+    (λ c κs. search (needs, offer-room))
+    (λ c. search (needs, offer-room))
+    (λ c κs. search (needs, offer-room))
     (λ c. search (needs, room c, c .row-of .ensures))
     (λ c. search (needs, room c, c .row-of .ensures))
     (λ c. search (needs, room c, c .row-of .ensures))
     (λ c. search (needs, room c, c .row-of .ensures))
-    (λ c κs. search needs)
-    (λ c κs. search offer-relax-room)
+    (λ c κs. let p : tie.After-row-of = search in let s = settled p in offer-relax-room (s .settled .ensures) (p .row-of .ensures) (entry s .pre .1) (entry s .pre .0))
     (λ c. search needs)
     (λ c. search needs)
     (λ c.
     let r : tie.After-relax = search in
     let p = placed r in
-    offer-relaxes (settled p .settled .ensures) (p .row-of .ensures) (before r .row-of2 .ensures) (search (r .relax .kept)) (r .relax .ensures))
+    let s = settled p in
+    offer-relaxes (s .settled .ensures) (p .row-of .ensures) (entry s .pre .1) (search (r .relax .kept)) (r .relax .ensures))
     (λ c. search needs)
     (λ c. let p : tie.After-row-of = search in offer-skips (settled p .settled .ensures) (p .row-of .ensures) (c .if1 .left)))

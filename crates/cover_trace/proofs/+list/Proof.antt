@@ -1,6 +1,7 @@
 -- `list` lays the triangle of the first apex, then lists the two parts, each shorter than the whole.
 use Prim.Native.Nat.{ℕ, _<_, _-_}
 use native.Mathlib.Omega.{arith}
+use mathlib.Core.Path.{refl}
 use borrow.Author.Needs.{needs}
 use borrow.Fn.Kinds.{In}
 use borrow.Fn.PlainCycle.{Measures, is, falls, and}
@@ -22,7 +23,7 @@ list-at t = and 3 list-kinds.ps (is 3 list-kinds.ps μ-list t) list.Pre
 abbrev list-below : ℕ → In 3 list-kinds.ps
 list-below t = and 3 list-kinds.ps (falls 3 list-kinds.ps _<_ μ-list t) list.Pre
 
--- the entry at the measure t, where the apex is found, where its triangle is laid, and where the first part is listed
+-- the entry at the measure t, where the apex is found, and where its triangle is laid
 abbrev Start : ℕ → Type 0
 Start t = list-lts.Start (middle-reads.Asked, middle-reads.Learnt, lay-reads.Asked, lay-reads.Learnt, list-below t, list.Post) (list-at t) list.Post
 
@@ -32,8 +33,22 @@ Found t = list-lts.After-middle (middle-reads.Asked, middle-reads.Learnt, lay-re
 abbrev Laid : ℕ → Type 0
 Laid t = list-lts.After-lay (middle-reads.Asked, middle-reads.Learnt, lay-reads.Asked, lay-reads.Learnt, list-below t, list.Post) (list-at t) list.Post
 
-abbrev Listed : ℕ → Type 0
-Listed t = list-lts.After-list (middle-reads.Asked, middle-reads.Learnt, lay-reads.Asked, lay-reads.Learnt, list-below t, list.Post) (list-at t) list.Post
+-- where the part before the apex is a side, and where it is not
+abbrev Side : ℕ → Type 0
+Side t = list-lts.Then1 (middle-reads.Asked, middle-reads.Learnt, lay-reads.Asked, lay-reads.Learnt, list-below t, list.Post) (list-at t) list.Post
+
+abbrev Part : ℕ → Type 0
+Part t = list-lts.Else1 (middle-reads.Asked, middle-reads.Learnt, lay-reads.Asked, lay-reads.Learnt, list-below t, list.Post) (list-at t) list.Post
+
+-- where the part behind such a side is listed, where the part before the apex is, and where both are
+abbrev Behind : ℕ → Type 0
+Behind t = list-lts.After-list (middle-reads.Asked, middle-reads.Learnt, lay-reads.Asked, lay-reads.Learnt, list-below t, list.Post) (list-at t) list.Post
+
+abbrev Before : ℕ → Type 0
+Before t = list-lts.After-list2 (middle-reads.Asked, middle-reads.Learnt, lay-reads.Asked, lay-reads.Learnt, list-below t, list.Post) (list-at t) list.Post
+
+abbrev Both : ℕ → Type 0
+Both t = list-lts.After-list3 (middle-reads.Asked, middle-reads.Learnt, lay-reads.Asked, lay-reads.Learnt, list-below t, list.Post) (list-at t) list.Post
 
 abbrev entry : (t : ℕ) → Found t → Start t
 entry t f = search
@@ -41,34 +56,76 @@ entry t f = search
 abbrev found : (t : ℕ) → Laid t → Found t
 found t l = search
 
-abbrev laid : (t : ℕ) → Listed t → Laid t
-laid t l = search
+abbrev laid : (t : ℕ) → Before t → Laid t
+laid t b = search
+
+abbrev laid-at : (t : ℕ) → Side t → Laid t
+laid-at t s = search
+
+abbrev before : (t : ℕ) → Both t → Before t
+before t b = search
 
 pub +list-spec : {M : Type 1} → statement M
 +list-spec =
     close μ-list
     (λ t.
     list-lts.spec (middle-reads.Asked, middle-reads.Learnt, lay-reads.Asked, lay-reads.Learnt, list-below t, list.Post) (list-at t) list.Post
+    (λ c κs. search needs)
+    (λ c κs. search needs)
     (λ c. search needs)
-    (λ c. let s : Start t = search in lists-side (s .args .ring .now) (c .if1 .taken))
-    (λ c κs. search needs)
-    (λ c κs. search needs)
+    (λ c. search needs)
+    (λ c. search needs)
+    (λ c. search needs)
+    (λ c.
+    let s : Side t = search in
+    let l = laid-at t s in
+    let f = found t l in
+    let r = entry t f .args .ring .now in
+    lists-all (entry t f .pre .1) (f .middle .ensures) (l .lay .ensures) refl (lists-side r (s .if1 .taken)) (lists-side r (c .if2 .taken)))
     (λ c. search needs)
     (λ c κs.
+    let s : Side t = search in
+    let e : list-lts.Else2 (middle-reads.Asked, middle-reads.Learnt, lay-reads.Asked, lay-reads.Learnt, list-below t, list.Post) (list-at t) list.Post = search in
+    let l = laid-at t s in
+    let f = found t l in
+    let p = entry t f .pre in (
+      omega (arith, p .0, f .middle .ensures .0, f .middle .ensures .1),
+      room-after (p .1) (f .middle .ensures) (l .lay .ensures) refl (lists-side (entry t f .args .ring .now) (s .if1 .taken)) (e .if2 .left),
+    ))
+    (λ c. search needs)
+    (λ c.
+    let o : Behind t = search in
+    let s : Side t = search in
+    let l = laid-at t s in
+    let f = found t l in
+    lists-all (entry t f .pre .1) (f .middle .ensures) (l .lay .ensures) refl (lists-side (entry t f .args .ring .now) (s .if1 .taken)) (o .list .ensures))
+    (λ c. search needs)
+    (λ c κs.
+    let e : Part t = search in
     let l : Laid t = search in
     let f = found t l in
     let p = entry t f .pre in
-    (omega (arith, p .0, f .middle .ensures .0, f .middle .ensures .1), room-before (p .1) (f .middle .ensures) (l .lay .ensures)))
-    (λ c κs.
-    let q : Listed t = search in
-    let l = laid t q in
-    let f = found t l in
-    let p = entry t f .pre in
-    (omega (arith, p .0, f .middle .ensures .0, f .middle .ensures .1), room-after (p .1) (f .middle .ensures) (l .lay .ensures) (search (q .list .kept)) (q .list .ensures)))
+    (omega (arith, p .0, f .middle .ensures .0, f .middle .ensures .1), room-before (p .1) (f .middle .ensures) (l .lay .ensures) (e .if1 .left)))
+    (λ c. search needs)
     (λ c. search needs)
     (λ c.
-    let o : list-lts.After-list2 (middle-reads.Asked, middle-reads.Learnt, lay-reads.Asked, lay-reads.Learnt, list-below t, list.Post) (list-at t) list.Post = search in
-    let q : Listed t = search in
-    let l = laid t q in
+    let b : Before t = search in
+    let l = laid t b in
     let f = found t l in
-    lists-all (entry t f .pre .1) (f .middle .ensures) (l .lay .ensures) (search (q .list .kept)) (q .list .ensures) (o .list2 .ensures)))
+    lists-all (entry t f .pre .1) (f .middle .ensures) (l .lay .ensures) (search (b .list2 .kept)) (b .list2 .ensures) (lists-side (entry t f .args .ring .now) (c .if3 .taken)))
+    (λ c κs.
+    let b : Before t = search in
+    let e : list-lts.Else3 (middle-reads.Asked, middle-reads.Learnt, lay-reads.Asked, lay-reads.Learnt, list-below t, list.Post) (list-at t) list.Post = search in
+    let l = laid t b in
+    let f = found t l in
+    let p = entry t f .pre in (
+      omega (arith, p .0, f .middle .ensures .0, f .middle .ensures .1),
+      room-after (p .1) (f .middle .ensures) (l .lay .ensures) (search (b .list2 .kept)) (b .list2 .ensures) (e .if3 .left),
+    ))
+    (λ c. search needs)
+    (λ c.
+    let o : Both t = search in
+    let b = before t o in
+    let l = laid t b in
+    let f = found t l in
+    lists-all (entry t f .pre .1) (f .middle .ensures) (l .lay .ensures) (search (b .list2 .kept)) (b .list2 .ensures) (o .list3 .ensures)))

@@ -71,7 +71,8 @@ module _ {tri : ℕ → ℕ → ℕ → ℕ} {barred : ℕ → ℕ → Bool} {i 
 -- ---- the listing
 
 -- a side has no triangle
-pub lists-side : {table : List Float} (ring : List ℕ) {buffer : List ℕ} {p i k : ℕ} → i + 1 ≡ k → ListsPatch table ring buffer p i k p buffer
+pub lists-side : {quarter : ℕ} {table : List Float} (ring : List ℕ) {buffer : List ℕ} {p i k : ℕ} → i + 1 ≡ k
+    → ListsPatch quarter table ring buffer p i k p buffer
 lists-side ring {buffer} {p} {i} {k} e = (omega arith, λ at barred n w q c h. go c (h .among .covers))
   where
     go : (c : Cover) → Covers i k c → buffer ≡ laid p (cornersOf (vertexOf ring) (triangles i k c)) buffer
@@ -79,14 +80,14 @@ lists-side ring {buffer} {p} {i} {k} e = (omega arith, λ at barred n w q c h. g
     go (apex m y z) v = let lo : i < m = v .0 in let hi : m < k = v .1 in absurd (omega arith)
 
 -- both parts of a stretch of the loop are such
-module _ {at : ℕ → Point} {barred : ℕ → ℕ → Bool} {n : ℕ} {table : List Float} {i k w m : ℕ} (q : Weighed at barred n table i k w) (a : MadeAt naturals (triOf at) barred i k w m) where
-  weighed-before : Weighed at barred n table i m (a .left)
+module _ {at : ℕ → Point} {barred : ℕ → ℕ → Bool} {quarter n : ℕ} {table : List Float} {i k w m : ℕ} (q : Weighed at barred quarter n table i k w) (a : MadeAt naturals (triOf at) barred i k w m) where
+  weighed-before : Weighed at barred quarter n table i m (a .left)
   weighed-before = record { loop = q .loop; filled = q .filled; low = a .low; high = omega (arith, a .high, q .high); least = a .left-least }
 
-  weighed-after : Weighed at barred n table m k (a .right)
+  weighed-after : Weighed at barred quarter n table m k (a .right)
   weighed-after = record { loop = q .loop; filled = q .filled; low = a .high; high = q .high; least = a .right-least }
 
-module _ {table : List Float} {ring buffer : List ℕ} {p i k m : ℕ} (r : ListRoom table ring buffer p i k) (mid : (i < m) × (m < k) × Middle table i k m) where
+module _ {quarter : ℕ} {table : List Float} {ring buffer : List ℕ} {p i k m : ℕ} (r : ListRoom quarter table ring buffer p i k) (mid : (i < m) × (m < k) × Middle quarter table i k m) where
   a : MadeAt naturals (triOf (r .weighable .at)) (r .weighable .barred) i k (r .weighable .w) m
   a = let q = r .weighable in mid .2 (q .at) (q .barred) (q .n) (q .w) (q .weighed) .made
 
@@ -101,25 +102,30 @@ module _ {table : List Float} {ring buffer : List ℕ} {p i k m : ℕ} (r : List
     same₁ : length buffer₁ ≡ length buffer
     same₁ = ap length e₁ ∙ laid-length p buffer one (omega (arith, inside))
 
-    pub room-before : ListRoom table ring buffer₁ (p + 3) i m
-    room-before = record {
+    pub room-before : (i + 1 ≡ m → ⊥) → ListRoom quarter table ring buffer₁ (p + 3) i m
+    room-before h = record {
+      no-side = omega (arith, inside);
       weighable = record { at = r .weighable .at; barred = r .weighable .barred; n = r .weighable .n; w = a .left; weighed = weighed-before (r .weighable .weighed) a };
       in-ring = omega (arith, inside);
       room = omega (arith, inside, same₁);
     }
 
-    module _ {o : ℕ} {buffer₂ : List ℕ} (same : length buffer₂ ≡ length buffer₁) (b : ListsPatch table ring buffer₁ (p + 3) i m o buffer₂) where
-      pub room-after : ListRoom table ring buffer₂ o m k
-      room-after = record {
+    module _ {o : ℕ} {buffer₂ : List ℕ} (same : length buffer₂ ≡ length buffer₁) (b : ListsPatch quarter table ring buffer₁ (p + 3) i m o buffer₂) where
+      after-in : o + 3 * (k - m - 1) ≤ length buffer₂
+      after-in = omega (arith, inside, same₁, same, b .0)
+
+      pub room-after : (m + 1 ≡ k → ⊥) → ListRoom quarter table ring buffer₂ o m k
+      room-after h = record {
+        no-side = omega (arith, inside);
         weighable = record { at = r .weighable .at; barred = r .weighable .barred; n = r .weighable .n; w = a .right; weighed = weighed-after (r .weighable .weighed) a };
         in-ring = r .in-ring;
-        room = omega (arith, inside, same₁, same, b .0);
+        room = after-in;
       }
 
-      pub lists-all : {o′ : ℕ} {buffer₃ : List ℕ} → ListsPatch table ring buffer₂ o m k o′ buffer₃ → ListsPatch table ring buffer p i k o′ buffer₃
+      pub lists-all : {o′ : ℕ} {buffer₃ : List ℕ} → ListsPatch quarter table ring buffer₂ o m k o′ buffer₃ → ListsPatch quarter table ring buffer p i k o′ buffer₃
       lists-all {o′} {buffer₃} d = (omega (arith, inside, b .0, d .0), all)
         where
-          all : (at : ℕ → Point) (barred : ℕ → ℕ → Bool) (n w : ℕ) → Weighed at barred n table i k w → (c : Cover) → Patch naturals (triOf at) barred i k c
+          all : (at : ℕ → Point) (barred : ℕ → ℕ → Bool) (n w : ℕ) → Weighed at barred quarter n table i k w → (c : Cover) → Patch naturals (triOf at) barred i k c
               → buffer₃ ≡ laid p (cornersOf (vertexOf ring) (triangles i k c)) buffer
           all at barred n w x c h = go (patch-splits (x .least) (first .made) (first .none-before) c (omega (arith, inside)) h)
             where

@@ -10,52 +10,52 @@ use Rattle.base_limits.specs.Limits.{longest}
 use Rattle.surface_rules.specs.Buffers.{laid}
 use Rattle.surface_rules.proofs.Laws.Laid.{laid-none, laid-more}
 use Rattle.cover_floats.specs.Workings.Whole.{sizeOf}
-use Rattle.cover_column.specs.Workings.Columns.{cell, Table, row, pairs}
+use Rattle.cover_column.specs.Workings.Columns.{cell, row}
 use Rattle.cover_trace.specs.Workings.Ways.{gapX, gapY, gapZ, triangleOf, TriangleRoom, Weighable, IsWay}
 use Rattle.cover_trace.proofs.Laws.Ways.{place-in, short, triangle-room, parts-heavy, way-is, way-is-not}
 
-pub triangle-is : (table : List Float) (im ik mk : ℕ) (a b c : Float) → a ≡ sizeOf (gapX table im ik mk) → b ≡ sizeOf (gapY table im ik mk) → c ≡ sizeOf (gapZ table im ik mk)
-    → add binary64 (add binary64 a b) c ≡ triangleOf table im ik mk
+pub triangle-is : (quarter : ℕ) (table : List Float) (im ik mk : ℕ) (a b c : Float) → a ≡ sizeOf (gapX table im ik mk) → b ≡ sizeOf (gapY quarter table im ik mk) → c ≡ sizeOf (gapZ quarter table im ik mk)
+    → add binary64 (add binary64 a b) c ≡ triangleOf quarter table im ik mk
 unfolding triangleOf
-triangle-is table im ik mk a b c e f g = rw (e, f, g)
+triangle-is quarter table im ik mk a b c e f g = rw (e, f, g)
 
 -- what the code asks of the places
-pub record TryRoom (table : List Float) (i k m : ℕ) : Type 0 where
+pub record TryRoom (quarter : ℕ) (table : List Float) (i k m : ℕ) : Type 0 where
   pub m-short : m < longest
   pub k-short : k < longest
-  pub im-in : row m + i < pairs
-  pub ik-in : row k + i < pairs
-  pub mk-in : row k + m < pairs
-  pub long : Table table
+  pub im-in : row m + i < quarter
+  pub ik-in : row k + i < quarter
+  pub mk-in : row k + m < quarter
+  pub four : 4 * quarter ≤ length table
 
 -- what the two parts weigh that stand at these places
-abbrev parts : List Float → ℕ → ℕ → Float
-parts table im mk = add binary64 (cell table (3 * pairs + im)) (cell table (3 * pairs + mk))
+abbrev parts : ℕ → List Float → ℕ → ℕ → Float
+parts quarter table im mk = add binary64 (cell table (3 * quarter + im)) (cell table (3 * quarter + mk))
 
-module _ {table : List Float} {i k m : ℕ} where
-  pub try-room : Weighable table i k × (i < m) × (m < k) → TryRoom table i k m
+module _ {quarter : ℕ} {table : List Float} {i k m : ℕ} where
+  pub try-room : Weighable quarter table i k × (i < m) × (m < k) → TryRoom quarter table i k m
   try-room (q, lo, hi) =
       let s : k < longest = short (q .weighed) in
       let s′ : m < longest = omega arith in
       record {
         m-short = s′;
         k-short = s;
-        im-in = place-in i m lo s′;
-        ik-in = place-in i k (q .weighed .low) s;
-        mk-in = place-in m k hi s;
-        long = q .weighed .filled .long;
+        im-in = place-in i m lo (omega (arith, q .weighed .high)) (q .weighed .filled .long);
+        ik-in = place-in i k (q .weighed .low) (q .weighed .high) (q .weighed .filled .long);
+        mk-in = place-in m k hi (q .weighed .high) (q .weighed .filled .long);
+        four = q .weighed .filled .long .four;
       }
 
   -- the rows' beginnings
   module _ {a b c : ℕ} (f : a ≡ row m) (g : b ≡ row k) (h : c ≡ row k) where
-    pub try-triangle-room : Weighable table i k × (i < m) × (m < k) → TriangleRoom table (a + i) (b + i) (c + m)
+    pub try-triangle-room : Weighable quarter table i k × (i < m) × (m < k) → TriangleRoom quarter table (a + i) (b + i) (c + m)
     try-triangle-room (q, lo, hi) = rw (f, g, h) (triangle-room (q .weighed) lo hi)
 
-    pub try-heavy : i < m → m < k → lt (cell table (3 * pairs + (b + i))) (parts table (a + i) (c + m)) ≡ true → IsWay table i k m false
+    pub try-heavy : i < m → m < k → lt (cell table (3 * quarter + (b + i))) (parts quarter table (a + i) (c + m)) ≡ true → IsWay quarter table i k m false
     try-heavy lo hi e o barred n w p = ((λ t. absurd (true≢false (sym t))), λ t. parts-heavy p lo hi (rw (f, g, h) at e))
 
-    pub try-all : {x : Float} → i < m → m < k → x ≡ triangleOf table (a + i) (b + i) (c + m)
-        → IsWay table i k m (le (add binary64 (parts table (a + i) (c + m)) x) (cell table (3 * pairs + (b + i))))
+    pub try-all : {x : Float} → i < m → m < k → x ≡ triangleOf quarter table (a + i) (b + i) (c + m)
+        → IsWay quarter table i k m (le (add binary64 (parts quarter table (a + i) (c + m)) x) (cell table (3 * quarter + (b + i))))
     try-all lo hi e o barred n w p = (way-is p lo hi (rw (f, g, h) at e) (rw (f, g, h)), way-is-not p lo hi (rw (f, g, h) at e) (rw (f, g, h)))
 
 -- three corners written one after the other are laid at once

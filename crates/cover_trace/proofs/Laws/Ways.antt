@@ -19,8 +19,8 @@ use Rattle.cover_floats.specs.Workings.Whole.{Whole, Natural}
 use Rattle.cover_floats.proofs.Laws.Sums.{natural-add}
 use Rattle.cover_floats.proofs.Laws.Orders.{natural-less, natural-at-most}
 use Rattle.cover_floats.proofs.Laws.Clearing.{whole-size}
-use Rattle.cover_column.specs.Workings.Columns.{cell, row, pairs}
-use Rattle.cover_column.proofs.Laws.Rows.{row-inside}
+use Rattle.cover_column.specs.Workings.Columns.{cell, row, Table}
+use Rattle.cover_column.proofs.Laws.Rows.{row-more}
 use Rattle.cover_table.specs.Workings.Products.{pairX, pairY, pairZ}
 use Rattle.cover_table.specs.Workings.Told.{far, some, Way}
 use Rattle.cover_table.specs.Workings.Table.{Multiples, Tells}
@@ -30,10 +30,10 @@ use Rattle.cover_table.proofs.Laws.Sweeps.{far-is, Gap, gap, Most, light, produ
 use Rattle.cover_trace.specs.Workings.Ways.{gapX, gapY, gapZ, triangleOf, TriangleRoom, Weighed}
 
 -- the stretches' places within a part
-pub place-in : (i k : ℕ) → i < k → k < longest → row k + i < pairs
-place-in i k h l = let a : row k + k ≤ pairs = row-inside k l in omega arith
+pub place-in : {n quarter : ℕ} {table : List Float} (i k : ℕ) → i < k → k < n → Table n quarter table → row k + i < quarter
+place-in {n} i k h l t = omega (arith, row-more k n l, t .deep)
 
-module _ {at : ℕ → Point} {barred : ℕ → ℕ → Bool} {n : ℕ} {table : List Float} {i k w : ℕ} (p : Weighed at barred n table i k w) where
+module _ {at : ℕ → Point} {barred : ℕ → ℕ → Bool} {quarter n : ℕ} {table : List Float} {i k w : ℕ} (p : Weighed at barred quarter n table i k w) where
   pub short : k < longest
   short = lt-of-lt-of-le (p .high) (p .loop .few)
 
@@ -47,13 +47,13 @@ module _ {at : ℕ → Point} {barred : ℕ → ℕ → Bool} {n : ℕ} {table :
     in-i : i < n
     in-i = omega (arith, in-m)
 
-    im : Multiples at barred table i m
+    im : Multiples at barred quarter table i m
     im = p .filled .products i m lo in-m
 
-    ik : Multiples at barred table i k
+    ik : Multiples at barred quarter table i k
     ik = p .filled .products i k (p .low) in-k
 
-    mk : Multiples at barred table m k
+    mk : Multiples at barred quarter table m k
     mk = p .filled .products m k hi in-k
 
     most-im : Most (at i) (at m)
@@ -72,18 +72,18 @@ module _ {at : ℕ → Point} {barred : ℕ → ℕ → Bool} {n : ℕ} {table :
     x-gap : Gap (gapX table (row m + i) (row k + i) (row k + m)) (pairX (at i) (at m) -ℤ pairX (at i) (at k) +ℤ pairX (at m) (at k))
     x-gap = gap (im .x) (ik .x) (mk .x) (most-im .0) (most-ik .0) (most-mk .0)
 
-    y-gap : Gap (gapY table (row m + i) (row k + i) (row k + m)) (pairY (at i) (at m) -ℤ pairY (at i) (at k) +ℤ pairY (at m) (at k))
-    y-gap = gap (at-place pairs (row m) i (im .y)) (at-place pairs (row k) i (ik .y)) (at-place pairs (row k) m (mk .y)) (most-im .1) (most-ik .1) (most-mk .1)
+    y-gap : Gap (gapY quarter table (row m + i) (row k + i) (row k + m)) (pairY (at i) (at m) -ℤ pairY (at i) (at k) +ℤ pairY (at m) (at k))
+    y-gap = gap (at-place quarter (row m) i (im .y)) (at-place quarter (row k) i (ik .y)) (at-place quarter (row k) m (mk .y)) (most-im .1) (most-ik .1) (most-mk .1)
 
-    z-gap : Gap (gapZ table (row m + i) (row k + i) (row k + m)) (pairZ (at i) (at m) -ℤ pairZ (at i) (at k) +ℤ pairZ (at m) (at k))
-    z-gap = gap (at-place (2 * pairs) (row m) i (im .z)) (at-place (2 * pairs) (row k) i (ik .z)) (at-place (2 * pairs) (row k) m (mk .z)) (most-im .2) (most-ik .2) (most-mk .2)
+    z-gap : Gap (gapZ quarter table (row m + i) (row k + i) (row k + m)) (pairZ (at i) (at m) -ℤ pairZ (at i) (at k) +ℤ pairZ (at m) (at k))
+    z-gap = gap (at-place (2 * quarter) (row m) i (im .z)) (at-place (2 * quarter) (row k) i (ik .z)) (at-place (2 * quarter) (row k) m (mk .z)) (most-im .2) (most-ik .2) (most-mk .2)
 
-    pub triangle-room : TriangleRoom table (row m + i) (row k + i) (row k + m)
+    pub triangle-room : TriangleRoom quarter table (row m + i) (row k + i) (row k + m)
     triangle-room = record {
-      long = p .filled .long;
-      im-in = place-in i m lo (omega (arith, short));
-      ik-in = place-in i k (p .low) short;
-      mk-in = place-in m k hi short;
+      four = p .filled .long .four;
+      im-in = place-in i m lo in-m (p .filled .long);
+      ik-in = place-in i k (p .low) in-k (p .filled .long);
+      mk-in = place-in m k hi in-k (p .filled .long);
       x = _;
       y = _;
       z = _;
@@ -95,7 +95,7 @@ module _ {at : ℕ → Point} {barred : ℕ → ℕ → Bool} {n : ℕ} {table :
     small : 3 * most ≤ 2 ^ 40
     small = le-of-lt (lit< tt)
 
-    triangle-held : Natural (triangleOf table (row m + i) (row k + i) (row k + m)) (weightOf (at i) (at k) (at m))
+    triangle-held : Natural (triangleOf quarter table (row m + i) (row k + i) (row k + m)) (weightOf (at i) (at k) (at m))
     unfolding triangleOf
     triangle-held =
         subst (Natural _) (regrouped _ _ _ ∙ sym (weight-by-products (at i) (at k) (at m)))
@@ -110,22 +110,22 @@ module _ {at : ℕ → Point} {barred : ℕ → ℕ → Bool} {n : ℕ} {table :
     triangle-most = subst (λ (x : ℕ). x ≤ 9 * most) (sym (weight-by-products (at i) (at k) (at m))) (omega (arith, x-gap .1, y-gap .1, z-gap .1))
 
     -- what is told of the three stretches, at their places
-    told-at : (a b : ℕ) → Tells at barred a b (cell table (3 * pairs + row b + a)) → Tells at barred a b (cell table (3 * pairs + (row b + a)))
+    told-at : (a b : ℕ) → Tells at barred a b (cell table (3 * quarter + row b + a)) → Tells at barred a b (cell table (3 * quarter + (row b + a)))
     told-at a b t = subst (λ (q : ℕ). Tells at barred a b (cell table q)) (omega arith) t
 
-    before : Tells at barred i m (cell table (3 * pairs + (row m + i)))
+    before : Tells at barred i m (cell table (3 * quarter + (row m + i)))
     before = told-at i m (p .filled .weights i m lo in-m)
 
-    after : Tells at barred m k (cell table (3 * pairs + (row k + m)))
+    after : Tells at barred m k (cell table (3 * quarter + (row k + m)))
     after = told-at m k (p .filled .weights m k hi in-k)
 
-    whole : Tells at barred i k (cell table (3 * pairs + (row k + i)))
+    whole : Tells at barred i k (cell table (3 * quarter + (row k + i)))
     whole = told-at i k (p .filled .weights i k (p .low) in-k)
 
     whole-is : whole .weighs ≡ w
     whole-is = told-unique (whole .told) (some (p .least))
 
-    whole-held : Natural (cell table (3 * pairs + (row k + i))) w
+    whole-held : Natural (cell table (3 * quarter + (row k + i))) w
     whole-held = subst (Natural _) whole-is (whole .held)
 
     way : Way (triOf at) barred i k m (weightOf (at i) (at k) (at m) + (before .weighs + after .weighs))
@@ -137,19 +137,19 @@ module _ {at : ℕ → Point} {barred : ℕ → ℕ → Bool} {n : ℕ} {table :
     after-most : after .weighs ≤ far
     after-most = told-most (light (p .loop)) in-k (after .told)
 
-    parts-held : Natural (add binary64 (cell table (3 * pairs + (row m + i))) (cell table (3 * pairs + (row k + m)))) (before .weighs + after .weighs)
+    parts-held : Natural (add binary64 (cell table (3 * quarter + (row m + i))) (cell table (3 * quarter + (row k + m)))) (before .weighs + after .weighs)
     parts-held = let f : far ≡ 2 ^ 50 = far-is in natural-add _ _ _ _ (before .held) (after .held) (omega (arith, before-most, after-most))
 
     -- the two parts alone are too heavy
-    pub parts-heavy : lt (cell table (3 * pairs + (row k + i))) (add binary64 (cell table (3 * pairs + (row m + i))) (cell table (3 * pairs + (row k + m)))) ≡ true
+    pub parts-heavy : lt (cell table (3 * quarter + (row k + i))) (add binary64 (cell table (3 * quarter + (row m + i))) (cell table (3 * quarter + (row k + m)))) ≡ true
         → MadeAt naturals (triOf at) barred i k w m → ⊥
     parts-heavy e =
         let l : w < before .weighs + after .weighs = ltb-true w (before .weighs + after .weighs) (sym (natural-less _ _ _ _ whole-held parts-held) ∙ e) in
         not-made-by way (omega arith)
 
-    module _ {r : Bool} {x : Float} (f : x ≡ triangleOf table (row m + i) (row k + i) (row k + m))
-        (e : r ≡ le (add binary64 (add binary64 (cell table (3 * pairs + (row m + i))) (cell table (3 * pairs + (row k + m)))) x) (cell table (3 * pairs + (row k + i)))) where
-      all-held : Natural (add binary64 (add binary64 (cell table (3 * pairs + (row m + i))) (cell table (3 * pairs + (row k + m)))) x) (before .weighs + after .weighs + weightOf (at i) (at k) (at m))
+    module _ {r : Bool} {x : Float} (f : x ≡ triangleOf quarter table (row m + i) (row k + i) (row k + m))
+        (e : r ≡ le (add binary64 (add binary64 (cell table (3 * quarter + (row m + i))) (cell table (3 * quarter + (row k + m)))) x) (cell table (3 * quarter + (row k + i)))) where
+      all-held : Natural (add binary64 (add binary64 (cell table (3 * quarter + (row m + i))) (cell table (3 * quarter + (row k + m)))) x) (before .weighs + after .weighs + weightOf (at i) (at k) (at m))
       all-held =
           let g : far ≡ 2 ^ 50 = far-is in
           let s : 9 * most ≤ 2 ^ 41 = le-of-lt (lit< tt) in

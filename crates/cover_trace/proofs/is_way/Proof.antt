@@ -18,7 +18,7 @@ abbrev third : tie.After-triangle → tie.After-row-of3
 third t = search
 
 -- the places that are asked for, once all three are found
-room : (r : tie.After-row-of3) → TryRoom (entry (first (second r)) .args .table .now) (entry (first (second r)) .args .i) (entry (first (second r)) .args .k) (entry (first (second r)) .args .m)
+room : (r : tie.After-row-of3) → let a = entry (first (second r)) .args in TryRoom (a .quarter) (a .table .now) (a .i) (a .k) (a .m)
 room r = try-room (entry (first (second r)) .pre)
 
 pub is-way-spec : {M : Type 1} → statement M
@@ -31,17 +31,21 @@ is-way-spec =
     (λ c. search (needs, try-room (entry (first c) .pre), c .row-of2 .ensures))
     (λ c κs. search (needs, try-room (entry (first c) .pre)))
     (λ c. search (needs, room c, c .row-of3 .ensures))
+    (λ c. search (needs, room c))
     (λ c. search (needs, room c, first (second c) .row-of .ensures))
     (λ c. search (needs, room c, first (second c) .row-of .ensures))
     (λ c. let r : tie.After-row-of3 = search in search (needs, room r, first (second r) .row-of .ensures))
+    (λ c. let r : tie.After-row-of3 = search in search (needs, room r))
     (λ c. let r : tie.After-row-of3 = search in search (needs, room r, r .row-of3 .ensures))
     (λ c. let r : tie.After-row-of3 = search in search (needs, room r, r .row-of3 .ensures))
     (λ c. let r : tie.After-row-of3 = search in search (needs, room r, r .row-of3 .ensures))
+    (λ c. let r : tie.After-row-of3 = search in search (needs, room r))
     (λ c. let r : tie.After-row-of3 = search in search (needs, room r, second r .row-of2 .ensures))
     (λ c. let r : tie.After-row-of3 = search in search (needs, room r, second r .row-of2 .ensures))
     (λ c. let r : tie.After-row-of3 = search in search (needs, room r, second r .row-of2 .ensures))
     (λ c. search try-heavy)
     (λ c κs. search try-triangle-room)
+    (λ c. search (needs, room (third c)))
     (λ c. search (needs, room (third c), second (third c) .row-of2 .ensures))
     (λ c. search (needs, room (third c), second (third c) .row-of2 .ensures))
     (λ c. let r = third (search) in search (needs, room r, second r .row-of2 .ensures))

@@ -2,7 +2,7 @@
 use mathlib.Core.Path.{_≡_, refl, sym, ap, ap₂, _∙_}
 use mathlib.Core.List.{List, [], _∷_, _++_, flatten}
 use Prim.Native.Nat.{ℕ, suc, _+_, _-_, _≤_, _<_}
-use native.Mathlib.Nat.{add-zero}
+use native.Mathlib.Nat.{add-zero, le-trans}
 use native.Mathlib.Numerals.{add-one}
 use native.Mathlib.Omega.{arith}
 use lib.IntN.{ℤ}
@@ -60,8 +60,8 @@ module _ (grid : List ℤ) (input : List ℕ) (rs : List (List ℕ)) (rings leng
       ap length (ring-next rs l h) ∙ length-append (flatten (take l rs)) (getD rs l []) in
       omega arith
 
-  pub places-of : (l r : ℕ) → l < length lengths → r ≡ length (flatten (take l rs)) → RingPlace rings lengths l r
-  places-of l r h e =
+  pub places-of : length input ≤ limits.corners → (l r : ℕ) → l < length lengths → r ≡ length (flatten (take l rs)) → RingPlace rings lengths l r
+  places-of few l r h e =
       let a : length lengths ≡ length rs = as-many in
       let i : l < length rs = omega arith in
       let f : length rs ≤ limits.triangles = s .few-loops in
@@ -69,7 +69,7 @@ module _ (grid : List ℤ) (input : List ℕ) (rs : List (List ℕ)) (rings leng
       let t : 3 ≤ length (getD rs l []) = s .each l i .three in
       record {
         ring-in = end-in l r i e;
-        rings-few = s .few;
+        rings-few = le-trans (s .few) few;
         loop-in = omega arith;
         three = omega arith;
         part-long = ap length (ring-at l r i e) ∙ sym n;

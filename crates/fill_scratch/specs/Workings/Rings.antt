@@ -27,7 +27,7 @@ pub record Loops (grid : List ℤ) (input : List ℕ) (rs : List (List ℕ)) (ri
   pub rings-are : rings ≡ flatten rs
   pub lengths-are : lengths ≡ map length rs
   pub each : (l : ℕ) → l < length rs → RingOf grid input (getD rs l [])
-  pub few : length rings ≤ limits.corners
+  pub few : length rings ≤ length input
   pub few-loops : length rs ≤ limits.triangles
 
 -- where loop l and its ring stand, if the rings before it have r vertices
@@ -59,3 +59,7 @@ SightAt lengths marks l = (getD lengths l 0 ≤ 3) ⊎ ((limits.longest < getD l
 
 abbrev pub AtSight : List ℕ → List ℕ → Type 0
 AtSight lengths marks = (l : ℕ) → l < length lengths → SightAt lengths marks l
+
+-- each loop is settled at sight or has at most so many edges
+abbrev pub Within : ℕ → List ℕ → List ℕ → Type 0
+Within most lengths marks = (l : ℕ) → l < length lengths → SightAt lengths marks l ⊎ (getD lengths l 0 ≤ most)

@@ -37,7 +37,7 @@ module _ {rings lengths marks states set : List ℕ} (room : SightVerdictRoom ri
     part = take (r + getD lengths l 0 - r) (drop r rings)
 
     pub places : RingPlace rings lengths l r
-    places = let q = room .room in places-of (room .grid) (room .input) (q .rs) rings lengths (q .loops) l r h (here g .read)
+    places = let q = room .room in places-of (room .grid) (room .input) (q .rs) rings lengths (q .loops) (q .corners .few) l r h (here g .read)
 
     -- a rim
     pub rim-decides : getD marks l 0 ≡ rimMark → (getD states l 0 ≡ rimMark → ⊥) → GivesAtSight rings lengths marks states set (Misdeclared l)

@@ -51,9 +51,9 @@ judging-fault f = record { finds = fault f; few = omega arith; ready = λ d. abs
 module _ (ring set : List ℕ) (h : InHand) {input before : List ℕ} {t : Tray} (b : TrayReady input before (h .edges) (h .base) t) where
   -- that takes nothing,
   kept : {stamps rows : List ℕ} {table : List Float} → (h .state ≡ stated.patched → ⊥) → length stamps ≡ limits.points
-      → ((v : ℕ) → getD stamps v 0 < h .base + length ring) → length rows ≡ limits.longest → length table ≡ length (t .table)
+      → ((v : ℕ) → getD stamps v 0 < h .base + length ring) → length rows ≡ limits.longest
       → TrayReady input (before ++ take (taken ring (h .state)) (drop (h .at) set)) (h .edges) (h .base + length ring) (tray (t .heads) (t .links) (t .ends) stamps rows table)
-  kept n m v r e = rw (part-none ring (h .state) (drop (h .at) set) n) (tray-kept b refl m v r e)
+  kept n m v r = rw (part-none ring (h .state) (drop (h .at) set) n) (tray-kept b refl m v r)
 
   -- that takes its share,
   whole-after : (part : List ℕ) → length part ≡ share ring → length (before ++ part) % 3 ≡ 0
@@ -65,8 +65,8 @@ module _ (ring set : List ℕ) (h : InHand) {input before : List ℕ} {t : Tray}
 
   sight-ready : {grid : List ℤ} → (length ring ≡ 3) ⊎ (limits.longest < length ring) → RingOf grid input ring → Right grid input before ring (h .state) (drop (h .at) set)
       → TrayReady input (before ++ take (taken ring (h .state)) (drop (h .at) set)) (h .edges) (h .base + length ring) t
-  sight-ready sight g (long two n) = kept (λ x. omega arith) (b .stamps-long) below (b .rows-long) refl
-  sight-ready sight g (open-left three short n) = kept (λ x. omega arith) (b .stamps-long) below (b .rows-long) refl
+  sight-ready sight g (long two n) = kept (λ x. omega arith) (b .stamps-long) below (b .rows-long)
+  sight-ready sight g (open-left three short n) = kept (λ x. omega arith) (b .stamps-long) below (b .rows-long)
   sight-ready sight g (patched one short c k a least) =
       let n : length ring ≡ 3 = ⊎-elim (λ (x : length ring ≡ 3). x) (λ (x : limits.longest < length ring). omega arith) sight in
       let part : List ℕ = take (share ring) (drop (h .at) set) in
@@ -78,7 +78,6 @@ module _ (ring set : List ℕ) (h : InHand) {input before : List ℕ} {t : Tray}
         stamps-long = b .stamps-long;
         below = below;
         rows-long = b .rows-long;
-        table-long = b .table-long;
       })
 
 -- ---- a loop of three or a long one
@@ -126,22 +125,22 @@ module _ {grid : List ℤ} {ring : List ℕ} {h : InHand} {t : Tray} (room : Sho
         let j = room .judge in
         record {
           on = on-grid;
-          some = let x : 3 ≤ length ring = j .ring-of .three in omega arith;
+          some = room .some;
           barred = barred (j .input) (j .before) ring;
           barring = barring (j .ready .tells);
-          table-long = j .ready .table-long;
+          table-long = j .room .table-room (room .short);
         }
 
     module _ (least : Least) (found : FindsLeast grid ring rows least) where
       least-is : {r : Least} → least ≡ r → {input before : List ℕ} {e : ℕ} → Tells input before e (t .heads) (t .links) (t .ends) → LeastIs grid ring (barred input before ring) r
       least-is is {input} {before} x = subst (LeastIs grid ring (barred input before ring)) is (found (barred input before ring) (barring x))
 
-      pub open-right : {table : List Float} → least ≡ Nothing → length table ≡ length (t .table) → FindsOpen grid ring h t Done (tray (t .heads) (t .links) (t .ends) stamps rows table)
-      open-right is same three set input before g b =
+      pub open-right : {table : List Float} → least ≡ Nothing → FindsOpen grid ring h t Done (tray (t .heads) (t .links) (t .ends) stamps rows table)
+      open-right is three set input before g b =
           record {
             finds = right refl (open-left three (room .short) (least-is is (b .tells)));
             few = omega arith;
-            ready = λ d. kept ring set h b (λ x. omega arith) (bars .stamped .long) (bars .below) (bars .rows-long) same;
+            ready = λ d. kept ring set h b (λ x. omega arith) (bars .stamped .long) (bars .below) (bars .rows-long);
           }
 
       pub open-wrong : {table : List Float} → (w : ℕ) × (least ≡ Weight w) → FindsOpen grid ring h t (Misdeclared (h .l)) (tray (t .heads) (t .links) (t .ends) stamps rows table)
@@ -156,10 +155,10 @@ module _ {grid : List ℤ} {ring : List ℕ} {h : InHand} {t : Tray} (room : Sho
           record {
             ringed = ringed;
             on = on-grid;
-            three = j .ring-of .three;
+            some = room .some;
             long = long;
             rows-long = bars .rows-long;
-            table-long = j .ready .table-long;
+            table-long = j .room .table-room (room .short);
             input = j .input;
             before = j .before;
             barring = barring (j .ready .tells);
@@ -186,9 +185,9 @@ module _ {grid : List ℤ} {ring : List ℕ} {h : InHand} {t : Tray} (room : Sho
         pub patched-faulty : {table : List Float} → (a ≡ Done → ⊥) → FindsPatched grid ring part h t (unchained h a) (tray (t .heads) (t .links) (t .ends) stamps rows table)
         patched-faulty n one set there p input before g b = record { finds = found-here one set there p b; few = omega arith; ready = λ d. absurd (n d) }
 
-        pub patched-right : {heads links ends : List ℕ} {table : List Float} {f : ℕ} → length table ≡ length (t .table) → chaining.CoverChained ring part (t .heads) (t .links) (t .ends) (h .edges) f heads links ends
+        pub patched-right : {heads links ends : List ℕ} {table : List Float} {f : ℕ} → chaining.CoverChained ring part (t .heads) (t .links) (t .ends) (h .edges) f heads links ends
             → FindsPatched grid ring part h t (record { answer = a; edges = f }) (tray heads links ends stamps rows table)
-        patched-right {f = f} same done one set there p input before g b =
+        patched-right {f = f} done one set there p input before g b =
             let found = found-here one set there p b in
             record {
               finds = found;
@@ -202,7 +201,6 @@ module _ {grid : List ℤ} {ring : List ℕ} {h : InHand} {t : Tray} (room : Sho
                     stamps-long = bars .stamped .long;
                     below = bars .below;
                     rows-long = bars .rows-long;
-                    table-long = same ∙ b .table-long;
                   });
             }
 

@@ -3,6 +3,7 @@ use mathlib.Core.Path.{_≡_}
 use mathlib.Core.Logic.{_⊎_, inl, inr, ⊎-elim}
 use Prim.Native.Nat.{_<_}
 use lib.ListN.{length}
+use native.Mathlib.Omega.{arith}
 use borrow.Author.Needs.{needs}
 use Rattle.base_limits.specs.Limits.{longest}
 use Rattle.fill_scratch.proofs.Laws.Sights.{told-long, told-short}
@@ -25,7 +26,10 @@ judge-loop-spec =
     (λ c κs. search needs)
     (λ c κs. record { sight = sight c; within = entry c .pre .1 })
     (λ c. sight-loop (sight (c .before)) (c .judge-at-sight .ensures))
-    (λ c κs. let s : tie.Start = search in (record { judge = s .pre .0; short = search told-short }, s .pre .1))
+    (λ c κs.
+    let s : tie.Start = search in
+    let n : tie.Else1 = search in
+    (record { judge = s .pre .0; some = omega (arith, s .pre .0 .ring-of .three, n .if1 .left); short = search told-short }, s .pre .1))
     (λ c. search needs)
     (λ c. search needs)
     (λ c. search needs)

@@ -20,6 +20,6 @@ judge-open-spec =
     (λ c. search needs)
     (λ c. search needs)
     (λ c. search needs)
-    (λ c. let l : tie.After-least = search in let b = barred l in open-right (entry b .pre) (b .bars-of .ensures) (l .least .result) (l .least .ensures) (search) (search))
+    (λ c. let l : tie.After-least = search in let b = barred l in open-right (entry b .pre) (b .bars-of .ensures) (l .least .result) (l .least .ensures) (search))
     (λ c. search needs)
     (λ c. let l : tie.After-least = search in let b = barred l in open-wrong (entry b .pre) (b .bars-of .ensures) (l .least .result) (l .least .ensures) (search)))

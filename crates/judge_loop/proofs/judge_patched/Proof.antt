@@ -42,4 +42,4 @@ judge-patched-spec =
     let j = judged t in
     let b = barred j in
     let s = entry b in
-    patched-right (s .pre .0) (b .bars-of .ensures) (s .pre .1) (j .judge-cover .ensures) (t .table .given) (k .chain-cover .ensures)))
+    patched-right (s .pre .0) (b .bars-of .ensures) (s .pre .1) (j .judge-cover .ensures) (k .chain-cover .ensures)))

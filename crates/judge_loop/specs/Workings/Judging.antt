@@ -1,7 +1,7 @@
 -- What judging one loop takes and leaves.
 use mathlib.Core.Path.{_≡_}
 use mathlib.Core.List.{List, _++_}
-use Prim.Native.Nat.{ℕ, _+_, _-_, _≤_}
+use Prim.Native.Nat.{ℕ, _+_, _-_, _<_, _≤_}
 use lib.IntN.{ℤ}
 use lib.ListN.{length, take, drop}
 use Rattle.base_answers.specs.declared.Answer.{Answer}
@@ -24,9 +24,10 @@ pub record JudgeRoom (grid : List ℤ) (ring : List ℕ) (h : InHand) (t : Tray)
   pub ready : TrayReady input before (h .edges) (h .base) t
   pub room : TrayRoom ring (h .edges) (h .base) t
 
--- and the loop is not long
+-- and the loop has more than three edges and is not long
 pub record ShortRoom (grid : List ℤ) (ring : List ℕ) (h : InHand) (t : Tray) : Type 0 where
   pub judge : JudgeRoom grid ring h t
+  pub some : 3 < length ring
   pub short : length ring ≤ limits.longest
 
 -- the loop was judged by what is left of the set; and where it is right, the tray is ready for the next one

@@ -4,6 +4,7 @@ use mathlib.Core.Path.{_≡_, refl, sym, _∙_, subst}
 use mathlib.Core.Bool.{Bool}
 use mathlib.Core.List.{List}
 use Prim.Native.Nat.{ℕ, _-_, _<_, _≤_}
+use native.Mathlib.Nat.{le-of-lt}
 use native.Mathlib.Omega.{arith}
 use lib.IntN.{ℤ}
 use lib.Ieee.{Float}
@@ -49,7 +50,7 @@ module _ (grid : List ℤ) (ring part rows : List ℕ) (table : List Float) (roo
   least-room =
       record {
         on = room .on;
-        some = let h : 3 ≤ length ring = room .three in omega arith;
+        some = room .some;
         barred = barred (room .input) (room .before) ring;
         barring = room .barring;
         table-long = room .table-long;
@@ -110,7 +111,7 @@ module _ (grid : List ℤ) (ring part rows : List ℕ) (table : List Float) (roo
 
 module _ (grid : List ℤ) (ring part stamps : List ℕ) (base : ℕ) (rows : List ℕ) (table : List Float) (room : PartRoom grid ring part stamps base rows table) where
   pub matchable : Matchable ring stamps base rows part
-  matchable = record { ringed = room .ringed; many = room .three; rows = room .rows-long; long = room .long }
+  matchable = record { ringed = room .ringed; many = le-of-lt (room .some); rows = room .rows-long; long = room .long }
 
   module _ (r : Match) (reads : (barred : ℕ → ℕ → Bool) → Rows (length ring) barred rows → SidesFree (length ring) barred → Matches ring barred (threes part) r) where
     match-as : (x : Match) → r ≡ x → (input before : List ℕ) → Barring (barred input before ring) ring rows → Matches ring (barred input before ring) (threes part) x
@@ -133,7 +134,7 @@ module _ (grid : List ℤ) (ring part stamps : List ℕ) (base : ℕ) (rows : Li
           let x = match-as matched.Allowed is (room .input) (room .before) (room .barring) in
           record {
             on = room .on;
-            three = room .three;
+            some = room .some;
             long = room .long;
             table-long = room .table-long;
             input = room .input;

@@ -1,7 +1,7 @@
 -- The part of a set that a loop of four or more takes, as the code judges it.
 use mathlib.Core.Path.{_≡_}
 use mathlib.Core.List.{List}
-use Prim.Native.Nat.{ℕ, _-_, _≤_}
+use Prim.Native.Nat.{ℕ, _-_, _<_, _≤_}
 use lib.IntN.{ℤ}
 use lib.ListN.{length, take}
 use lib.Ieee.{Float}
@@ -13,19 +13,19 @@ use Rattle.cover_rules.specs.Covers.{Cover, Allowed}
 use Rattle.cover_bars.specs.Bars.{barred}
 use Rattle.judge_seat.specs.Workings.Covering.{Covering}
 use Rattle.judge_seat.specs.Workings.Seats.{Ringed}
-use Rattle.cover_column.specs.Workings.Columns.{Table}
+use Rattle.cover_column.specs.Workings.Columns.{TableFor}
 use Rattle.cover_table.specs.Workings.Loops.{OnGrid, Barring}
 use Rattle.judge_rules.specs.Faults.{share}
 use Rattle.judge_sight.specs.Workings.Findings.{Finds}
 
--- the ring of a loop, with its bars
+-- the ring of a loop of more than three edges, with its bars
 pub record PartRoom (grid : List ℤ) (ring part stamps : List ℕ) (base : ℕ) (rows : List ℕ) (table : List Float) : Type 0 where
   pub ringed : Ringed ring base stamps
   pub on : OnGrid grid ring
-  pub three : 3 ≤ length ring
+  pub some : 3 < length ring
   pub long : length part ≡ share ring
   pub rows-long : length rows ≡ limits.longest
-  pub table-long : Table table
+  pub table-long : TableFor (length ring) table
   pub input : List ℕ
   pub before : List ℕ
   pub barring : Barring (barred input before ring) ring rows
@@ -39,9 +39,9 @@ FindsCover grid ring part l rows a =
 -- the part is an allowed cover by the rows' bars
 pub record WeightRoom (grid : List ℤ) (ring part rows : List ℕ) (table : List Float) : Type 0 where
   pub on : OnGrid grid ring
-  pub three : 3 ≤ length ring
+  pub some : 3 < length ring
   pub long : length part ≡ share ring
-  pub table-long : Table table
+  pub table-long : TableFor (length ring) table
   pub input : List ℕ
   pub before : List ℕ
   pub barring : Barring (barred input before ring) ring rows

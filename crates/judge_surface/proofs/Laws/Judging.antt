@@ -1,8 +1,8 @@
 -- From the checks, the listing and the verdict to what the checker answers and leaves.
 use mathlib.Core.Path.{_≡_, sym, ap, _∙_, subst}
-use mathlib.Core.Bool.{true}
+use mathlib.Core.Bool.{true, false, true≢false}
 use mathlib.Core.List.{List, []}
-use Prim.Native.Nat.{ℕ, _/_, _≤_}
+use Prim.Native.Nat.{ℕ, _*_, _/_, _≤_}
 use native.Mathlib.Nat.{le-trans}
 use native.Mathlib.Omega.{arith}
 use borrow.Author.Tests.{eq-eqb, ne-eqb}
@@ -23,39 +23,43 @@ use Rattle.survey_grid.specs.Grid.{gridOf}
 use Rattle.check_surface.specs.Workings.Checks.{Checked}
 use Rattle.survey_rules.specs.Outcome.{Buffers, buffers, refused, needs, lent}
 use Rattle.survey_rules.proofs.Laws.Known.{Known, rings-few, loops-few}
-use Rattle.survey_rules.proofs.Laws.Parts.{grid-part, rings-in, lengths-in}
+use Rattle.survey_rules.proofs.Laws.Parts.{grid-in, grid-part, rings-in, lengths-in}
 use Rattle.rim_rules.specs.Rims.{rimList}
 use Rattle.fill_fates.specs.Course.{ringList}
 use Rattle.judge_rules.specs.Verdicts.{Verdict}
 use Rattle.fill_scratch.specs.Workings.Scratch.{few}
+use Rattle.fill_scratch.specs.Workings.Tray.{EdgeRoom}
 use Rattle.rim_mark.specs.Workings.Marking.{Marked}
 use Rattle.rim_mark.proofs.Laws.Listed.{input-here, as-many-loops, loops-here, marks-here, rims-here}
 use Rattle.judge_all_sight.specs.Workings.Gives.{Declared, VerdictRoom, Gives}
 use Rattle.judge_answer.specs.declared.Judged.{Judged}
 use Rattle.judge_surface.specs.Outcome.{outcome, judged, Judges}
 use Rattle.judge_surface.specs.Workings.Listing.{ListingRoom}
+use Rattle.judge_surface.specs.Workings.Finding.{Finds}
 
 -- ---- room to list the loops
 
 module _ (words corners turns path places rings lengths marks : List ℕ) (c : countRefusal (length words) (length corners) ≡ Done) where
   -- room for few is room for this surface if it has few points and corners
-  pub listing-few : length words / 3 ≤ few → length corners ≤ few → few ≤ length turns → few ≤ length path → few ≤ length places → few ≤ length rings → few ≤ length lengths → few ≤ length marks
+  pub listing-few : length words / 3 ≤ few → length corners ≤ few → 2 * few ≤ length turns → 2 * few ≤ length path → few ≤ length places
+      → few ≤ length rings → few ≤ length lengths → few ≤ length marks
       → ListingRoom words corners turns path places rings lengths marks
   listing-few p q t u v x y z = record {
-    scratch = record { counts = c; turns-long = le-trans q t; path-long = le-trans q u; places-long = le-trans p v; pieces-long = omega arith };
+    scratch = record { counts = c; turns-long = omega arith; path-long = omega arith; places-long = le-trans p v; pieces-long = omega arith };
     rings-long = le-trans q x;
     lengths-long = omega arith;
     marks-long = omega arith;
   }
 
   -- room for any surface is room for this one
-  pub listing-most : limits.corners ≤ length turns → limits.corners ≤ length path → limits.points ≤ length places → limits.corners ≤ length rings → limits.triangles ≤ length lengths → limits.triangles ≤ length marks
+  pub listing-most : 2 * limits.corners ≤ length turns → 2 * limits.corners ≤ length path → limits.points ≤ length places
+      → limits.corners ≤ length rings → limits.triangles ≤ length lengths → limits.triangles ≤ length marks
       → ListingRoom words corners turns path places rings lengths marks
   listing-most t u v x y z =
       let f = counts-fit (length words) (length corners) c in
       let q : length corners ≤ limits.corners = f .few-corners in
       record {
-        scratch = record { counts = c; turns-long = le-trans q t; path-long = le-trans q u; places-long = omega (arith, f .few-words); pieces-long = omega arith };
+        scratch = record { counts = c; turns-long = omega arith; path-long = omega arith; places-long = omega (arith, f .few-words); pieces-long = omega arith };
         rings-long = le-trans q x;
         lengths-long = omega arith;
         marks-long = omega arith;
@@ -90,6 +94,13 @@ module _ (words corners states set : List ℕ) (b : Buffers) where
       rw (k .none-refused, ne-eqb (length (loops corners)) (length states) (λ q. n (ls .count ∙ q)))
       (refused-is r (States (at .loops)) h ∙ ap (λ (i : ℕ). refused (States i) b) (ls .count))
 
+-- ---- what is found where it is refused: the refusal
+
+module _ {words corners states set : List ℕ} {b b′ : Buffers} {marks turns path : List ℕ} where
+  pub finds-refused : (r : Judged) (a : Answer) → Refuses r a → refusing a ≡ true → Judges words corners states set b (outcome r b′)
+      → Finds words corners states set b r b′ marks turns path
+  finds-refused r a h t j = (λ _. j, λ e. absurd (true≢false (sym t ∙ ap refusing (sym (h .0)) ∙ e)))
+
 -- ---- what was listed apart has room where it goes
 
 module _ {words corners table : List ℕ} {grid : List ℤ} {rings lengths : List ℕ} (k : Known words corners table grid rings lengths [] [])
@@ -111,10 +122,10 @@ module _ (words corners : List ℕ) (b : Buffers) {table : List ℕ} (k : Known 
     as-declared : Declared (rimList g corners) (ringList corners) marks states
     as-declared = record { rims-many = rims-here k ls eg marked; marked = marks-here k ls eg marked; states-many = sym same ∙ ls .count ∙ sym (as-many-loops k) }
 
-    pub verdict-room : VerdictRoom g corners (take (at .vertices) rings′) (take (at .loops) lengths′) marks states
+    verdict-room : VerdictRoom g corners (take (at .vertices) rings′) (take (at .loops) lengths′) marks states
     verdict-room = record { rims = rimList g corners; rs = ringList corners; loops = loops-here k ls eg; corners = input-here k; declared = as-declared }
 
-    pub judges : (set : List ℕ) (v : Answer) → Gives g corners (take (at .vertices) rings′) (take (at .loops) lengths′) marks states set v
+    judges : (set : List ℕ) (v : Answer) → Gives g corners (take (at .vertices) rings′) (take (at .loops) lengths′) marks states set v
         → Judges words corners states set b (outcome (record { answer = v; loops = at .loops; vertices = at .vertices }) (buffers grid′ rings′ lengths′))
     judges set v h =
         rw (k .none-refused, eq-eqb (length (loops corners)) (length states) (sym (ls .count) ∙ same))
@@ -122,3 +133,17 @@ module _ (words corners : List ℕ) (b : Buffers) {table : List ℕ} (k : Known 
       where
         left : outcome (record { answer = v; loops = at .loops; vertices = at .vertices }) (buffers grid′ rings′ lengths′) ≡ judged v words corners b
         left = λ t. record { answer = v; loops = ls .count t; vertices = ls .vertices t; left = record { grid = eg t; rings = ls .all-rings t; lengths = ls .all-lengths t } }
+
+    pub finds : {turns path : List ℕ} → EdgeRoom corners turns path → (set : List ℕ)
+        → Finds words corners states set b (record { answer = Done; loops = at .loops; vertices = at .vertices }) (buffers grid′ rings′ lengths′) marks turns path
+    finds room set = (
+      λ e. absurd (true≢false (sym e)),
+      λ _. record {
+        grid-in = grid-in words (b .grid) grid′ eg;
+        rings-in = rings-in ls;
+        lengths-in = lengths-in ls;
+        room = verdict-room;
+        edges = room;
+        finish = judges set;
+      },
+    )

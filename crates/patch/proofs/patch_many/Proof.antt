@@ -1,9 +1,17 @@
--- `patch_many` has room for any surface.
+-- `patch_many` has room for any surface: what is found is refused, or patched.
+use mathlib.Core.Path.{sym, _∙_}
 use lib.Dec.{lit≤}
 use borrow.Author.Needs.{needs}
 use Rattle.patch_surface.proofs.Laws.Patching.{scratch-most}
 use Rattle.patch.proofs.patch_many.Statement.{statement}
 use Rattle.patch.proofs.patch_many.Tie as tie
+
+-- what was found where nothing is refused
+abbrev told : tie.Else1 → tie.After-refuses
+told e = search
+
+abbrev found : tie.After-refuses → tie.After-find-with
+found r = search
 
 pub patch-many-spec : {M : Type 1} → statement M
 patch-many-spec =
@@ -13,10 +21,30 @@ patch-many-spec =
     (λ c. search needs)
     (λ c. search needs)
     (λ c κs. let s : tie.Start = search in scratch-most (s .pre) (lit≤ tt) (lit≤ tt) (lit≤ tt))
+    (λ c κs. tt)
     (λ c. search needs)
     (λ c. search needs)
     (λ c. search needs)
     (λ c. search needs)
     (λ c. search needs)
     (λ c. search needs)
-    (λ c. search needs))
+    (λ c.
+    let r : tie.After-refuses = search in
+    found r .find-with .ensures .0 (sym (r .refuses .ensures) ∙ c .if1 .taken))
+    (λ c. search needs)
+    (λ c. search needs)
+    (λ c κs.
+    let e : tie.Else1 = search in
+    let r = told e in
+    record { lent = _; ready = found r .find-with .ensures .1 (sym (r .refuses .ensures) ∙ e .if1 .left) })
+    (λ c. search needs)
+    (λ c. search needs)
+    (λ c. search needs)
+    (λ c. search needs)
+    (λ c. search needs)
+    (λ c. search needs)
+    (λ c.
+    let p : tie.After-patch-found = search in
+    let e : tie.Else1 = search in
+    let r = told e in
+    p .patch-found .ensures _ (found r .find-with .ensures .1 (sym (r .refuses .ensures) ∙ e .if1 .left))))

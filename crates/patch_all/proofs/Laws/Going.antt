@@ -93,7 +93,7 @@ module _ {grid : List ℤ} {input rings lengths : List ℕ} {c₀ : Docket} wher
       here = g .ran (room .rims) (room .rs) (room .loops) (room .lent)
 
       pub places : RingPlace rings lengths l r
-      places = places-of grid input (room .rs) rings lengths (room .loops) l r h (here .read)
+      places = places-of grid input (room .rs) rings lengths (room .loops) (room .corners .few) l r h (here .read)
 
       pub state-in : l < length (c .states)
       state-in = states-in (room .loops) (room .lent) (listed (room .loops) h) here

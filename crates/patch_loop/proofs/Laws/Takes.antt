@@ -54,7 +54,6 @@ module _ {grid : List ℤ} {ring : List ℕ} {t : Tray} {patches : List ℕ} {s 
           stamps-long = b .stamps-long;
           below = above b;
           rows-long = b .rows-long;
-          table-long = b .table-long;
         };
         few = let h : r .edges ≡ s .edges = k .edges in omega arith;
       }
@@ -78,6 +77,6 @@ module _ {grid : List ℤ} {ring : List ℕ} {t : Tray} {patches : List ℕ} {s 
         weight = weighing;
         lay = sym (laid-none (s .corners) patches);
         corners = corners ∙ omega arith;
-        ready = tray-kept b edges (b .stamps-long) (above b) (b .rows-long) refl;
+        ready = tray-kept b edges (b .stamps-long) (above b) (b .rows-long);
         few = omega arith;
       }

@@ -43,7 +43,7 @@ slice-laid p q xs w l e =
 
 -- ---- the turn
 
-module _ {grid : List ℤ} {ring : List ℕ} {t : Tray} {patches : List ℕ} {s : Spot} (pre : TakeRoom grid ring t patches s × (length ring ≤ limits.longest)) where
+module _ {grid : List ℤ} {ring : List ℕ} {t : Tray} {patches : List ℕ} {s : Spot} (pre : TakeRoom grid ring t patches s × (length ring ≤ limits.longest) × (3 < length ring)) where
   abbrev room : TakeRoom grid ring t patches s
   room = pre .0
 
@@ -82,10 +82,10 @@ module _ {grid : List ℤ} {ring : List ℕ} {t : Tray} {patches : List ℕ} {s 
         record {
           loop = record {
             on = record { coordinates = room .ring-of .coordinates; named = room .ring-of .named; few = pre .1 };
-            some = let h : 3 ≤ length ring = room .ring-of .three in omega arith;
+            some = pre .2;
             barred = barred (room .input) (room .before) ring;
             barring = barring (room .input) (room .before) (room .ready .tells);
-            table-long = room .ready .table-long;
+            table-long = room .room .table-room (pre .1);
           };
           room = room .patches-room;
         }
@@ -98,10 +98,10 @@ module _ {grid : List ℤ} {ring : List ℕ} {t : Tray} {patches : List ℕ} {s 
         (answer (barred input before ring) (barring input before tells))
 
     module _ {least : Least} {patches′ : List ℕ} (answer : LaysPatch grid ring rows′ patches (s .corners) least patches′) where
-      pub takes-none : least ≡ Nothing → {table′ : List Float} → length table′ ≡ length (t .table) → {r : Became}
+      pub takes-none : least ≡ Nothing → {table′ : List Float} {r : Became}
           → (r .state ≡ stated.left-open) × (r .weight ≡ 0) × (r .corners ≡ s .corners) × (r .edges ≡ s .edges)
           → Takes grid ring t patches s r (tray (t .heads) (t .links) (t .ends) stamps′ rows′ table′) patches′
-      takes-none is same (state, weighing, corners, edges) input before g b =
+      takes-none is (state, weighing, corners, edges) input before g b =
           let x = found least Nothing patches′ is answer input before (b .tells) in
           record {
             fate = uncovered;
@@ -110,7 +110,7 @@ module _ {grid : List ℤ} {ring : List ℕ} {t : Tray} {patches : List ℕ} {s 
             weight = weighing;
             lay = x .1 ∙ sym (laid-none (s .corners) patches);
             corners = corners ∙ omega arith;
-            ready = tray-kept b edges (bars .stamped .long) (bars .below) (bars .rows-long) same;
+            ready = tray-kept b edges (bars .stamped .long) (bars .below) (bars .rows-long);
             few = omega arith;
           }
 
@@ -142,11 +142,11 @@ module _ {grid : List ℤ} {ring : List ℕ} {t : Tray} {patches : List ℕ} {s 
               few = let l : s .edges + (length ring - 2) < 2 ^ 16 = room .room .few-edges in omega arith;
             }
 
-        pub takes-some : {table′ : List Float} → length table′ ≡ length (t .table) → {heads′ links′ ends′ : List ℕ} {f : ℕ}
+        pub takes-some : {table′ : List Float} {heads′ links′ ends′ : List ℕ} {f : ℕ}
             → LaidDone (slice (s .corners) end patches′) (t .heads) (t .links) (t .ends) (s .edges) f heads′ links′ ends′
             → Takes grid ring t patches s (record { state = stated.patched; weight = w; corners = end; edges = f })
             (tray heads′ links′ ends′ stamps′ rows′ table′) patches′
-        takes-some same {f = f} done input before g b =
+        takes-some {f = f} done input before g b =
             let x = found least (Weight w) patches′ is answer input before (b .tells) in
             let c : Cover = x .0 in
             let h : Covers 0 (length ring - 1) c = x .1 .among .covers in
@@ -167,7 +167,6 @@ module _ {grid : List ℤ} {ring : List ℕ} {t : Tray} {patches : List ℕ} {s 
                 stamps-long = bars .stamped .long;
                 below = bars .below;
                 rows-long = bars .rows-long;
-                table-long = same ∙ b .table-long;
               };
               few =
                   let l : f ≡ s .edges + length (slice (s .corners) end patches′) / 3 = done .count in

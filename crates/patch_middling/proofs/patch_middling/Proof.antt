@@ -23,7 +23,7 @@ returns : tie.Need-returns
 returns c =
     let l : tie.After-lay-patch = search in
     let b = barred l in
-    takes-none (entry b .pre) (b .bars-of .ensures) (l .lay-patch .ensures) (c .before .enum-told .given .1) (search) (c .unpatched .ensures)
+    takes-none (entry b .pre) (b .bars-of .ensures) (l .lay-patch .ensures) (c .before .enum-told .given .1) (c .unpatched .ensures)
 
 returns-2 : tie.Need-returns-2
 returns-2 c =
@@ -31,7 +31,7 @@ returns-2 c =
     let w : tie.After-least = search in
     let l : tie.After-lay-patch = search in
     let b = barred l in
-    takes-some (entry b .pre) (b .bars-of .ensures) (l .lay-patch .ensures) (w .least .given .1) (search) (k .chain-laid .ensures)
+    takes-some (entry b .pre) (b .bars-of .ensures) (l .lay-patch .ensures) (w .least .given .1) (k .chain-laid .ensures)
 
 pub patch-middling-spec : {M : Type 1} → statement M
 patch-middling-spec =

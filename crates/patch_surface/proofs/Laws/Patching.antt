@@ -1,6 +1,6 @@
 -- From the checks, the listing and the course to what the patcher answers and leaves.
 use mathlib.Core.Path.{_≡_, sym, ap, _∙_, subst}
-use mathlib.Core.Bool.{true}
+use mathlib.Core.Bool.{true, false, true≢false}
 use mathlib.Core.List.{List, [], _∷_, map, flatten}
 use Prim.Native.Nat.{ℕ, _*_, _/_, _≤_}
 use native.Mathlib.Nat.{le-trans}
@@ -23,35 +23,38 @@ use Rattle.loop_find.specs.Workings.Asked.{Ready}
 use Rattle.survey_grid.specs.Grid.{gridOf}
 use Rattle.check_surface.specs.Workings.Checks.{Checked}
 use Rattle.survey_rules.proofs.Laws.Known.{Known, ready, rings-few, loops-few}
-use Rattle.survey_rules.proofs.Laws.Parts.{grid-part}
+use Rattle.survey_rules.proofs.Laws.Parts.{grid-part, grid-in, rings-in, lengths-in}
 use Rattle.rim_rules.specs.Rims.{rimList}
 use Rattle.fill_fates.specs.Course.{Course, ringList, statesOf, weightsOf}
 use Rattle.fill_fates.proofs.Laws.Grows.{course-length}
 use Rattle.fill_fates.proofs.Laws.Lengths.{states-length}
 use Rattle.fill_scratch.specs.Workings.Scratch.{few, Scratch}
+use Rattle.fill_scratch.specs.Workings.Tray.{EdgeRoom}
 use Rattle.rim_mark.specs.Workings.Marking.{markOf, Marked}
 use Rattle.rim_mark.proofs.Laws.Listed.{input-here, as-many-loops, loops-here, all-marked, marks-here, rims-here}
 use Rattle.patch_all.specs.Workings.Courses.{Docket, docket, Lent, CourseRoom, RanAll, CourseDone}
-use Rattle.patch_surface.specs.Outcome.{Buffers, Outcome, outcome, buffers, done, needs, lent, Patches}
+use Rattle.patch_surface.specs.Outcome.{Buffers, outcome, buffers, done, needs, lent, Patches}
+use Rattle.patch_surface.specs.Workings.Finding.{left-by, Finds}
 use Rattle.patch_surface.specs.declared.Patched.{Patched}
 
 module _ {words corners turns path places : List ℕ} (c : countRefusal (length words) (length corners) ≡ Done) where
   -- room for any surface is room for this one
-  pub scratch-most : limits.corners ≤ length turns → limits.corners ≤ length path → limits.points ≤ length places → Scratch words corners turns path places
+  pub scratch-most : 2 * limits.corners ≤ length turns → 2 * limits.corners ≤ length path → limits.points ≤ length places
+      → Scratch words corners turns path places
   scratch-most t p q =
       let f = counts-fit (length words) (length corners) c in
       record {
         counts = c;
-        turns-long = le-trans (f .few-corners) t;
-        path-long = le-trans (f .few-corners) p;
+        turns-long = omega (arith, f .few-corners);
+        path-long = omega (arith, f .few-corners);
         places-long = omega (arith, f .few-words);
         pieces-long = omega (arith, f .few-corners);
       }
 
   -- room for few is room for a surface with few points and corners
-  pub scratch-few : length words / 3 ≤ few → length corners ≤ few → few ≤ length turns → few ≤ length path → few ≤ length places
+  pub scratch-few : length words / 3 ≤ few → length corners ≤ few → 2 * few ≤ length turns → 2 * few ≤ length path → few ≤ length places
       → Scratch words corners turns path places
-  scratch-few p q t u v = record { counts = c; turns-long = le-trans q t; path-long = le-trans q u; places-long = le-trans p v; pieces-long = omega arith }
+  scratch-few p q t u v = record { counts = c; turns-long = omega arith; path-long = omega arith; places-long = le-trans p v; pieces-long = omega arith }
 
 -- a refusal as the code makes it
 abbrev pub Refuses : Patched → Answer → Type 0
@@ -107,15 +110,17 @@ module _ {words corners : List ℕ} (b : Buffers) {table : List ℕ} (k : KnownW
       pub course-room : CourseRoom g corners (take (at .vertices) rings′) (take (at .loops) lengths′) (docket states (b .weights) (b .patches))
       course-room = record { rims = rimList g corners; rs = ringList corners; loops = loops-here k ls eg; lent = the-lent; corners = input-here k }
 
-      -- what the course leaves is what the patcher promises
-      abbrev left-by : ℕ → Docket → Outcome
-      left-by p c =
-          outcome (record { answer = Done; loops = at .loops; vertices = at .vertices; corners = p })
-          (buffers grid′ rings′ lengths′ (c .states) (c .weights) (c .patches))
+      -- the loops that were found, and the buffers then
+      abbrev found : Answer → Patched
+      found a = record { answer = a; loops = at .loops; vertices = at .vertices; corners = 0 }
 
-      pub done-is : {p : ℕ} {c : Docket} → CourseDone g corners (take (at .vertices) rings′) (take (at .loops) lengths′) (docket states (b .weights) (b .patches)) p c
-          → Patches words corners b (left-by p c)
-      done-is {p} {c} r =
+      abbrev then : Buffers
+      then = buffers grid′ rings′ lengths′ states (b .weights) (b .patches)
+
+      -- what the course leaves is what the patcher promises
+      done-is : (p : ℕ) (c : Docket) → CourseDone g corners (take (at .vertices) rings′) (take (at .loops) lengths′) (docket states (b .weights) (b .patches)) p c
+          → Patches words corners b (left-by (found Done) then p c)
+      done-is p c r =
           rw (k .none-refused) (q .fates, subst (λ (x : List ℤ). Course x corners [] (rimList x corners) (ringList corners) (q .fates)) gridded (q .course), left)
         where
           q : RanAll g corners (rimList g corners) (ringList corners) (docket states (b .weights) (b .patches)) p c
@@ -136,7 +141,7 @@ module _ {words corners : List ℕ} (b : Buffers) {table : List ℕ} (k : KnownW
           ew : c .weights ≡ over (weightsOf (gridOf words) (ringList corners) (q .fates)) (b .weights)
           ew = q .weights-are ∙ ap (λ (x : List ℤ). over (weightsOf x (ringList corners) (q .fates)) (b .weights)) gridded
 
-          left : left-by p c ≡ done words corners (q .fates) b
+          left : left-by (found Done) then p c ≡ done words corners (q .fates) b
           left = λ t. record {
             answer = Done;
             loops = ls .count t;
@@ -144,3 +149,21 @@ module _ {words corners : List ℕ} (b : Buffers) {table : List ℕ} (k : KnownW
             corners = q .count t;
             left = record { grid = eg t; rings = ls .all-rings t; lengths = ls .all-lengths t; states = es t; weights = ew t; patches = q .patches-are t };
           }
+
+      pub finds-ready : {a : Answer} {turns path : List ℕ} → refusing a ≡ false → EdgeRoom corners turns path → Finds words corners b (found a) then turns path
+      finds-ready t edges = (
+        (λ e. absurd (true≢false (sym e ∙ t))),
+        λ e. record {
+          grid-in = grid-in words _ _ eg;
+          rings-in = rings-in ls;
+          lengths-in = lengths-in ls;
+          course = course-room;
+          edges = edges;
+          finish = done-is;
+        },
+      )
+
+-- a refusal leaves nothing ready
+pub finds-refusal : {words corners : List ℕ} {b : Buffers} {r : Patched} {a : Answer} {turns path : List ℕ} → Refuses r a → refusing a ≡ true
+    → Patches words corners b (outcome r b) → Finds words corners b r b turns path
+finds-refusal h t p = ((λ e. p), λ e. absurd (true≢false (sym (ap refusing (h .0) ∙ t) ∙ e)))

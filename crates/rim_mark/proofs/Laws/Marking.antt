@@ -97,8 +97,18 @@ module _ {grid : List ℤ} {corners rings lengths turns path places marks : List
   first-is : (l : ℕ) → l < length lengths → getD marks l 0 ≡ firstOf (loopAt corners l)
   first-is l h = room .firsts-are l (omega (arith, many-loops))
 
-  pub measure-room : {runs : List ℕ} → limits.triangles ≤ length runs → MeasureRoom grid rings lengths runs
-  measure-room long = record { input = corners; rs = ringList corners; loops = room .listed; room = let f = room .listed .few-loops in omega arith }
+  -- where there is room for as many runs as a surface has triangles, there is for one of each loop
+  pub runs-long : {long : ℕ} → limits.triangles ≤ long → length lengths ≤ long
+  runs-long most = let f = room .listed .few-loops in omega (arith, many-loops, length-map (loops corners) (ring corners))
+
+  pub measure-room : {runs : List ℕ} → length lengths ≤ length runs → MeasureRoom grid rings lengths runs
+  measure-room long = record {
+    input = corners;
+    rs = ringList corners;
+    loops = room .listed;
+    few = room .crossing .few;
+    room = omega (arith, many-loops, length-map (loops corners) (ring corners));
+  }
 
   module _ {count : ℕ} {numbered : List ℕ} (given : Numbers corners count numbered) (kept-pieces : length numbered ≡ length places) where
     pub house-room : HouseRoom marks numbered (length lengths) turns
@@ -126,7 +136,7 @@ module _ {grid : List ℤ} {corners rings lengths turns path places marks : List
       home-below l h = subst (λ (x : ℕ). x < count) (sym (housed .told l h ∙ ap (λ (e : ℕ). getD numbered (e / 3) 0) (first-is l h))) (given .below (firstOf (loopAt corners l) / 3) (first-in l h))
 
       -- room for what stands for each piece, for the rivals and for the first alike
-      pub rank-room : {runs queue cleared : List ℕ} → Cleared queue count cleared → length queue ≡ length path → limits.triangles ≤ length runs → RankRoom homes runs (length lengths) cleared
+      pub rank-room : {runs queue cleared : List ℕ} → Cleared queue count cleared → length queue ≡ length path → length lengths ≤ length runs → RankRoom homes runs (length lengths) cleared
       rank-room {runs} {queue} {cleared} clear kept long =
           let c = clear .kept in
           let q : count ≤ length cleared = omega (arith, clear-room kept) in
@@ -134,7 +144,7 @@ module _ {grid : List ℤ} {corners rings lengths turns path places marks : List
           record {
             few = omega (arith, many-loops, length-map (loops corners) (ring corners));
             homes-long = let f = house-room .homes-long in omega arith;
-            runs-long = omega (arith, many-loops, length-map (loops corners) (ring corners));
+            runs-long = long;
             there = λ l h. omega (arith, home-below l h);
             clear = λ l h. clear .clear (getD homes l 0) (home-below l h);
           }

@@ -30,7 +30,7 @@ module _ {grid : List ℤ} {rings lengths runs₀ : List ℕ} (room : MeasureRoo
 
     module _ (h : l < length lengths) where
       pub places : RingPlace rings lengths l r
-      places = places-of grid (room .input) (room .rs) rings lengths (room .loops) l r h (m .read (room .input) (room .rs) (room .loops))
+      places = places-of grid (room .input) (room .rs) rings lengths (room .loops) (room .few) l r h (m .read (room .input) (room .rs) (room .loops))
 
       pub run-in : l < length runs
       run-in = let a = as-many grid (room .input) (room .rs) rings lengths (room .loops) in let b = room .room in let c = m .kept in omega (arith, a)

@@ -1,5 +1,4 @@
 -- `mark_some` numbers the pieces, measures the loops that have a rival, and marks the first of each piece.
-use lib.Dec.{lit≤}
 use mathlib.Core.Path.{_∙_}
 use borrow.Author.Needs.{needs}
 use Rattle.survey_rules.proofs.Laws.Known.{still-long}
@@ -26,10 +25,13 @@ housed q = search
 abbrev cleared : tie.After-path3 → tie.After-path2
 cleared v = search
 
-abbrev flagged : tie.After-runs4 → tie.After-path3
+abbrev flagged : tie.After-runs2 → tie.After-path3
 flagged m = search
 
-abbrev measured : tie.After-path4 → tie.After-runs4
+abbrev noted : tie.After-runs2 → tie.After-runs
+noted m = search
+
+abbrev measured : tie.After-path4 → tie.After-runs2
 measured w = search
 
 abbrev ranked : tie.After-path5 → tie.After-path4
@@ -39,26 +41,23 @@ pub mark-some-spec : {M : Type 1} → statement M
 mark-some-spec =
     tie.close
     (tie.spec
-    (λ c κs. let s : tie.Start = search in number-room (s .pre))
-    (λ c κs. let p : tie.After-places = search in let n = counted p in house-room (entry n .pre) (n .number .ensures) (p .places .given))
-    (λ c κs. let p = numbered (search) in let n = counted p in clear-room (entry n .pre) (n .number .ensures) (p .places .given) (queued p .path .given))
-    (λ c. search needs)
+    (λ c κs. let s : tie.Start = search in number-room (s .pre .0))
+    (λ c κs. let p : tie.After-places = search in let n = counted p in house-room (entry n .pre .0) (n .number .ensures) (p .places .given))
+    (λ c κs. let p = numbered (search) in let n = counted p in clear-room (entry n .pre .0) (n .number .ensures) (p .places .given) (queued p .path .given))
     (λ c κs.
     let q : tie.After-path2 = search in let h = housed q in let p = numbered h in let n = counted p in
-    rank-room (entry n .pre) (n .number .ensures) (p .places .given) (h .before .house .ensures) (h .turns .given) (q .before .clear .ensures) (queued p .path .given) (lit≤ tt))
-    (λ c. search needs)
-    (λ c κs. let f : tie.After-runs2 = search in measure-room (entry (counted (numbered (housed (cleared (search))))) .pre) (still-long (lit≤ tt) (f .runs2 .given)))
+    rank-room (entry n .pre .0) (n .number .ensures) (p .places .given) (h .before .house .ensures) (h .turns .given) (q .before .clear .ensures) (queued p .path .given) (entry n .pre .1))
+    (λ c κs. let f : tie.After-runs = search in let s = entry (counted (numbered (housed (cleared (search))))) in measure-room (s .pre .0) (still-long (s .pre .1) (f .runs .given)))
     (λ c κs.
     let v = flagged (search) in let q = cleared v in let p = numbered (housed q) in let n = counted p in
-    clear-room (entry n .pre) (n .number .ensures) (p .places .given) (v .path3 .given ∙ q .path2 .given ∙ queued p .path .given))
-    (λ c. search needs)
+    clear-room (entry n .pre .0) (n .number .ensures) (p .places .given) (v .path3 .given ∙ q .path2 .given ∙ queued p .path .given))
     (λ c κs.
     let w : tie.After-path4 = search in let m = measured w in let v = flagged m in let q = cleared v in let h = housed q in let p = numbered h in let n = counted p in
-    rank-room (entry n .pre) (n .number .ensures) (p .places .given) (h .before .house .ensures) (h .turns .given) (w .before .clear2 .ensures)
-    (v .path3 .given ∙ q .path2 .given ∙ queued p .path .given) (still-long (lit≤ tt) (m .runs4 .given)))
+    rank-room (entry n .pre .0) (n .number .ensures) (p .places .given) (h .before .house .ensures) (h .turns .given) (w .before .clear2 .ensures)
+    (v .path3 .given ∙ q .path2 .given ∙ queued p .path .given) (still-long (entry n .pre .1) (m .runs2 .given ∙ noted m .runs .given)))
     (λ c κs.
     let b : tie.After-path5 = search in let w = ranked b in let m = measured w in let v = flagged m in let q = cleared v in let h = housed q in let p = numbered h in let n = counted p in
-    tell-room (entry n .pre) (n .number .ensures) (p .places .given) (h .before .house .ensures) (h .turns .given) (v .before .find-rivals .ensures) (m .before .measure .ensures)
+    tell-room (entry n .pre .0) (n .number .ensures) (p .places .given) (h .before .house .ensures) (h .turns .given) (v .before .find-rivals .ensures) (m .before .measure .ensures)
     (w .before .clear2 .ensures) (v .path3 .given ∙ q .path2 .given ∙ queued p .path .given) (b .before .rank .ensures) (b .path5 .given))
     (λ c. let v = flagged (measured (ranked (search))) in housed (cleared v) .turns .given)
     (λ c.
@@ -66,8 +65,9 @@ mark-some-spec =
     b .path5 .given ∙ w .path4 .given ∙ v .path3 .given ∙ q .path2 .given ∙ queued (numbered (housed q)) .path .given)
     (λ c. let v = flagged (measured (ranked (search))) in numbered (housed (cleared v)) .places .given)
     (λ c. search needs)
+    (λ c. let m = measured (ranked (search)) in m .runs2 .given ∙ noted m .runs .given)
     (λ c.
     let b : tie.After-path5 = search in let w = ranked b in let m = measured w in let v = flagged m in let q = cleared v in let h = housed q in let p = numbered h in let n = counted p in
     let t : tie.After-tell = search in
-    marked (entry n .pre) (n .number .ensures) (p .places .given) (h .before .house .ensures) (h .turns .given) (v .before .find-rivals .ensures) (m .before .measure .ensures)
+    marked (entry n .pre .0) (n .number .ensures) (p .places .given) (h .before .house .ensures) (h .turns .given) (v .before .find-rivals .ensures) (m .before .measure .ensures)
     (w .before .clear2 .ensures) (v .path3 .given ∙ q .path2 .given ∙ queued p .path .given) (b .before .rank .ensures) (b .path5 .given) _ (t .tell .ensures)))

@@ -36,6 +36,7 @@ pub record MeasureRoom (grid : List ℤ) (rings lengths runs : List ℕ) : Type 
   pub input : List ℕ
   pub rs : List (List ℕ)
   pub loops : Loops grid input rs rings lengths
+  pub few : length input ≤ limits.corners
   pub room : length rs ≤ length runs
 
 -- the runs of all loops for which there was a number, whatever loops they are

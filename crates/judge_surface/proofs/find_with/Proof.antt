@@ -1,6 +1,6 @@
--- `judge_with` lists the loops apart, so that nothing is written before every check is done, marks the rims where the first half-edges stood, and
--- hands the verdict the parts that were written.
-use mathlib.Core.Path.{_∙_, sym}
+-- `find_with` lists the loops apart, so that nothing is written before every check is done, marks the rims where the first half-edges stood, and
+-- leaves the parts that were written to the verdict.
+use mathlib.Core.Path.{_∙_, refl, sym}
 use mathlib.Core.List.{List, []}
 use Prim.Native.Nat.{ℕ}
 use borrow.Author.Needs.{needs}
@@ -8,10 +8,11 @@ use Rattle.surface_rules.proofs.Laws.Lists.{as-long}
 use Rattle.survey_rules.specs.Outcome.{Buffers, buffers}
 use Rattle.survey_rules.proofs.Laws.Known.{Known, known, still-long, grid-ready, ready, lent-long}
 use Rattle.survey_rules.proofs.Laws.Parts.{grid-in, rings-in, lengths-in, lists-laid}
+use Rattle.fill_scratch.proofs.Laws.Tray.{edges-kept, scratch-turns-long, scratch-path-long, scratch-edges-room}
 use Rattle.rim_mark.proofs.Laws.Listed.{mark-room}
-use Rattle.judge_surface.proofs.Laws.Judging.{content-refuse, states-refuse, rings-room, lengths-room, verdict-room, judges}
-use Rattle.judge_surface.proofs.judge_with.Statement.{statement}
-use Rattle.judge_surface.proofs.judge_with.Tie as tie
+use Rattle.judge_surface.proofs.Laws.Judging.{content-refuse, states-refuse, rings-room, lengths-room, finds-refused, finds}
+use Rattle.judge_surface.proofs.find_with.Statement.{statement}
+use Rattle.judge_surface.proofs.find_with.Tie as tie
 
 -- the places on the way back, by their types: each call, and the function's entry
 abbrev entry : tie.After-turns → tie.Start
@@ -41,7 +42,7 @@ ringed c = search
 abbrev laid : tie.After-turns3 → tie.After-lengths
 laid c = search
 
-abbrev marked : tie.After-verdict → tie.After-turns3
+abbrev marked : tie.After-marks2 → tie.After-turns3
 marked c = search
 
 abbrev path-listed : tie.After-marks → tie.After-path
@@ -56,14 +57,11 @@ found-listed c = search
 abbrev sizes-listed : tie.After-marks → tie.After-sizes
 sizes-listed c = search
 
-abbrev path-marked : tie.After-verdict → tie.After-path2
+abbrev path-marked : tie.After-marks2 → tie.After-path2
 path-marked c = search
 
-abbrev places-marked : tie.After-verdict → tie.After-places2
+abbrev places-marked : tie.After-marks2 → tie.After-places2
 places-marked c = search
-
-abbrev marks-marked : tie.After-verdict → tie.After-marks2
-marks-marked c = search
 
 -- the buffers as they are lent
 abbrev lent-here : tie.Start → Buffers
@@ -94,35 +92,29 @@ rings-there c = let q : tie.After-lengths = search in rings-in (lists-laid (turn
 lengths-there : tie.Need-slice-reshare-prefix-mark-3
 lengths-there c = let q : tie.After-lengths = search in lengths-in (lists-laid (turns-listed (surveyed q) .before .list-with .ensures .0) _ _ _ _ (ringed q .before .lay-front .ensures) (q .before .lay-front2 .ensures))
 
-grid-still : tie.Need-slice-reshare-prefix-verdict
-grid-still c = let m : tie.After-turns3 = search in let g = gridded (ringed (laid m)) in grid-in (entry (checked (passed (turns-listed (listed (counted g))))) .args .words .now) _ _ (g .before .lay-grid .ensures)
-
-rings-still : tie.Need-slice-reshare-prefix-verdict-2
-rings-still c = let m : tie.After-turns3 = search in let q = laid m in rings-in (lists-laid (turns-listed (surveyed q) .before .list-with .ensures .0) _ _ _ _ (ringed q .before .lay-front .ensures) (q .before .lay-front2 .ensures))
-
-lengths-still : tie.Need-slice-reshare-prefix-verdict-3
-lengths-still c = let m : tie.After-turns3 = search in let q = laid m in lengths-in (lists-laid (turns-listed (surveyed q) .before .list-with .ensures .0) _ _ _ _ (ringed q .before .lay-front .ensures) (q .before .lay-front2 .ensures))
-
-pub judge-with-spec : {M : Type 1} → statement M
-judge-with-spec =
+pub find-with-spec : {M : Type 1} → statement M
+find-with-spec =
     tie.close
     (tie.spec
     (λ c. search needs)
     (λ c. search needs)
-    (λ c κs. let s : tie.Start = search in record { counts = s .pre .scratch .counts; long = s .pre .scratch .turns-long })
+    (λ c κs. let s : tie.Start = search in record { counts = s .pre .scratch .counts; long = scratch-turns-long (s .pre .scratch) })
     (λ c κs. search needs)
     (λ c κs. search needs)
     (λ c. let t : tie.After-turns = search in t .turns .given)
     (λ c.
-    let t : tie.After-turns = search in content-refuse _ _ _ _ (lent-here (entry t)) (entry t .pre .scratch .counts) _ _ _ (c .refused .ensures)
-    (t .before .check .ensures) (sym (c .before .before .refuses .ensures) ∙ c .before .if1 .taken))
+    let t : tie.After-turns = search in
+    let refuses = sym (c .before .before .refuses .ensures) ∙ c .before .if1 .taken in
+    λ set. finds-refused _ _ (c .refused .ensures) refuses
+    (content-refuse _ _ _ _ (lent-here (entry t)) (entry t .pre .scratch .counts) _ _ _ (c .refused .ensures) (t .before .check .ensures) refuses))
     (λ c κs.
     let p : tie.Else1 = search in
     let k = known-here p .1 in
     let s = entry (checked p) in (
-      ready k _ _ _ (still-long (s .pre .scratch .turns-long) (checked p .turns .given)) (s .pre .rings-long) (s .pre .lengths-long) (s .pre .marks-long),
+      ready k _ _ _ (still-long (scratch-turns-long (s .pre .scratch)) (checked p .turns .given)) (s .pre .rings-long) (s .pre .lengths-long)
+          (s .pre .marks-long),
       lent-long k _ _
-          (s .pre .scratch .path-long) (s .pre .scratch .places-long),
+          (scratch-path-long (s .pre .scratch)) (s .pre .scratch .places-long),
     ))
     (λ c κs. search needs)
     (λ c. let n : tie.After-marks = search in let l = turns-listed n in l .turns2 .given ∙ checked (passed l) .turns .given)
@@ -134,8 +126,9 @@ judge-with-spec =
     (λ c.
     let n : tie.After-marks = search in
     let l = turns-listed n in
-    states-refuse _ _ _ _ (lent-here (entry (checked (passed l)))) (known-here (passed l) .1) _ _ _ _ _ _ _ (l .before .list-with .ensures .0) _ (c .refused2 .ensures)
-    (c .before .if2 .taken))
+    λ set. finds-refused _ _ (c .refused2 .ensures) refl
+    (states-refuse _ _ _ _ (lent-here (entry (checked (passed l)))) (known-here (passed l) .1) _ _ _ _ _ _ _ (l .before .list-with .ensures .0) _ (c .refused2 .ensures)
+    (c .before .if2 .taken)))
     (λ c κs. let p : tie.Else2 = search in grid-ready (known-here (passed (turns-listed (listed p))) .1))
     (λ c κs. let g : tie.After-grid = search in let l = turns-listed (listed (counted g)) in rings-room (known-here (passed l) .1) (l .before .list-with .ensures .0))
     (λ c κs.
@@ -157,43 +150,32 @@ judge-with-spec =
     mark-room (known-here p .1)
     (lists-laid (turns-listed (surveyed q) .before .list-with .ensures .0) _ _ _ _ (ringed q .before .lay-front .ensures)
     (q .before .lay-front2 .ensures))
-    (g .before .lay-grid .ensures) (l .before .list-with .ensures .1) (still-long (still-long (s .pre .scratch .turns-long) (checked p .turns .given)) (l .turns2 .given))
-    (still-long (s .pre .scratch .path-long) (path-listed n .path .given)) (still-long (s .pre .scratch .pieces-long) (places-listed n .places .given)))
-    grid-still
-    (λ c. as-long _ _ (grid-still (c .before)))
-    rings-still
-    (λ c. as-long _ _ (rings-still (c .before)))
-    lengths-still
-    (λ c. as-long _ _ (lengths-still (c .before)))
-    (λ c κs.
-    let m : tie.After-turns3 = search in
+    (g .before .lay-grid .ensures) (l .before .list-with .ensures .1)
+    (still-long (still-long (scratch-turns-long (s .pre .scratch)) (checked p .turns .given)) (l .turns2 .given))
+    (still-long (scratch-path-long (s .pre .scratch)) (path-listed n .path .given))
+    (still-long (s .pre .scratch .pieces-long) (places-listed n .places .given)))
+    (λ c. let m = marked search in let l = turns-listed (surveyed (laid m)) in m .turns3 .given ∙ l .turns2 .given ∙ checked (passed l) .turns .given)
+    (λ c. let k : tie.After-marks2 = search in path-marked k .path2 .given ∙ path-listed (surveyed (laid (marked k))) .path .given)
+    (λ c. let k : tie.After-marks2 = search in places-marked k .places2 .given ∙ places-listed (surveyed (laid (marked k))) .places .given)
+    (λ c. found-listed (surveyed (laid (marked search))) .found .given)
+    (λ c. sizes-listed (surveyed (laid (marked search))) .sizes .given)
+    (λ c. let k : tie.After-marks2 = search in k .marks2 .given ∙ surveyed (laid (marked k)) .marks .given)
+    (λ c. gridded (ringed (laid (marked search))) .grid .given)
+    (λ c. ringed (laid (marked search)) .rings .given)
+    (λ c. laid (marked search) .lengths .given)
+    (λ c.
+    let k : tie.After-marks2 = search in
+    let m = marked k in
+    let w = path-marked k in
     let q = laid m in
     let g = gridded (ringed q) in
     let e = counted g in
-    let p = passed (turns-listed (listed e)) in
+    let l = turns-listed (listed e) in
+    let p = passed l in
     let s = entry (checked p) in
-    verdict-room (s .args .words .now) (s .args .corners .now) (lent-here s) (known-here p .1)
+    finds (s .args .words .now) (s .args .corners .now) (lent-here s) (known-here p .1)
     (lists-laid (turns-listed (surveyed q) .before .list-with .ensures .0) _ _ _ _ (ringed q .before .lay-front .ensures)
     (q .before .lay-front2 .ensures))
-    (g .before .lay-grid .ensures) (m .before .mark .ensures) _ (e .if2 .left))
-    (λ c.
-    let m = marked c in let l = turns-listed (surveyed (laid m)) in m .turns3 .given ∙ l .turns2 .given ∙ checked (passed l) .turns .given)
-    (λ c. let m = path-marked c in m .path2 .given ∙ path-listed (surveyed (laid (marked c))) .path .given)
-    (λ c. let m = places-marked c in m .places2 .given ∙ places-listed (surveyed (laid (marked c))) .places .given)
-    (λ c. found-listed (surveyed (laid (marked c))) .found .given)
-    (λ c. sizes-listed (surveyed (laid (marked c))) .sizes .given)
-    (λ c. let m = marks-marked c in m .marks2 .given ∙ surveyed (laid (marked c)) .marks .given)
-    (λ c. gridded (ringed (laid (marked c))) .grid .given)
-    (λ c. ringed (laid (marked c)) .rings .given)
-    (λ c. laid (marked c) .lengths .given)
-    (λ c.
-    let m = marked c in
-    let q = laid m in
-    let g = gridded (ringed q) in
-    let e = counted g in
-    let p = passed (turns-listed (listed e)) in
-    let s = entry (checked p) in
-    judges (s .args .words .now) (s .args .corners .now) (lent-here s) (known-here p .1)
-    (lists-laid (turns-listed (surveyed q) .before .list-with .ensures .0) _ _ _ _ (ringed q .before .lay-front .ensures)
-    (q .before .lay-front2 .ensures))
-    (g .before .lay-grid .ensures) (m .before .mark .ensures) _ (e .if2 .left) _ _ (c .verdict .ensures)))
+    (g .before .lay-grid .ensures) (m .before .mark .ensures) _ (e .if2 .left)
+    (edges-kept (m .turns3 .given ∙ l .turns2 .given ∙ checked p .turns .given) (w .path2 .given ∙ path-listed (surveyed q) .path .given)
+    (scratch-edges-room (s .pre .scratch)))))

@@ -1,4 +1,4 @@
--- `patch_with` writes nothing before every check is done, marks the rims among the states, and hands the course the parts that were written.
+-- `find_with` writes nothing before every check is done, and marks the rims among the states.
 use mathlib.Core.Path.{_∙_, sym}
 use native.Mathlib.Omega.{arith}
 use lib.ListN.{length}
@@ -7,11 +7,12 @@ use Rattle.surface_rules.proofs.Laws.Lists.{as-long}
 use Rattle.surface_rules.proofs.Laws.Thens.{counts-fit}
 use Rattle.survey_rules.proofs.Laws.Known.{known, still-long, grid-ready, lent-long}
 use Rattle.survey_rules.proofs.Laws.Parts.{grid-in, rings-in, lengths-in}
+use Rattle.fill_scratch.proofs.Laws.Tray.{edges-kept, scratch-turns-long, scratch-path-long, scratch-edges-room}
 use Rattle.rim_mark.proofs.Laws.Listed.{mark-room}
 use Rattle.patch_surface.specs.Outcome.{Buffers, buffers}
-use Rattle.patch_surface.proofs.Laws.Patching.{lentBesides, needsBesides, KnownWith, content-refuse, listing-ready, course-room, done-is}
-use Rattle.patch_surface.proofs.patch_with.Statement.{statement}
-use Rattle.patch_surface.proofs.patch_with.Tie as tie
+use Rattle.patch_surface.proofs.Laws.Patching.{lentBesides, needsBesides, KnownWith, content-refuse, listing-ready, finds-ready, finds-refusal}
+use Rattle.patch_surface.proofs.find_with.Statement.{statement}
+use Rattle.patch_surface.proofs.find_with.Tie as tie
 
 -- the places on the way back, by their types: each call, and the function's entry
 abbrev entry : tie.After-turns → tie.Start
@@ -31,15 +32,6 @@ start l = entry (checked (passed (gridded l)))
 
 abbrev listed : tie.After-turns3 → tie.After-turns2
 listed c = search
-
-abbrev marked : tie.After-patch-all → tie.After-turns3
-marked c = search
-
-abbrev placed : tie.After-patch-all → tie.After-places2
-placed c = search
-
-abbrev states-marked : tie.After-patch-all → tie.After-states2
-states-marked c = search
 
 abbrev states-listed : tie.After-places2 → tie.After-states
 states-listed c = search
@@ -74,28 +66,22 @@ rings-there c = let l : tie.After-turns2 = search in rings-in (l .before .list-w
 lengths-there : tie.Need-slice-reshare-prefix-mark-3
 lengths-there c = let l : tie.After-turns2 = search in lengths-in (l .before .list-with .ensures .0)
 
-grid-still : tie.Need-slice-reshare-prefix-patch-all
-grid-still c = let m : tie.After-turns3 = search in let l = listed m in grid-in (start l .args .words .now) _ _ (gridded l .before .lay-grid .ensures)
-
-rings-still : tie.Need-slice-reshare-prefix-patch-all-2
-rings-still c = let m : tie.After-turns3 = search in rings-in (listed m .before .list-with .ensures .0)
-
-lengths-still : tie.Need-slice-reshare-prefix-patch-all-3
-lengths-still c = let m : tie.After-turns3 = search in lengths-in (listed m .before .list-with .ensures .0)
-
 returns : tie.Need-returns
 returns c =
     let t : tie.After-turns = search in
     let s = entry t in
-    content-refuse (s .args .words .now) (s .args .corners .now) (lent-here s) (c .refused .ensures)
-    (sym (c .before .before .refuses .ensures) ∙ c .before .if1 .taken) (s .pre .counts) (t .before .check .ensures)
+    let taken = sym (c .before .before .refuses .ensures) ∙ c .before .if1 .taken in
+    finds-refusal (c .refused .ensures) taken
+    (content-refuse (s .args .words .now) (s .args .corners .now) (lent-here s) (c .refused .ensures) taken (s .pre .counts) (t .before .check .ensures))
 
 list-with-requires : tie.Need-list-with-requires
 list-with-requires c κs =
     let p = passed (search) in
     let s = entry (checked p) in
-    let k = known-here p in
-    (listing-ready (lent-here s) k (still-long (s .pre .turns-long) (checked p .turns .given)), lent-long k _ _ (s .pre .path-long) (s .pre .places-long))
+    let k = known-here p in (
+      listing-ready (lent-here s) k (still-long (scratch-turns-long (s .pre)) (checked p .turns .given)),
+      lent-long k _ _ (scratch-path-long (s .pre)) (s .pre .places-long),
+    )
 
 mark-requires : tie.Need-mark-requires
 mark-requires c κs =
@@ -105,32 +91,28 @@ mark-requires c κs =
     let p = passed (gridded l) in
     let s = start l in
     mark-room (known-here p) (l .before .list-with .ensures .0) (gridded l .before .lay-grid .ensures) (l .before .list-with .ensures .1)
-    (still-long (still-long (s .pre .turns-long) (checked p .turns .given)) (l .turns2 .given)) (still-long (s .pre .path-long) (a .path .given))
+    (still-long (still-long (scratch-turns-long (s .pre)) (checked p .turns .given)) (l .turns2 .given))
+    (still-long (scratch-path-long (s .pre)) (a .path .given))
     (still-long (s .pre .pieces-long) (q .places .given))
-
-patch-all-requires : tie.Need-patch-all-requires
-patch-all-requires c κs =
-    let m : tie.After-turns3 = search in
-    let l = listed m in
-    course-room (lent-here (start l)) (known-here (passed (gridded l))) (l .before .list-with .ensures .0) (gridded l .before .lay-grid .ensures)
-    (m .before .mark .ensures)
 
 returns-2 : tie.Need-returns-2
 returns-2 c =
-    let r : tie.After-patch-all = search in
-    let m = marked r in
+    let m : tie.After-turns3 = search in
+    let q : tie.After-places2 = search in
     let l = listed m in
-    done-is (lent-here (start l)) (known-here (passed (gridded l))) (l .before .list-with .ensures .0) (gridded l .before .lay-grid .ensures)
-    (m .before .mark .ensures) (r .patch-all .ensures)
+    finds-ready (lent-here (start l)) (known-here (passed (gridded l))) (l .before .list-with .ensures .0) (gridded l .before .lay-grid .ensures)
+    (m .before .mark .ensures) (sym (passed (gridded l) .before .refuses .ensures) ∙ passed (gridded l) .if1 .left)
+    (edges-kept (m .turns3 .given ∙ l .turns2 .given ∙ checked (passed (gridded l)) .turns .given)
+    (q .before .before .path2 .given ∙ places-listed q .before .before .path .given) (scratch-edges-room (start l .pre)))
 
-pub patch-with-spec : {M : Type 1} → statement M
-patch-with-spec =
+pub find-with-spec : {M : Type 1} → statement M
+find-with-spec =
     tie.close
     (tie.spec
     (λ c. let s : tie.Start = search in omega (arith, counts-fit (length (s .args .words .now)) (length (s .args .corners .now)) (s .pre .counts) .few-corners))
     (λ c. search needs)
     (λ c. search needs)
-    (λ c κs. let s : tie.Start = search in record { counts = s .pre .counts; long = s .pre .turns-long })
+    (λ c κs. let s : tie.Start = search in record { counts = s .pre .counts; long = scratch-turns-long (s .pre) })
     (λ c κs. search needs)
     (λ c κs. search needs)
     (λ c. let t : tie.After-turns = search in t .turns .given)
@@ -144,20 +126,11 @@ patch-with-spec =
     lengths-there
     (λ c. as-long _ _ (lengths-there (c .before)))
     mark-requires
-    grid-still
-    (λ c. as-long _ _ (grid-still (c .before)))
-    rings-still
-    (λ c. as-long _ _ (rings-still (c .before)))
-    lengths-still
-    (λ c. as-long _ _ (lengths-still (c .before)))
-    patch-all-requires
-    (λ c. let m = marked (search) in let l = listed m in m .turns3 .given ∙ l .turns2 .given ∙ checked (passed (gridded l)) .turns .given)
-    (λ c. let m = placed (search) in m .before .before .path2 .given ∙ places-listed m .before .before .path .given)
-    (λ c. let m = placed (search) in m .places2 .given ∙ places-listed m .places .given)
-    (λ c. gridded (listed (marked (search))) .grid .given)
-    (λ c. lengths-listed (placed (search)) .before .before .rings .given)
-    (λ c. lengths-listed (placed (search)) .lengths .given)
-    (λ c. let n : tie.After-states3 = search in let r = n .before in n .states3 .given ∙ states-marked r .states2 .given ∙ states-listed (placed r) .states .given)
-    (λ c. search needs)
-    (λ c. search needs)
+    (λ c. let m : tie.After-turns3 = search in let l = listed m in m .turns3 .given ∙ l .turns2 .given ∙ checked (passed (gridded l)) .turns .given)
+    (λ c. let m : tie.After-places2 = search in m .before .before .path2 .given ∙ places-listed m .before .before .path .given)
+    (λ c. let m : tie.After-places2 = search in m .places2 .given ∙ places-listed m .places .given)
+    (λ c. gridded (listed (search)) .grid .given)
+    (λ c. lengths-listed (search) .before .before .rings .given)
+    (λ c. lengths-listed (search) .lengths .given)
+    (λ c. let n : tie.After-states2 = search in n .states2 .given ∙ states-listed (search) .states .given)
     returns-2)
