@@ -146,9 +146,9 @@ fn patch_long(
     )
 }
 
-// All loops, of which those that are patched have at most so many edges. Up to four no table is needed; up to so many as are short the
-// one that is lent will do, or if that is too short another one, with which the function calls itself. It does so also in order that the compiler
-// keeps it apart from `patch_long`: the long table is then on the stack only where it is used.
+// All loops, of which those that are patched have at most so many edges. Up to four no table is needed; up to so many as are short the one
+// that is lent will do, or if that is too short another one, with which the function calls itself. It does so also in order that the
+// compiler keeps it apart from `patch_long`: the long table is then on the stack only where it is used.
 fn patch_tabled(
     grid: &[i32],
     corners: &[u16],

@@ -1,5 +1,5 @@
-// Patches a surface whose counts fit, with lent scratch: the other checks, the grid, the loops and the rims; then what becomes of each loop.
-// These are two functions, so that what the first needs on the stack is gone when the second begins.
+// Patches a surface whose counts fit, with lent scratch: the other checks, the grid, the loops and the rims; then what becomes of each
+// loop. These are two functions, so that what the first needs on the stack is gone when the second begins.
 ghost use mathlib.Core.Path.{_≡_};
 ghost use Rattle.base_types.specs.Lent.{was, left};
 ghost use Rattle.fill_scratch.specs.Workings.Scratch.{Scratch};

@@ -10,9 +10,9 @@ use Rattle.surface_rules.specs.Refusals.{countRefusal}
 abbrev pub few : ℕ
 few = 48
 
--- 1 and 2 were not given, and there is room for a place for each point, and there also for a piece for each triangle. Turns and path are twice as
--- long as they need be for a turn and an edge of the path for each corner: once the rims are marked they become the links and the ends of the
--- chained edges, with room for the input's edges and for as many diagonals.
+-- 1 and 2 were not given, and there is room for a place for each point, and there also for a piece for each triangle. Turns and path are
+-- twice as long as they need be for a turn and an edge of the path for each corner: once the rims are marked they become the links and the
+-- ends of the chained edges, with room for the input's edges and for as many diagonals.
 pub record Scratch (words corners turns path places : List ℕ) : Type 0 where
   pub counts : countRefusal (length words) (length corners) ≡ Done
   pub turns-long : 2 * length corners ≤ length turns

@@ -1,5 +1,5 @@
--- `find_with` lists the loops apart, so that nothing is written before every check is done, marks the rims where the first half-edges stood, and
--- leaves the parts that were written to the verdict.
+-- `find_with` lists the loops apart, so that nothing is written before every check is done, marks the rims where the first half-edges
+-- stood, and leaves the parts that were written to the verdict.
 use mathlib.Core.Path.{_∙_, refl, sym}
 use mathlib.Core.List.{List, []}
 use Prim.Native.Nat.{ℕ}

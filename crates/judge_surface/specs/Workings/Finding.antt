@@ -12,8 +12,8 @@ use Rattle.judge_all_sight.specs.Workings.Gives.{VerdictRoom, Gives}
 use Rattle.judge_answer.specs.declared.Judged.{Judged}
 use Rattle.judge_surface.specs.Outcome.{outcome, Judges}
 
--- the verdict can be taken on the fronts of the buffers that are left (b′), of as many words, vertices and loops as there are; and whatever it is, with
--- it the checker has judged what it was lent (b)
+-- the verdict can be taken on the fronts of the buffers that are left (b′), of as many words, vertices and loops as there are; and whatever
+-- it is, with it the checker has judged what it was lent (b)
 pub record Ready (words corners states set : List ℕ) (b : Buffers) (r : Judged) (b′ : Buffers) (marks turns path : List ℕ) : Type 0 where
   pub grid-in : length words ≤ length (b′ .grid)
   pub rings-in : r .vertices ≤ length (b′ .rings)
