@@ -1,5 +1,6 @@
 /* Wazelpunt in a viewer: reads a sheet from the file that is named, or from standard input, patches it, and prints what is to be drawn: the
-   points on the grid, the triangles, and each loop with its state, its ring and its patch. The file is a sheet text or a binary STL.
+   pitch, the points on the grid, the triangles, and each loop with its state, its ring and its patch. The file is a sheet text or a binary
+   STL.
 
        cc viewer.c -lwazelpunt -o viewer && ./viewer plate.sheet
 
@@ -22,6 +23,7 @@ static struct {
     uint64_t weights[WAZELPUNT_WEIGHTS_FOR(WAZELPUNT_CORNERS)];
     uint16_t patches[WAZELPUNT_PATCHES_FOR(WAZELPUNT_CORNERS)];
     size_t words_count, corners_count, loops, vertices, laid;
+    uint32_t pitch;
 } sheet;
 
 /* As many numbers as stand in an array, which is the length that is given with a lent buffer. */
@@ -62,13 +64,17 @@ static uint32_t size_as_facets(size_t length)
 
 /* Whether something whose length fits no file of facets is one all the same: no text has a NUL byte. But what begins as a sheet text is
    read as one, and its wrong line is told. */
-static int is_misfit(size_t held) { return memchr(bytes, 0, held) && memcmp(bytes, "points=", 7) != 0; }
+static int is_misfit(size_t held)
+{
+    return memchr(bytes, 0, held) && memcmp(bytes, "points=", 7) != 0 && memcmp(bytes, "pitch=", 6) != 0;
+}
 
-/* Reads the sheet, a file of facets or a text. */
+/* Reads the sheet, a file of facets or a text. A text says its pitch; for a file of facets, which says none, the finest is taken. */
 static uint32_t read_sheet(size_t length, size_t *place)
 {
     size_t held = length < sizeof bytes ? length : sizeof bytes;
     *place = 0;
+    sheet.pitch = 1;
     switch (size_as_facets(length)) {
     case WAZELPUNT_DONE:
         return wazelpunt_read_stl(bytes, held, sheet.words, LENGTH(sheet.words), sheet.corners, LENGTH(sheet.corners), place,
@@ -78,7 +84,7 @@ static uint32_t read_sheet(size_t length, size_t *place)
     default:
         if (is_misfit(held)) return WAZELPUNT_MISFIT;
         return wazelpunt_read(bytes, held, sheet.words, LENGTH(sheet.words), sheet.corners, LENGTH(sheet.corners), place,
-                              &sheet.words_count, &sheet.corners_count);
+                              &sheet.words_count, &sheet.corners_count, &sheet.pitch);
     }
 }
 
@@ -89,7 +95,8 @@ static uint32_t take(size_t length, size_t *place)
     if (number != WAZELPUNT_DONE) return number;
     return wazelpunt_patch(sheet.words, sheet.words_count, sheet.corners, sheet.corners_count, sheet.grid, LENGTH(sheet.grid), sheet.rings,
                            LENGTH(sheet.rings), sheet.lengths, LENGTH(sheet.lengths), sheet.states, LENGTH(sheet.states), sheet.weights,
-                           LENGTH(sheet.weights), sheet.patches, LENGTH(sheet.patches), place, &sheet.loops, &sheet.vertices, &sheet.laid);
+                           LENGTH(sheet.weights), sheet.patches, LENGTH(sheet.patches), place, &sheet.loops, &sheet.vertices, &sheet.laid,
+                           sheet.pitch);
 }
 
 static const char *state_name(uint16_t state)
@@ -121,6 +128,7 @@ static void draw_loops(void)
 
 static void draw(void)
 {
+    printf("pitch: %" PRIu32 "\n", sheet.pitch);
     for (size_t point = 0; point < sheet.words_count / 3; point++) {
         const int32_t *at = sheet.grid + 3 * point;
         printf("point %zu: %" PRId32 " %" PRId32 " %" PRId32 "\n", point, at[0], at[1], at[2]);

@@ -28,7 +28,8 @@ static const char *due_key(const struct wrong *wrong)
 {
     const struct words *words = words_of(wrong->text->kind);
     const char *const keys[] = {
-        [FIRST_COUNT] = words->count_key, [FIRST] = words->key, [SECOND_COUNT] = "triangles=", [SECOND] = "t=", [END] = "",
+        [PITCH] = pitch_key, [FIRST_COUNT] = words->count_key, [FIRST] = words->key, [SECOND_COUNT] = "triangles=", [SECOND] = "t=",
+        [END] = "",
     };
     return keys[wrong->due->part];
 }
@@ -271,9 +272,16 @@ static bool is_obj(const struct wrong *wrong)
     return is_first_of_text(wrong) && begins_with_any(&line, words, false) && tell_kind(wrong, "an OBJ file");
 }
 
+/* Whether a set begins with the line of a pitch, as sheets do: its own first line comes next. */
+static bool is_set_with_pitch(const struct wrong *wrong)
+{
+    struct line second = line_after(wrong->text, wrong->line);
+    return wrong->text->kind == SET && line_begins(wrong->line, pitch_key) && line_begins(&second, "states=");
+}
+
 static bool is_sheet(const struct wrong *wrong)
 {
-    if (wrong->text->kind == SHEET || !is_first_of_text(wrong) || !begins_as_sheet(wrong->text)) {
+    if (wrong->text->kind == SHEET || !is_first_of_text(wrong) || !begins_as_sheet(wrong->text) || is_set_with_pitch(wrong)) {
         return false;
     }
     if (wrong->text->kind == SET) {
@@ -330,6 +338,45 @@ static bool lacks_line_feed(const struct wrong *wrong)
     return true;
 }
 
+/* ---- The pitch ---- */
+
+/* The line of a pitch where none may stand: in a set, once more, or behind the first line. */
+static bool has_pitch_elsewhere(const struct wrong *wrong)
+{
+    if (wrong->due->part == PITCH || !line_begins(wrong->line, pitch_key)) {
+        return false;
+    }
+    if (wrong->text->kind == SET) {
+        phrase_add(wrong->cause, "a set has no pitch: it goes by that of its sheet");
+    } else if (pitch_of(wrong->text) != 1) {
+        phrase_add(wrong->cause, "a second pitch: the first line says %zu", pitch_of(wrong->text));
+    } else {
+        phrase_add(wrong->cause, "a pitch stands on the first line, before %s, or nowhere", words_of(SHEET)->count_key);
+    }
+    return true;
+}
+
+/* A number that is no pitch, or the one that is told by no line; by now it is one number, without a leading zero. */
+static bool has_other_pitch(const struct wrong *wrong)
+{
+    struct field field;
+    if (wrong->due->part != PITCH || !has_key(wrong) || !field_of(wrong, 0, &field)) {
+        return false;
+    }
+    if (field.length == 1 && field.bytes[0] == '1') {
+        phrase_add(wrong->cause, "pitch 1 has no line: leave it out");
+        return true;
+    }
+    size_t number = field.length > 2 ? 0 : line_number(wrong->line, 0);
+    if (number == 2 || number == 5 || number == 10) {
+        return false; /* something else is wrong with it */
+    }
+    phrase_add(wrong->cause, "no pitch, ");
+    add_field(wrong, &field);
+    phrase_add(wrong->cause, ": pitches are 1, 2, 5 and 10, and 1 has no line");
+    return true;
+}
+
 /* ---- Too few and too many lines ---- */
 
 static void add_counts(const struct wrong *wrong, const char *how, const char *one, size_t there, const char *more)
@@ -347,8 +394,8 @@ static bool ends_early(const struct wrong *wrong)
     if (!line->missing && !next && !set) {
         return false;
     }
-    if (wrong->due->part == SECOND_COUNT) {
-        phrase_add(wrong->cause, "too few lines: the text ends before triangles=");
+    if (wrong->due->part == FIRST_COUNT || wrong->due->part == SECOND_COUNT) {
+        phrase_add(wrong->cause, "too few lines: the text ends before %s", due_key(wrong));
     } else {
         add_counts(wrong, "few", one_of_part(wrong), wrong->due->index, "");
     }
@@ -520,7 +567,10 @@ static bool has_large_number(const struct wrong *wrong)
     bool few = wrong->due->part == FIRST_COUNT || wrong->text->kind == SHEET;
     size_t most = corner ? WAZELPUNT_POINTS - 1 : few ? WAZELPUNT_POINTS : WAZELPUNT_SET_TRIANGLES;
     struct field field;
-    for (size_t f = 0; wrong->due->part != FIRST && has_key(wrong) && field_of(wrong, f, &field); f++) {
+    if (wrong->due->part == PITCH || wrong->due->part == FIRST) {
+        return false;
+    }
+    for (size_t f = 0; has_key(wrong) && field_of(wrong, f, &field); f++) {
         if (field.length > 4 || line_number(wrong->line, f) > most) {
             phrase_add(wrong->cause, "a %s that is too large, ", corner ? "number" : "count");
             add_field(wrong, &field);
@@ -564,6 +614,7 @@ static bool (*const within_text[])(const struct wrong *wrong) = {
     has_mark,
     has_carriage_return,
     is_empty_line,
+    has_pitch_elsewhere,
     ends_early,
     ends_late,
     has_decimal_number,
@@ -573,6 +624,7 @@ static bool (*const within_text[])(const struct wrong *wrong) = {
     has_other_count_of_numbers,
     has_leading_zero,
     has_other_count_of_digits,
+    has_other_pitch,
     has_large_number,
     lacks_line_feed,
     goes_on_behind_the_end,

@@ -4,7 +4,7 @@ struct answer desk_read(const struct text *sheet, struct desk *desk)
 {
     struct answer answer;
     answer.number = wazelpunt_read(sheet->bytes, sheet->length, desk->words, WAZELPUNT_WORDS, desk->corners, WAZELPUNT_CORNERS,
-                                   &answer.place, &desk->word_count, &desk->corner_count);
+                                   &answer.place, &desk->word_count, &desk->corner_count, &desk->pitch);
     return answer;
 }
 
@@ -16,7 +16,7 @@ struct answer desk_survey(const struct text *sheet, struct desk *desk)
     if (answer.number == WAZELPUNT_DONE) {
         answer.number = wazelpunt_survey(desk->words, desk->word_count, desk->corners, desk->corner_count, desk->grid, WAZELPUNT_WORDS,
                                          loops->rings, WAZELPUNT_CORNERS, loops->lengths, WAZELPUNT_TRIANGLES, &answer.place,
-                                         &loops->count, &loops->vertices);
+                                         &loops->count, &loops->vertices, desk->pitch);
     }
     return answer;
 }
@@ -31,7 +31,7 @@ struct answer desk_patch(const struct text *sheet, struct desk *desk)
                                         loops->rings, WAZELPUNT_CORNERS, loops->lengths, WAZELPUNT_TRIANGLES,
                                         loops->states, WAZELPUNT_TRIANGLES, loops->weights, WAZELPUNT_TRIANGLES,
                                         loops->patches, WAZELPUNT_SET_CORNERS, &answer.place, &loops->count, &loops->vertices,
-                                        &loops->laid);
+                                        &loops->laid, desk->pitch);
     }
     return answer;
 }
@@ -54,7 +54,7 @@ struct answer desk_judge(const struct desk *desk, const struct set *set)
     struct answer answer;
     answer.number = wazelpunt_judge(desk->words, desk->word_count, desk->corners, desk->corner_count, set->states, set->state_count,
                                     set->corners, set->corner_count, grid, WAZELPUNT_WORDS, rings, WAZELPUNT_CORNERS, lengths,
-                                    WAZELPUNT_TRIANGLES, &answer.place, &loops, &vertices);
+                                    WAZELPUNT_TRIANGLES, &answer.place, &loops, &vertices, desk->pitch);
     return answer;
 }
 

@@ -10,6 +10,7 @@ struct desk {
     size_t word_count;
     uint16_t corners[WAZELPUNT_CORNERS];
     size_t corner_count;
+    uint32_t pitch;         /* as the text says it */
     int32_t grid[WAZELPUNT_WORDS];
     struct loops loops;
 };

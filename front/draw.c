@@ -64,7 +64,7 @@ static void put_state_entry(const struct drawn *sheet, uint16_t state)
     }
 }
 
-/* What the colours mean, as far as they occur, and what was left out. */
+/* What the colours mean, as far as they occur, the pitch where it is not 1, and what was left out. */
 static void put_legend(const struct drawn *sheet, bool hides, size_t without)
 {
     char text[96];
@@ -82,6 +82,10 @@ static void put_legend(const struct drawn *sheet, bool hides, size_t without)
     }
     if (hides) {
         put_entry("<path class=\"rim hidden\" d=\"M0-4.5h24\"/>", "hidden");
+    }
+    if (sheet->pitch != 1) {
+        snprintf(text, sizeof text, "pitch %u", (unsigned)sheet->pitch);
+        put_entry("", text);
     }
     if (without > 0) {
         snprintf(text, sizeof text, "(%zu %s no room)", without, without == 1 ? "number has" : "numbers have");

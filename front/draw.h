@@ -10,6 +10,7 @@
 struct drawn {
     const char *name;
     size_t points, triangles, loops;
+    uint32_t pitch;            /* of the grid */
     const int32_t *grid;       /* three numbers a point */
     const uint16_t *corners;   /* three a triangle */
     const uint16_t *rings;     /* the vertices of all rings, loop after loop */

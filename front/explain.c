@@ -46,12 +46,16 @@ static void show_line(struct subject *subject, const struct text *text, struct l
 
 /* ---- 10, a wrong line ---- */
 
-static void add_due(struct phrase *phrase, const struct text *text, const struct due *due)
+static void add_due(struct phrase *phrase, const struct text *text, size_t number, const struct due *due)
 {
     const struct words *words = words_of(text->kind);
     switch (due->part) {
+    case PITCH:
     case FIRST_COUNT:
         phrase_add(phrase, "%s and a count up to 1,024", words->count_key);
+        if (text->kind == SHEET && number == 1) {
+            phrase_add(phrase, ", or before that %s and 2, 5 or 10", pitch_key);
+        }
         break;
     case FIRST:
         phrase_add(phrase, "%s %zu of %zu: %s and %s", words->one, due->index, due->count, words->key,
@@ -81,7 +85,7 @@ static void explain_line(struct subject *subject)
     subject->told->fault = in_set ? FAULT_OF_SET : FAULT_OF_SHEET;
     phrase_add(&subject->said, in_set ? "line %zu of the set is wrong" : "line %zu is wrong", number);
     show_line(subject, text, line);
-    add_due(&due_said, text, &due);
+    add_due(&due_said, text, number, &due);
     cause_add(text, &line, &due, &cause);
 }
 
@@ -131,13 +135,35 @@ static float float_of(uint32_t word)
     return value;
 }
 
-void value_add(struct phrase *phrase, float value)
+/* The multiple of a pitch to which a size goes, a tie to the even multiple. What is too far at some pitch is a whole number of 512ths,
+   since it is more than 16,384; and it is below 2^22 here. */
+static uint64_t multiple_near(float size, uint32_t pitch)
 {
-    if (isfinite(value)) {
-        phrase_add(phrase, "%.9g: the grid goes from -32,767 to 32,767", (double)value);
-    } else {
-        phrase_add(phrase, "no finite number (%s)", isinf(value) ? "infinite" : "not a number");
+    uint64_t parts = (uint64_t)(size * 512);
+    uint64_t step = (uint64_t)512 * pitch;
+    uint64_t times = parts / step;
+    uint64_t left = parts % step;
+    if (2 * left > step || (2 * left == step && times % 2 == 1)) {
+        times++;
     }
+    return times * pitch;
+}
+
+/* At pitch 1 it is seen where a value goes, and of one that lies far out it does not matter. */
+void value_add(struct phrase *phrase, float value, uint32_t pitch)
+{
+    if (!isfinite(value)) {
+        phrase_add(phrase, "no finite number (%s)", isinf(value) ? "infinite" : "not a number");
+        return;
+    }
+    float size = value < 0 ? -value : value;
+    phrase_add(phrase, "%.9g", (double)value);
+    if (pitch != 1 && size < 4194304) {
+        phrase_add(phrase, ", which goes to %s", value < 0 ? "-" : "");
+        phrase_add_number(phrase, multiple_near(size, pitch));
+        phrase_add(phrase, " at pitch %u", (unsigned)pitch);
+    }
+    phrase_add(phrase, ": the grid goes from -32,767 to 32,767");
 }
 
 static void explain_coordinate(struct subject *subject)
@@ -145,7 +171,7 @@ static void explain_coordinate(struct subject *subject)
     size_t word = subject->answer.place;
     desk_read(subject->sheet, &desk);
     phrase_add(&subject->said, "the %c of point %zu is ", "xyz"[word % 3], word / 3);
-    value_add(&subject->said, float_of(desk.words[word]));
+    value_add(&subject->said, float_of(desk.words[word]), desk.pitch);
     show_line(subject, subject->sheet, line_of_first(subject->sheet, word / 3));
 }
 

@@ -34,8 +34,8 @@ struct explanation {
     char cause[320];        /* "" where none is seen */
 };
 
-/* Adds what is wrong with a coordinate of this value: it is not finite, or too far. */
-void value_add(struct phrase *phrase, float value);
+/* Adds what is wrong with a coordinate of this value at a pitch: it is not finite, or the multiple to which it goes is too far. */
+void value_add(struct phrase *phrase, float value, uint32_t pitch);
 
 /* Explains the answer on a sheet, or, where `set` is not NULL, on a set for it. */
 void explain(const struct text *sheet, const struct text *set, struct answer answer, struct explanation *told);

@@ -145,7 +145,7 @@ static void explain_coordinate(struct subject *subject)
     size_t byte = byte_of(facet) + 12 * (1 + corner) + 4 * axis;
     read_facet(subject, facet, floats);
     phrase_add(&subject->said, "the %c of corner %zu of facet %zu, bytes %zu to %zu, is ", "xyz"[axis], corner, facet, byte, byte + 3);
-    value_add(&subject->said, floats[3 * corner + axis]);
+    value_add(&subject->said, floats[3 * corner + axis], desk.pitch);
     show_facet(subject, facet);
 }
 

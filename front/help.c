@@ -44,6 +44,10 @@
 #define SHEETS \
     "SHEET" NAMES EITHER
 
+#define PITCH \
+    "      --pitch N  the pitch of STL files, in plate units: 1, 2, 5 or 10; without\n" \
+    "                 it 1. A text says its own, and is not taken together with this\n"
+
 #define HEADINGS \
     "With several sheets each output comes after a line `# NAME`.\n"
 
@@ -51,21 +55,25 @@ static const char all[] =
     "wazelpunt: find the gaps in a triangle surface and close them\n"
     "\n"
     "  wazelpunt list [SHEET...]             the loops of sheets and their patches\n"
-    "      [--quiet] [--json [--patches]] [--closed]\n"
+    "      [--quiet] [--json [--patches]] [--closed] [--pitch N]\n"
     "  wazelpunt check SHEET [PATCHES]       judge a patch set for a sheet\n"
     "  wazelpunt check --beside SHEET...     judge the set beside each sheet\n"
-    "      [--quiet] [--json] [--closed]\n"
+    "      [--quiet] [--json] [--closed] [--pitch N]\n"
     "  wazelpunt rewrite [SHEET...]          read sheets and write them again\n"
-    "      [--quiet]\n"
+    "      [--quiet] [--pitch N]\n"
     "  wazelpunt import [FILE...]            binary STL files as texts of sheets\n"
-    "      [--quiet]\n"
+    "      [--quiet] [--pitch N]\n"
     "  wazelpunt draw [SHEET...]             a picture (SVG) of sheets and patches\n"
-    "      [--quiet] [--plan]\n"
+    "      [--quiet] [--plan] [--pitch N]\n"
     "  wazelpunt example [patches]           a sample sheet, or its patch set\n"
     "  wazelpunt help [COMMAND]              this, or more on a command\n"
     "  wazelpunt --version                   the version\n"
     "\n"
     EITHER
+    "\n"
+    "Coordinates go to multiples of the pitch, which is 1, 2, 5 or 10 plate units of\n"
+    "0.1 mm. A text says its pitch; for an STL file --pitch does, and without it the\n"
+    "pitch is 1.\n"
     "\n"
     "The short forms of --help, --quiet and --version are -h, -q and -V. Results go\n"
     "to standard output, and what is said of them to standard error.\n"
@@ -82,7 +90,7 @@ static const char all[] =
     STATUS_ORDER_CLOSED;
 
 static const char list[] =
-    "wazelpunt list [--quiet] [--json [--patches]] [--closed] [SHEET...]\n"
+    "wazelpunt list [--quiet] [--json [--patches]] [--closed] [--pitch N] [SHEET...]\n"
     "\n"
     "Lists the loops of open edges of sheets, and the triangles that close them.\n"
     SHEETS
@@ -92,6 +100,7 @@ static const char list[] =
     "      --json     an object a line for each sheet, instead of its listing\n"
     "      --patches  with --json: each loop also has the triangles that close it\n"
     "      --closed   end with status 3 if a loop that is no rim stays open\n"
+    PITCH
     "\n"
     "A listing:\n"
     "  answer=0,0     the answer's number and place: 0,0 is done\n"
@@ -104,6 +113,7 @@ static const char list[] =
     "\n"
     "Examples:\n"
     "  wazelpunt list plate.sheet\n"
+    "  wazelpunt list --pitch 5 part.stl\n"
     "  wazelpunt list --quiet --closed *.sheet >listings && echo all holes are closed\n"
     "\n"
     STATUSES
@@ -111,8 +121,8 @@ static const char list[] =
     STATUS_ORDER_CLOSED;
 
 static const char check[] =
-    "wazelpunt check [--quiet] [--json] [--closed] SHEET [PATCHES]\n"
-    "wazelpunt check [--quiet] [--json] [--closed] --beside SHEET...\n"
+    "wazelpunt check [--quiet] [--json] [--closed] [--pitch N] SHEET [PATCHES]\n"
+    "wazelpunt check [--quiet] [--json] [--closed] [--pitch N] --beside SHEET...\n"
     "\n"
     "Judges a patch set for a sheet, and prints the answer's number and place:\n"
     "answer=0,0 if the set passes.\n"
@@ -127,6 +137,7 @@ static const char check[] =
     "                 is no rim\n"
     "      --beside   any number of sheets, each with the set beside it; with several\n"
     "                 each answer comes after a line `# NAME`\n"
+    PITCH
     "\n"
     "A patch set:\n"
     "  states=2       as many states as the sheet has loops\n"
@@ -146,7 +157,7 @@ static const char check[] =
     STATUS_ORDER_CLOSED;
 
 static const char rewrite[] =
-    "wazelpunt rewrite [--quiet] [SHEET...]\n"
+    "wazelpunt rewrite [--quiet] [--pitch N] [SHEET...]\n"
     "\n"
     "Reads sheets and writes their texts again. A text that is accepted comes out as\n"
     "it was, byte for byte; of a binary STL file the text of its sheet is printed,\n"
@@ -156,9 +167,12 @@ static const char rewrite[] =
     "\n"
     "  -q, --quiet    say nothing of a binary STL file that is written as a sheet; of\n"
     "                 other sheets nothing is said anyway\n"
+    PITCH
     "\n"
     "A sheet has up to 1,024 points and 1,024 triangles, each line ended by a line\n"
     "feed and without blanks:\n"
+    "  pitch=5        the pitch of its grid, 2, 5 or 10; at pitch 1 there is no such\n"
+    "                 line, and points= comes first\n"
     "  points=3       how many points there are\n"
     "  p=00000000,00000000,00000000\n"
     "  p=3f800000,00000000,00000000\n"
@@ -175,7 +189,7 @@ static const char rewrite[] =
     STATUS_ORDER;
 
 static const char import[] =
-    "wazelpunt import [--quiet] [FILE...]\n"
+    "wazelpunt import [--quiet] [--pitch N] [FILE...]\n"
     "\n"
     "Reads binary STL files and prints the texts of their sheets. Each is taken for\n"
     "binary STL whatever it looks like; where it is none, the answer is printed.\n"
@@ -183,6 +197,8 @@ static const char import[] =
     "With several files each output comes after a line `# NAME`.\n"
     "\n"
     "  -q, --quiet    say nothing of a file that is read\n"
+    "      --pitch N  the pitch of the sheets, in plate units: 1, 2, 5 or 10; without\n"
+    "                 it 1, of which a text has no line\n"
     "\n"
     "Such a file has up to 1,024 facets, and its length has to fit:\n"
     "  80 bytes       of any kind; they are not looked at\n"
@@ -205,14 +221,15 @@ static const char import[] =
     "a file of several solids. admesh wants one, with solid on its first line and\n"
     "line feeds; of another file it writes nothing, and may not come to an end.\n"
     "\n"
-    "Example:\n"
+    "Examples:\n"
     "  wazelpunt import part.stl >part.sheet\n"
+    "  wazelpunt import --pitch 5 part.stl >schoolroom.sheet\n"
     "\n"
     STATUSES
     STATUS_ORDER;
 
 static const char draw[] =
-    "wazelpunt draw [--quiet] [--plan] [SHEET...]\n"
+    "wazelpunt draw [--quiet] [--plan] [--pitch N] [SHEET...]\n"
     "\n"
     "Draws sheets with their loops and patches: one picture, in SVG, on standard\n"
     "output.\n"
@@ -222,6 +239,7 @@ static const char draw[] =
     "\n"
     "  -q, --quiet    say nothing of a sheet that is drawn\n"
     "      --plan     seen straight from above\n"
+    PITCH
     "\n"
     STATES
     "\n"

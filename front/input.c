@@ -14,6 +14,7 @@
 
 const char input_closed[] = "standard input is closed";
 const char input_unknown[] = "the library printed what is not known here";
+const char input_pitched[] = "--pitch is for STL files, and this is the text of a sheet, which says its own pitch; leave --pitch out";
 
 /* The longest file of facets is longer than the longest text of a sheet, and either may be given. */
 static uint8_t sheet_room[WAZELPUNT_STL_BYTES + 1];
@@ -69,7 +70,7 @@ static bool count_on(int descriptor, struct text *text, bool *longer)
     return count >= 0;
 }
 
-static const char *read_descriptor(int descriptor, struct text *text)
+static const char *read_descriptor(int descriptor, uint32_t pitch, struct text *text)
 {
     static const char *const directory[] = {
         [SHEET] = "is a directory, not a sheet",
@@ -91,7 +92,13 @@ static const char *read_descriptor(int descriptor, struct text *text)
     if (text->cut && text->size == 0 && text->kind != SET && stl_may_fit(text) && !count_on(descriptor, text, &longer)) {
         return strerror(errno);
     }
-    return text->kind == SET || stl_take(text, longer) ? NULL : input_unknown;
+    if (text->kind == SET) {
+        return NULL;
+    }
+    if (!stl_take(text, longer, pitch == 0 ? 1 : pitch)) {
+        return input_unknown;
+    }
+    return pitch != 0 && text->stl == NULL && begins_as_sheet(text) ? input_pitched : NULL;
 }
 
 /* Opening waits where the file is a fifo, so a signal can break it off. */
@@ -104,17 +111,17 @@ static int open_file(const char *name)
     return descriptor;
 }
 
-const char *input_read(enum kind kind, const char *name, struct text *text)
+const char *input_read(enum kind kind, const char *name, uint32_t pitch, struct text *text)
 {
     *text = (struct text){.kind = kind, .name = name, .bytes = kind == SET ? set_room : sheet_room};
     if (strcmp(name, "-") == 0) {
-        return was_closed(STDIN_FILENO) ? input_closed : read_descriptor(STDIN_FILENO, text);
+        return was_closed(STDIN_FILENO) ? input_closed : read_descriptor(STDIN_FILENO, pitch, text);
     }
     int descriptor = open_file(name);
     if (descriptor < 0) {
         return strerror(errno);
     }
-    const char *error = read_descriptor(descriptor, text);
+    const char *error = read_descriptor(descriptor, pitch, text);
     close(descriptor);
     return error;
 }

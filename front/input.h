@@ -26,7 +26,8 @@ struct text {
    or its name says so. */
 enum why { ASKED_FOR, WELL_SIZED, HAS_NUL, NAMED_SO };
 
-/* A binary STL file. The text that was made of it is what importing prints: the sheet's text, or the answer's line. */
+/* A binary STL file. The text that was made of it is what importing prints: the sheet's text, at the pitch that was asked for, or the
+   answer's line. */
 struct stl {
     struct text file;
     bool longer;            /* its size is not known: it is longer than its count says, and was not counted to its end */
@@ -34,11 +35,15 @@ struct stl {
     uint32_t refusal;       /* the number of the answer, whose place is 0; 0 where it is not refused */
 };
 
-/* Reads what is asked for. The bytes stand in static rooms, one set of them for sheets and one for sets. Gives NULL, or what went wrong. */
-const char *input_read(enum kind kind, const char *name, struct text *text);
+/* Reads what is asked for. The bytes stand in static rooms, one set of them for sheets and one for sets. A binary STL file is read at the
+   pitch, or at pitch 1 where that is 0; what begins as the text of a sheet says its own, and is not read where a pitch is given. Gives
+   NULL, or what went wrong. */
+const char *input_read(enum kind kind, const char *name, uint32_t pitch, struct text *text);
 
-/* What input_read gives where standard input was closed at the start, and where the library printed what it does not promise. */
+/* What input_read gives where standard input was closed at the start, where the library printed what it does not promise, and where a pitch
+   is given with a text. */
 extern const char input_closed[];
 extern const char input_unknown[];
+extern const char input_pitched[];
 
 #endif

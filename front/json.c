@@ -120,7 +120,7 @@ void json_listed(const struct text *sheet, const struct loops *loops, bool patch
     const uint16_t *ring = loops->rings;
     const uint16_t *laid = loops->patches;
     begin(sheet, NULL, (struct answer){WAZELPUNT_DONE, 0});
-    output(",\"points\":%zu,\"triangles\":%zu", count_first(sheet), count_triangles(sheet));
+    output(",\"points\":%zu,\"triangles\":%zu,\"pitch\":%zu", count_first(sheet), count_triangles(sheet), pitch_of(sheet));
     put_left_open(loops);
     output(",\"loops\":[");
     for (size_t loop = 0; loop < loops->count; loop++) {

@@ -65,30 +65,55 @@ size_t line_number(const struct line *line, size_t index)
     return number;
 }
 
-size_t count_first(const struct text *text)
+const char pitch_key[] = "pitch=";
+
+size_t pitch_of(const struct text *text)
 {
     struct line line = line_of(text, 1);
+    return text->kind == SHEET && line_begins(&line, pitch_key) ? line_number(&line, 0) : 1;
+}
+
+/* How many lines come before the first count: one where the pitch is told. */
+static size_t lines_of_pitch(const struct text *text)
+{
+    return pitch_of(text) == 1 ? 0 : 1;
+}
+
+size_t count_first(const struct text *text)
+{
+    struct line line = line_of(text, lines_of_pitch(text) + 1);
     return line_number(&line, 0);
 }
 
 size_t count_triangles(const struct text *text)
 {
-    struct line line = line_of(text, count_first(text) + 2);
+    struct line line = line_of(text, lines_of_pitch(text) + count_first(text) + 2);
     return line_number(&line, 0);
 }
 
 struct line line_of_first(const struct text *text, size_t index)
 {
-    return line_of(text, index + 2);
+    return line_of(text, lines_of_pitch(text) + index + 2);
 }
 
 struct line line_of_triangle(const struct text *text, size_t index)
 {
-    return line_of(text, count_first(text) + 3 + index);
+    return line_of(text, lines_of_pitch(text) + count_first(text) + 3 + index);
+}
+
+/* No other line of a sheet begins with these two letters, so one that breaks off behind them is the pitch too. */
+static bool is_meant_for_pitch(const struct text *text)
+{
+    struct line line = line_of(text, 1);
+    return text->kind == SHEET && line_begins(&line, "pi");
 }
 
 struct due due_at(const struct text *text, size_t number)
 {
+    if (number == 1) {
+        return (struct due){.part = is_meant_for_pitch(text) ? PITCH : FIRST_COUNT};
+    }
+    number -= lines_of_pitch(text);
     if (number == 1) {
         return (struct due){.part = FIRST_COUNT};
     }

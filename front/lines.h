@@ -28,10 +28,18 @@ bool line_begins(const struct line *line, const char *word);
 /* The decimal number `index` behind the equals sign of a right line, counted from 0. */
 size_t line_number(const struct line *line, size_t index);
 
-/* The parts of a text: a count, that many lines (points or states), another count, that many triangles, and the end. */
-enum part { FIRST_COUNT, FIRST, SECOND_COUNT, SECOND, END };
+/* How the line begins that may come before all others of a sheet. */
+extern const char pitch_key[];
 
-/* What is due at a line, given that all lines before it are right. */
+/* The pitch of a sheet whose first line is right: what that says, or 1 where it says none. A set has none, and gives 1. */
+size_t pitch_of(const struct text *text);
+
+/* The parts of a text: of a sheet the pitch, where it is not 1; a count, that many lines (points or states), another count, that many
+   triangles, and the end. */
+enum part { PITCH, FIRST_COUNT, FIRST, SECOND_COUNT, SECOND, END };
+
+/* What is due at a line, given that all lines before it are right. A sheet begins with its pitch or with a count: by how its first line
+   begins it is told which was meant. */
 struct due {
     enum part part;
     size_t index;           /* of the point, state or triangle, from 0 */

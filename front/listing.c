@@ -51,7 +51,7 @@ static bool take_points(struct reading *reading, uint16_t *points, size_t count)
 static bool take_answer(struct reading *reading, struct answer *answer)
 {
     uint64_t number, place;
-    if (!take_word(reading, "answer=") || !take_number(reading, WAZELPUNT_MISFIT, &number) || !take_word(reading, ",") ||
+    if (!take_word(reading, "answer=") || !take_number(reading, WAZELPUNT_NO_PITCH, &number) || !take_word(reading, ",") ||
         !take_number(reading, SIZE_MAX, &place) || !take_word(reading, "\n")) {
         return false;
     }

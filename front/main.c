@@ -21,11 +21,12 @@
 
 /* ---- A call ---- */
 
-enum options { QUIET = 1, JSON = 2, PATCHES = 4, CLOSED = 8, BESIDE = 16, PLAN = 32, HELP = 64, VERSION = 128 };
+enum options { QUIET = 1, JSON = 2, PATCHES = 4, CLOSED = 8, BESIDE = 16, PLAN = 32, HELP = 64, VERSION = 128, AT_PITCH = 256 };
 
 struct call {
     const struct command *command;
     unsigned options;
+    uint32_t pitch;         /* that of --pitch; 0 where that is not given */
     char **names;
     size_t count;
 };
@@ -141,7 +142,8 @@ static enum status tell_refused(const struct call *call, const struct text *of_s
     return tell_answer(call, of_set, refusal());
 }
 
-/* What a sheet was made of, where that is a binary STL file: `: binary STL, 12 facets, 8 points`. */
+/* What a sheet was made of, where that is a binary STL file, and its pitch, where that is not 1: `: binary STL, 12 facets, 8 points`,
+   `: pitch 5`. */
 static const char *made_of(void)
 {
     static char made[80];
@@ -150,6 +152,9 @@ static const char *made_of(void)
     if (sheet.stl != NULL) {
         phrase_add_many(&phrase, ": binary STL, ", count_triangles(&sheet), "facet");
         phrase_add_many(&phrase, ", ", count_first(&sheet), "point");
+    }
+    if (pitch_of(&sheet) != 1) {
+        phrase_add(&phrase, "%s pitch %zu", sheet.stl != NULL ? "," : ":", pitch_of(&sheet));
     }
     return made;
 }
@@ -177,7 +182,7 @@ static enum status list_sheet(const struct call *call, const char *name)
 {
     struct answer answer;
     size_t place;
-    const char *error = input_read(SHEET, name, &sheet);
+    const char *error = input_read(SHEET, name, call->pitch, &sheet);
     if (error != NULL) {
         return tell_unread(call, name, NULL, error);
     }
@@ -210,7 +215,7 @@ static enum status tell_made(const struct call *call)
 
 static enum status import_file(const struct call *call, const char *name)
 {
-    const char *error = input_read(FACETS, name, &sheet);
+    const char *error = input_read(FACETS, name, call->pitch, &sheet);
     if (error != NULL) {
         return tell_unread(call, name, NULL, error);
     }
@@ -226,7 +231,7 @@ static enum status rewrite_sheet(const struct call *call, const char *name)
 {
     struct answer answer;
     size_t place;
-    const char *error = input_read(SHEET, name, &sheet);
+    const char *error = input_read(SHEET, name, call->pitch, &sheet);
     if (error != NULL) {
         return tell_unread(call, name, NULL, error);
     }
@@ -285,11 +290,11 @@ static enum status check_sheet(const struct call *call, const char *name, const 
 {
     struct answer answer;
     size_t place;
-    const char *error = input_read(SHEET, name, &sheet);
+    const char *error = input_read(SHEET, name, call->pitch, &sheet);
     if (error != NULL) {
         return tell_unread(call, name, NULL, error);
     }
-    error = input_read(SET, set_name, &set);
+    error = input_read(SET, set_name, 0, &set);
     if (error != NULL) {
         return tell_unread(call, name, set_name, error);
     }
@@ -329,6 +334,7 @@ static void draw_desk(const char *name)
         .points = desk.word_count / 3,
         .triangles = desk.corner_count / 3,
         .loops = loops->count,
+        .pitch = desk.pitch,
         .grid = desk.grid,
         .corners = desk.corners,
         .rings = loops->rings,
@@ -345,7 +351,7 @@ static enum status draw_one(const struct call *call, const char *name)
 {
     bool alone = call->count == 1;
     const char *title = strcmp(name, "-") == 0 ? "standard input" : name;
-    const char *error = input_read(SHEET, name, &sheet);
+    const char *error = input_read(SHEET, name, call->pitch, &sheet);
     if (error != NULL) {
         if (!alone) {
             draw_unread(title);
@@ -484,11 +490,11 @@ static enum status help(const struct call *call)
 }
 
 static const struct command commands[] = {
-    {"list", QUIET | JSON | PATCHES | CLOSED, list},
-    {"check", QUIET | JSON | CLOSED | BESIDE, check},
-    {"rewrite", QUIET, rewrite},
-    {"import", QUIET, import},
-    {"draw", QUIET | PLAN, draw},
+    {"list", QUIET | JSON | PATCHES | CLOSED | AT_PITCH, list},
+    {"check", QUIET | JSON | CLOSED | BESIDE | AT_PITCH, check},
+    {"rewrite", QUIET | AT_PITCH, rewrite},
+    {"import", QUIET | AT_PITCH, import},
+    {"draw", QUIET | PLAN | AT_PITCH, draw},
     {"example", 0, example},
     {"help", 0, help},
 };
@@ -504,6 +510,7 @@ struct option {
 static const struct option known[] = {
     {"--quiet", "-q", QUIET}, {"--json", "", JSON},    {"--patches", "", PATCHES}, {"--closed", "", CLOSED},
     {"--beside", "", BESIDE}, {"--plan", "", PLAN},    {"--help", "-h", HELP},     {"--version", "-V", VERSION},
+    {"--pitch", "", AT_PITCH},
 };
 
 static const struct option *find_option(const char *word)
@@ -516,6 +523,43 @@ static const struct option *find_option(const char *word)
     return NULL;
 }
 
+/* The one option that has a value: the word behind it, or what stands behind its equals sign. */
+static const char pitch_option[] = "--pitch";
+
+static bool is_pitch_option(const char *word)
+{
+    size_t length = sizeof pitch_option - 1;
+    return strncmp(word, pitch_option, length) == 0 && (word[length] == 0 || word[length] == '=');
+}
+
+/* Takes the value of --pitch; NULL where there is none. False if it is no pitch, or if another one was given before. */
+static bool take_pitch(struct call *call, const char *value)
+{
+    static const struct {
+        const char *said;
+        uint32_t pitch;
+    } pitches[] = {{"1", 1}, {"2", 2}, {"5", 5}, {"10", 10}};
+    uint32_t pitch = 0;
+    if (value == NULL) {
+        say("--pitch has no value: pitches are 1, 2, 5 and 10; see wazelpunt --help");
+        return false;
+    }
+    for (size_t p = 0; p < sizeof pitches / sizeof pitches[0]; p++) {
+        pitch = strcmp(value, pitches[p].said) == 0 ? pitches[p].pitch : pitch;
+    }
+    if (pitch == 0) {
+        say("--pitch %s: pitches are 1, 2, 5 and 10; see wazelpunt --help", shown_name(value));
+        return false;
+    }
+    if (call->pitch != 0 && call->pitch != pitch) {
+        say("--pitch is given twice, as %u and as %u; see wazelpunt --help", (unsigned)call->pitch, (unsigned)pitch);
+        return false;
+    }
+    call->options |= AT_PITCH;
+    call->pitch = pitch;
+    return true;
+}
+
 /* Takes the options out of the words, so that names are left, the command's first; false if there is an unknown one. */
 static bool take_words(struct call *call, int count, char **words)
 {
@@ -526,6 +570,12 @@ static bool take_words(struct call *call, int count, char **words)
             call->names[call->count++] = word;
         } else if (strcmp(word, "--") == 0) {
             only_names = true;
+        } else if (is_pitch_option(word)) {
+            const char *within = strchr(word, '=');
+            w += within == NULL;
+            if (!take_pitch(call, within != NULL ? within + 1 : w < count ? words[w] : NULL)) {
+                return false;
+            }
         } else {
             const struct option *option = find_option(word);
             if (option == NULL) {

@@ -5,6 +5,7 @@
 #include <string.h>
 #include <strings.h>
 
+#include "lines.h"
 #include "listing.h"
 #include "output.h"
 
@@ -76,11 +77,17 @@ bool stl_is_ascii(const struct text *given)
            !has_nul(given);
 }
 
+/* Whether a text begins with a key, behind a byte order mark. */
+static bool begins_with_key(const struct text *given, const char *key)
+{
+    size_t at = text_start(given);
+    size_t length = strlen(key);
+    return given->length - at >= length && memcmp(given->bytes + at, key, length) == 0;
+}
+
 bool begins_as_sheet(const struct text *given)
 {
-    static const char key[] = "points=";
-    size_t at = text_start(given);
-    return given->length - at >= sizeof key - 1 && memcmp(given->bytes + at, key, sizeof key - 1) == 0;
+    return begins_with_key(given, "points=") || begins_with_key(given, pitch_key);
 }
 
 const char stl_ending[] = ".stl";
@@ -114,14 +121,36 @@ static enum why why_of(const struct text *given)
 
 /* ---- The text of its sheet ---- */
 
+/* Writes the answer's line, as importing prints it, where there is no text. */
+static void put_answer(struct text *sheet, uint32_t number)
+{
+    struct phrase line = {(char *)sheet->bytes, WAZELPUNT_SHEET_BYTES, 0};
+    phrase_add(&line, "answer=%u,0\n", (unsigned)number);
+    sheet->length = line.length;
+}
+
 /* What is longer than all that is read is refused by its size alone. */
 static bool refuse_by_size(struct text *sheet, struct stl *stl)
 {
-    struct phrase line = {(char *)sheet->bytes, WAZELPUNT_SHEET_BYTES, 0};
     stl->refusal = wazelpunt_size_stl(stl->file.size, stl_count(stl->file.bytes));
-    phrase_add(&line, "answer=%u,0\n", (unsigned)stl->refusal);
-    sheet->length = line.length;
+    put_answer(sheet, stl->refusal);
     return stl->refusal != WAZELPUNT_DONE;
+}
+
+/* What importing prints, but with the line of the pitch before the text. */
+static bool import_at(struct text *sheet, struct stl *stl, uint32_t pitch)
+{
+    static uint32_t words[WAZELPUNT_WORDS];
+    static uint16_t corners[WAZELPUNT_CORNERS];
+    size_t place, word_count, corner_count;
+    stl->refusal = wazelpunt_read_stl(stl->file.bytes, stl->file.length, words, WAZELPUNT_WORDS, corners, WAZELPUNT_CORNERS, &place,
+                                      &word_count, &corner_count);
+    if (stl->refusal != WAZELPUNT_DONE) {
+        put_answer(sheet, stl->refusal);
+        return true;
+    }
+    return wazelpunt_write(words, word_count, corners, corner_count, sheet->bytes, WAZELPUNT_SHEET_BYTES, &place, &sheet->length, pitch) ==
+           WAZELPUNT_DONE;
 }
 
 static bool import(struct text *sheet, struct stl *stl)
@@ -136,7 +165,7 @@ static bool import(struct text *sheet, struct stl *stl)
     return true;
 }
 
-bool stl_take(struct text *given, bool longer)
+bool stl_take(struct text *given, bool longer, uint32_t pitch)
 {
     static uint8_t made[WAZELPUNT_SHEET_BYTES];
     static struct stl stl;
@@ -145,7 +174,7 @@ bool stl_take(struct text *given, bool longer)
     }
     stl = (struct stl){.file = *given, .longer = longer, .why = why_of(given)};
     *given = (struct text){.kind = SHEET, .name = given->name, .bytes = made, .stl = &stl};
-    bool done = stl.file.cut ? refuse_by_size(given, &stl) : import(given, &stl);
+    bool done = stl.file.cut ? refuse_by_size(given, &stl) : pitch == 1 ? import(given, &stl) : import_at(given, &stl, pitch);
     given->size = given->length;
     return done;
 }

@@ -38,8 +38,8 @@ bool stl_may_fit(const struct text *given);
 /* What an answer means, in a few words, of the file that a sheet was made of, or of the sheet itself where there is none. */
 const char *stl_sentence(const struct stl *stl, uint32_t number);
 
-/* Where something is a binary STL file, makes it the text of its sheet, with the file beside it; else leaves it as it is, a text. With
-   `longer` it goes on behind its size. False if the library prints what it does not promise. */
-bool stl_take(struct text *given, bool longer);
+/* Where something is a binary STL file, makes it the text of its sheet at a pitch, with the file beside it; else leaves it as it is, a
+   text. With `longer` it goes on behind its size. False if the library prints what it does not promise. */
+bool stl_take(struct text *given, bool longer, uint32_t pitch);
 
 #endif

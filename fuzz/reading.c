@@ -1,7 +1,8 @@
 /* Fuzzing of the reading of texts and of files of facets. An input is one byte and what is read. The byte chooses whether that is read as a
    sheet, as a set or as facets, and how much is lent; the archive and the plain reference then read it, and their answers and every byte
-   lent, with what lies before and behind it, have to be the same. A sheet that is accepted is written again and has to be the text that was
-   read. Facets are imported besides, and handed out one by one. Any difference aborts.
+   lent, with what lies before and behind it, have to be the same. A sheet that is accepted is written again, at the pitch that was read,
+   and has to be the text that was read; or at another number, which may be no pitch. Facets are imported besides, and handed out one by
+   one. Any difference aborts.
    Made for libFuzzer; with ALONE defined it is a program instead, which takes the inputs from the files given, to try a finding again. */
 #define _GNU_SOURCE
 #include <stdint.h>
@@ -30,9 +31,9 @@ struct page {
     uint8_t text[REFERENCE_LONGEST_TEXT + 2 * GUARD];
 };
 
-/* A number, its place, and up to two counts. */
+/* A number, its place, up to two counts, and of a sheet that was read its pitch. */
 struct answer {
-    size_t number, place, counts[2];
+    size_t number, place, counts[2], pitch;
 };
 
 /* What is lent to the reader of facets. */
@@ -52,18 +53,18 @@ struct choice {
 static struct lent before, ours, theirs;
 static struct page page_before, our_page, their_page;
 static struct record record_before, our_record, their_record;
-static size_t sheets, sheets_accepted, sets, sets_accepted, files, files_accepted;
+static size_t sheets, sheets_accepted, coarse_accepted, sets, sets_accepted, files, files_accepted;
 
 /* ---- Telling ---- */
 
 static void tell(void) {
-    fprintf(stderr, "read: %zu sheets, %zu accepted; %zu sets, %zu accepted; %zu files of facets, %zu accepted\n", sheets, sheets_accepted,
-            sets, sets_accepted, files, files_accepted);
+    fprintf(stderr, "read: %zu sheets, %zu accepted, %zu of them with a pitch; %zu sets, %zu accepted; %zu files of facets, %zu accepted\n",
+            sheets, sheets_accepted, coarse_accepted, sets, sets_accepted, files, files_accepted);
 }
 
 static void differ(const char *what, const struct answer *said, const struct answer *due) {
-    fprintf(stderr, "%s: answered %zu, %zu, %zu, %zu; due %zu, %zu, %zu, %zu\n", what, said->number, said->place, said->counts[0],
-            said->counts[1], due->number, due->place, due->counts[0], due->counts[1]);
+    fprintf(stderr, "%s: answered %zu, %zu, %zu, %zu, pitch %zu; due %zu, %zu, %zu, %zu, pitch %zu\n", what, said->number, said->place,
+            said->counts[0], said->counts[1], said->pitch, due->number, due->place, due->counts[0], due->counts[1], due->pitch);
     abort();
 }
 
@@ -121,24 +122,25 @@ static struct answer read_sheet(const uint8_t *text, size_t length, size_t words
     struct reference_read_answer r;
     theirs = before;
     reference_read(text, length, theirs.words + GUARD, words, theirs.corners + GUARD, corners, &r);
-    return (struct answer){r.number, r.place, {r.words, r.corners}};
+    return (struct answer){r.number, r.place, {r.words, r.corners}, r.pitch};
 }
 
-/* Writes what was read, into as much as the text has, one byte less, or as much as can be. */
+/* Writes what was read, into as much as the text has, one byte less, or as much as can be; or, there, at another number for the pitch. */
 static void write_again(const uint8_t *text, size_t length, unsigned choice, const struct answer *read) {
     const uint32_t *words = ours.words + GUARD;
     const uint16_t *corners = ours.corners + GUARD;
-    size_t room = choice == 1 ? length - 1 : choice == 2 ? REFERENCE_LONGEST_TEXT : length;
+    size_t room = choice == 1 ? length - 1 : choice >= 2 ? REFERENCE_LONGEST_TEXT : length;
+    uint32_t pitch = choice == 3 ? (uint32_t)length % 12 : (uint32_t)read->pitch;
     struct answer said = {0};
     struct reference_write_answer r;
     our_page = their_page = page_before;
     said.number = wazelpunt_write(words, read->counts[0], corners, read->counts[1], our_page.text + GUARD, room, &said.place,
-                                  &said.counts[0]);
-    reference_write(words, read->counts[0], corners, read->counts[1], their_page.text + GUARD, room, &r);
-    const struct answer due = {r.number, r.place, {r.bytes, 0}};
+                                  &said.counts[0], pitch);
+    reference_write(words, read->counts[0], corners, read->counts[1], their_page.text + GUARD, room, pitch, &r);
+    const struct answer due = {r.number, r.place, {r.bytes, 0}, 0};
     compare_answers("writing", &said, &due);
     if (memcmp(&our_page, &their_page, sizeof our_page) != 0) differ("writing", &said, &due);
-    if (choice == 1) return;
+    if (choice == 1 || pitch != read->pitch) return;
     if (said.number != 0 || said.counts[0] != length || memcmp(our_page.text + GUARD, text, length) != 0)
         differ("the text written again", &said, &due);
 }
@@ -149,12 +151,15 @@ static void try_sheet(const uint8_t *text, size_t length, const struct choice *c
     size_t corners = lend(choice->second, needed.counts[1], REFERENCE_MOST_CORNERS);
     struct answer due = read_sheet(text, length, words, corners);
     ours = before;
+    uint32_t pitch = 77;
     said.number = wazelpunt_read(text, length, ours.words + GUARD, words, ours.corners + GUARD, corners, &said.place,
-                                 &said.counts[0], &said.counts[1]);
+                                 &said.counts[0], &said.counts[1], &pitch);
+    said.pitch = pitch;
     compare_lent("a sheet", &said, &due);
     sheets++;
     if (said.number != 0) return;
     sheets_accepted++;
+    coarse_accepted += said.pitch != 1;
     write_again(text, length, choice->rest, &said);
 }
 
@@ -164,11 +169,11 @@ static struct answer read_set(const uint8_t *text, size_t length, uint16_t lines
     struct reference_set_answer r;
     theirs = before;
     reference_read_set(text, length, (size_t)lines + 1, theirs.states + GUARD, states, theirs.corners + GUARD, corners, &r);
-    return (struct answer){r.number, r.place, {r.states, r.corners}};
+    return (struct answer){r.number, r.place, {r.states, r.corners}, 0};
 }
 
 static void try_set(const uint8_t *text, size_t length, const struct choice *choice) {
-    static const uint16_t lines_before[8] = {0, 1, 2, 7, 100, 2050, 65534, 65535};
+    static const uint16_t lines_before[8] = {0, 1, 2, 100, 2050, 2051, 65534, 65535};
     uint16_t lines = lines_before[choice->rest];
     struct answer needed = read_set(text, length, lines, REFERENCE_MOST_STATES, REFERENCE_MOST_PATCH_CORNERS), said = {0};
     size_t states = lend(choice->first, needed.counts[0], REFERENCE_MOST_STATES);
@@ -188,7 +193,7 @@ static struct answer read_facets(const uint8_t *file, size_t length, size_t word
     struct reference_read_answer r;
     theirs = before;
     reference_read_stl(file, length, theirs.words + GUARD, words, theirs.corners + GUARD, corners, &r);
-    return (struct answer){r.number, r.place, {r.words, r.corners}};
+    return (struct answer){r.number, r.place, {r.words, r.corners}, 0};
 }
 
 /* What is printed is the text of the sheet that was read, or the answer's line. */
@@ -202,8 +207,8 @@ static void import_facets(const uint8_t *file, size_t length, const struct answe
     } else {
         struct reference_write_answer r;
         reference_write(theirs.words + GUARD, read->counts[0], theirs.corners + GUARD, read->counts[1], their_page.text + GUARD,
-                        REFERENCE_LONGEST_TEXT, &r);
-        due = (struct answer){r.number, r.place, {r.bytes, 0}};
+                        REFERENCE_LONGEST_TEXT, 1, &r);
+        due = (struct answer){r.number, r.place, {r.bytes, 0}, 0};
     }
     compare_answers("importing", &said, &due);
     if (memcmp(&our_page, &their_page, sizeof our_page) != 0) differ("importing", &said, &due);
@@ -211,7 +216,7 @@ static void import_facets(const uint8_t *file, size_t length, const struct answe
 
 /* One facet after the other to the end, from where they begin or from another place. */
 static void walk_facets(const uint8_t *file, size_t length, size_t from, size_t floats) {
-    struct answer said = {0, from, {0, 0}}, due = said;
+    struct answer said = {0, from, {0, 0}, 0}, due = said;
     do {
         our_record = their_record = record_before;
         said.counts[0] = wazelpunt_facet(file, length, &said.place, our_record.floats + GUARD, floats);
@@ -236,8 +241,8 @@ static void try_facets(const uint8_t *file, size_t length, const struct choice *
     files++;
     if (said.number == 0) files_accepted++;
     if (length < REFERENCE_STL_FRONT) return;
-    struct answer size_said = {wazelpunt_size_stl(length, reference_count_stl(file)), 0, {0, 0}};
-    struct answer size_due = {reference_size_stl(length, reference_count_stl(file)), 0, {0, 0}};
+    struct answer size_said = {wazelpunt_size_stl(length, reference_count_stl(file)), 0, {0, 0}, 0};
+    struct answer size_due = {reference_size_stl(length, reference_count_stl(file)), 0, {0, 0}, 0};
     compare_answers("a size", &size_said, &size_due);
 }
 

@@ -5,18 +5,24 @@
    A surface is given by its words, three a point, the bits of binary32 numbers in plate units (0.1 mm), and its corners, three a triangle,
    16-bit numbers of points.
 
+   The pitch of the grid is 1, 2, 5 or 10 plate units. A coordinate goes to the nearest multiple of it, a tie to the even multiple (at pitch
+   5 both 2.5 and -2.5 go to 0, and 7.5 goes to 10), and the grid holds that multiple itself: all that is counted on the grid, as weights
+   are, is in plate units at every pitch. Whoever makes a grid or writes a text gives the pitch, as the last parameter. A sheet text says
+   its own, in a first line pitch= where it is 2, 5 or 10 and by having no such line where it is 1, and reading tells it. A file of facets
+   says none.
+
    What holds of every function:
 
    - It answers for every input. It returns the number of its answer (enum wazelpunt_answer) and leaves the answer's place in *place.
      wazelpunt_facet alone has no answer: it returns how many floats it leaves.
    - It leaves its results in buffers that the caller lends, each from its start; what lies behind them stays as it was. The length that is
      given with a lent buffer counts its numbers, not its bytes, and may be greater than is needed.
-   - A refusal, 1 to 10 or 16, leaves all lent buffers as they were, 0 in every count, and its place. wazelpunt_coordinate and
-     wazelpunt_size_stl have no place.
+   - A refusal, 1 to 10, 16 or 17, leaves all lent buffers as they were, 0 in every count, and its place. wazelpunt_coordinate and
+     wazelpunt_size_stl have no place. 17, for a number that is no pitch, comes before all others.
    - Threads: the functions keep nothing between calls and have no state, so any number of threads may call them at once, as long as no
      thread lends a buffer, or points to a result, that another one uses meanwhile.
-   - Overlaps: no lent buffer and no result (*place, *at and the counts) may overlap another one, nor anything that is given. What is
-     given is only read, so it may overlap.
+   - Overlaps: no lent buffer and no result (*place, *at, *pitch and the counts) may overlap another one, nor anything that is given. What
+     is given is only read, so it may overlap.
    - Null: no pointer may be null, not even with a length of 0. With a length of 0 nothing is read or written there, and any pointer
      that is not null will do, such as that of an array of one number.
    - Alignment: each pointer is aligned as its type asks. (What was cast from a byte of a file need not be; copy it.)
@@ -36,7 +42,7 @@
      nearest, a tie to the even one; denormal numbers kept, neither flushed to zero where they come out nor taken for zero where they go
      in; no exception trapped. A program that is linked with -ffast-math has denormal numbers flushed from its start on (gcc, clang), and
      by older compilers one that loads a library linked so: then the rest of a coordinate that is denormal itself is told as zero, that of
-     0x00000005 for one. Under another rounding mode coordinates go to other whole numbers, and so everything may be another.
+     0x00000005 for one. Under another rounding mode coordinates go to other multiples, and so everything may be another.
      wazelpunt_floats_are_default tells whether they are so, but for exceptions that are trapped. */
 #ifndef WAZELPUNT_H
 #define WAZELPUNT_H
@@ -49,7 +55,7 @@ extern "C" {
 #endif
 
 /* The version of this header. */
-#define WAZELPUNT_VERSION "1.3.1"
+#define WAZELPUNT_VERSION "2.0.0"
 
 /* What a surface may have at most. */
 #define WAZELPUNT_POINTS 1024
@@ -67,7 +73,7 @@ extern "C" {
 #define WAZELPUNT_GREATEST 32767
 
 /* The bytes of the longest text of a sheet and of a patch set, and room that is enough for every listing and for every answer's line. */
-#define WAZELPUNT_SHEET_BYTES 47131
+#define WAZELPUNT_SHEET_BYTES 47140
 #define WAZELPUNT_SET_BYTES 56347
 #define WAZELPUNT_LISTING_BYTES 161424
 #define WAZELPUNT_ANSWER_BYTES 48
@@ -86,7 +92,7 @@ extern "C" {
 #define WAZELPUNT_WEIGHTS_FOR(corners_count) ((corners_count) / 3)
 #define WAZELPUNT_PATCHES_FOR(corners_count) (3 * (corners_count))
 
-/* The numbers of the answers, and what their places count: 1 to 10 and 16 are refusals, 11 to 15 verdicts on a patch set. */
+/* The numbers of the answers, and what their places count: 1 to 10, 16 and 17 are refusals, 11 to 15 verdicts on a patch set. */
 enum wazelpunt_answer {
     WAZELPUNT_DONE = 0,          /* 0 */
     WAZELPUNT_WRONG_WORDS = 1,   /* 0 */
@@ -104,7 +110,8 @@ enum wazelpunt_answer {
     WAZELPUNT_BARRED = 13,       /* loops */
     WAZELPUNT_HEAVY = 14,        /* loops */
     WAZELPUNT_LEFT_OVER = 15,    /* corners of the set */
-    WAZELPUNT_MISFIT = 16        /* 0 */
+    WAZELPUNT_MISFIT = 16,       /* 0 */
+    WAZELPUNT_NO_PITCH = 17      /* 0 */
 };
 
 /* The states of a loop. */
@@ -153,6 +160,8 @@ static inline const char *wazelpunt_sentence(uint32_t number)
         return "corners are left over after the last loop";
     case WAZELPUNT_MISFIT:
         return "the file is too short, or its length does not fit its count of facets";
+    case WAZELPUNT_NO_PITCH:
+        return "the pitch is none of 1, 2, 5 and 10";
     default:
         return "an answer that this header does not know";
     }
@@ -182,20 +191,21 @@ static inline int wazelpunt_floats_are_default(void)
     return !(stays > even) && !(goes < next) && !(again < least) && !(stays64 > even64) && !(goes64 < next64) && !(again64 < least64);
 }
 
-/* The answer for the coordinate with these binary32 bits. Returns 0, or refusal 7 (not finite) or 8 (too far).
-   *whole becomes the whole number, or 0; *rest becomes the bits of what is left of the value, or those of the value itself
-   where it is too far, or 0 where there is none. */
-uint32_t wazelpunt_coordinate(uint32_t word, int32_t *whole, uint32_t *rest);
+/* The answer for the coordinate with these binary32 bits at a pitch. Returns 0, or refusal 17 (no pitch), 7 (not finite) or 8 (too far:
+   the multiple lies further out than WAZELPUNT_GREATEST). *whole becomes the nearest multiple of the pitch, in plate units, or 0; *rest
+   becomes the bits of what is left of the value, at most half a pitch and exact, or those of the value itself where it is too far, or 0
+   where there is none. */
+uint32_t wazelpunt_coordinate(uint32_t word, int32_t *whole, uint32_t *rest, uint32_t pitch);
 
-/* Finds the loops of a surface: three words a point, three corners a triangle. Returns 0 or a refusal 1 to 8, with its place.
+/* Finds the loops of a surface: three words a point, three corners a triangle. Returns 0 or a refusal 17 or 1 to 8, with its place.
    Lent are grid (1: at least words_count numbers), rings (2: corners_count) and lengths (3: corners_count / 3). On 0 they hold
    the grid, the ring vertices of all loops in listed order and the rings' lengths, each from its start, and what lies behind is
    as it was; on a refusal all is as it was and both counts are 0. */
 uint32_t wazelpunt_survey(const uint32_t *words, size_t words_count, const uint16_t *corners, size_t corners_count,
                           int32_t *grid, size_t grid_length, uint16_t *rings, size_t rings_length, uint16_t *lengths,
-                          size_t lengths_length, size_t *place, size_t *loops, size_t *vertices);
+                          size_t lengths_length, size_t *place, size_t *loops, size_t *vertices, uint32_t pitch);
 
-/* Finds the loops of a surface and patches them. Returns 0 or a refusal 1 to 8, with its place. Lent are grid, rings and lengths
+/* Finds the loops of a surface and patches them. Returns 0 or a refusal 17 or 1 to 8, with its place. Lent are grid, rings and lengths
    as above, states and weights (4 and 5: corners_count / 3 each) and patches (6: 3 * corners_count). On 0 they hold the same as
    above, for each loop its state (1 patched, 2 long, 3 no allowed cover, 4 the rim of its piece, which is never patched) and the
    weight of its patch, and the corners of all patch triangles in the order in which they are laid; each from its start, and what
@@ -204,33 +214,34 @@ uint32_t wazelpunt_patch(const uint32_t *words, size_t words_count, const uint16
                          int32_t *grid, size_t grid_length, uint16_t *rings, size_t rings_length, uint16_t *lengths,
                          size_t lengths_length, uint16_t *states, size_t states_length, uint64_t *weights,
                          size_t weights_length, uint16_t *patches, size_t patches_length, size_t *place, size_t *loops,
-                         size_t *vertices, size_t *laid);
+                         size_t *vertices, size_t *laid, uint32_t pitch);
 
 /* Judges a patch set for a surface: a state for each loop (4 for the rim of each piece, and for no other), and the corners of the
    patch triangles of all loops that are declared patched, in any order within a loop and each begun at any corner. Returns 0
-   (passed), a refusal 1 to 9 or a verdict 11 to 15, with its place. Lent are grid, rings and lengths as for wazelpunt_survey. On 0
+   (passed), a refusal 17 or 1 to 9, or a verdict 11 to 15, with its place. Lent are grid, rings and lengths as for wazelpunt_survey. On 0
    and on 11 to 15 they hold the same as there; on a refusal all is as it was and both counts are 0. */
 uint32_t wazelpunt_judge(const uint32_t *words, size_t words_count, const uint16_t *corners, size_t corners_count,
                          const uint16_t *states, size_t states_count, const uint16_t *set, size_t set_count, int32_t *grid,
                          size_t grid_length, uint16_t *rings, size_t rings_length, uint16_t *lengths, size_t lengths_length,
-                         size_t *place, size_t *loops, size_t *vertices);
+                         size_t *place, size_t *loops, size_t *vertices, uint32_t pitch);
 
 /* Reads a sheet text: any bytes. Returns 0 or a refusal 10 (a wrong line), 3 or 4, with its place. Lent are words (1) and corners (2),
    each long enough for this text. On 0 they hold the sheet's words and corners, each from its start, and what lies behind is as it was;
-   *words_read and *corners_read become how many there are. On a refusal all is as it was and both counts are 0. */
+   *words_read and *corners_read become how many there are, and *pitch the pitch that the text says, 1 where it has no such line. On a
+   refusal all is as it was, both counts are 0, and so is *pitch. */
 uint32_t wazelpunt_read(const uint8_t *text, size_t text_length, uint32_t *words, size_t words_length, uint16_t *corners,
-                        size_t corners_length, size_t *place, size_t *words_read, size_t *corners_read);
+                        size_t corners_length, size_t *place, size_t *words_read, size_t *corners_read, uint32_t *pitch);
 
-/* Writes the text of a sheet. Returns 0 or a refusal 1, 2, 3 or 4, with its place. Lent is text (1), long enough for this text. On 0 it
-   holds the text from its start, and what lies behind is as it was; *bytes becomes how long the text is. On a refusal all is as it
-   was and the count is 0. */
+/* Writes the text of a sheet, with the line of its pitch where that is not 1. Returns 0 or a refusal 17, 1, 2, 3 or 4, with its place. Lent
+   is text (1), long enough for this text. On 0 it holds the text from its start, and what lies behind is as it was; *bytes becomes how long
+   the text is. On a refusal all is as it was and the count is 0. */
 uint32_t wazelpunt_write(const uint32_t *words, size_t words_count, const uint16_t *corners, size_t corners_count,
-                         uint8_t *text, size_t text_length, size_t *place, size_t *bytes);
+                         uint8_t *text, size_t text_length, size_t *place, size_t *bytes, uint32_t pitch);
 
-/* Reads the text of a patch set, which comes after so many lines of a sheet text. Returns 0 or a refusal 10 (a wrong line, counted on
-   from the sheet's last) or 3, with its place. Lent are states (1) and corners (2), each long enough for this text. On 0 they hold the
-   states of the loops and the corners of all triangles, each from its start, and what lies behind is as it was; *states_read and
-   *corners_read become how many there are. On a refusal all is as it was and both counts are 0. */
+/* Reads the text of a patch set, which comes after so many lines of a sheet text, the line of its pitch among them. Returns 0 or a refusal
+   10 (a wrong line, counted on from the sheet's last) or 3, with its place. Lent are states (1) and corners (2), each long enough for this
+   text. On 0 they hold the states of the loops and the corners of all triangles, each from its start, and what lies behind is as it was;
+   *states_read and *corners_read become how many there are. On a refusal all is as it was and both counts are 0. */
 uint32_t wazelpunt_read_set(const uint8_t *text, size_t text_length, uint16_t before, uint16_t *states, size_t states_length,
                             uint16_t *corners, size_t corners_length, size_t *place, size_t *states_read, size_t *corners_read);
 
@@ -268,8 +279,8 @@ uint32_t wazelpunt_read_stl(const uint8_t *file, size_t file_length, uint32_t *w
    whole file at hand: a file longer than WAZELPUNT_STL_BYTES never gets 0. Of one shorter than 84 bytes the count may be anything. */
 uint32_t wazelpunt_size_stl(size_t length, uint32_t count);
 
-/* The importing program as a function, ruled as the three above: the text of the file's sheet, or the answer's line (answer=16,0 for one).
-   Lent are at least WAZELPUNT_SHEET_BYTES. */
+/* The importing program as a function, ruled as the three above: the text of the file's sheet at pitch 1, or the answer's line (answer=16,0
+   for one). Lent are at least WAZELPUNT_SHEET_BYTES. For the text at another pitch read the file, and write it at that pitch. */
 uint32_t wazelpunt_import_stl(const uint8_t *file, size_t file_length, uint8_t *out, size_t out_length, size_t *place, size_t *bytes);
 
 /* Hands out one facet at a time: that whose 50 bytes begin at *at, as nine floats, x, y and z of its three corners. Lays them from the

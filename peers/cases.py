@@ -187,9 +187,10 @@ FIELD = [
 
 
 def cases(examples):
-    """All cases: those of the folder of sheets, then the field's."""
+    """All cases: those of the folder of sheets but for coarser grids, of which the others know nothing, then the field's."""
     for path in sorted(examples.glob('*.sheet'), key=lambda path: path.stem):
-        yield Case(path.stem, EXAMPLES.get(path.stem, 'a sheet'), *read_sheet(path))
+        if not path.read_text().startswith('pitch='):
+            yield Case(path.stem, EXAMPLES.get(path.stem, 'a sheet'), *read_sheet(path))
     for name, about, make in FIELD:
         points, triangles = make()
         yield Case(name, about, [tuple(binary32(number) for number in point) for point in points], [tuple(t) for t in triangles])

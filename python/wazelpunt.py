@@ -16,19 +16,23 @@
     with open("plate.sheet", "rb") as file:
         surface = wazelpunt.Surface.from_text(file.read())
 
-    with open("plate.stl", "rb") as file:      # binary STL
-        surface = wazelpunt.Surface.from_stl(file.read())
+    with open("plate.stl", "rb") as file:      # binary STL, for a press with a pitch of 5 plate units
+        surface = wazelpunt.Surface.from_stl(file.read(), pitch=5)
 
     try:
         wazelpunt.Surface([(0, 0, 0)], [(0, 1, 2)]).survey()
     except wazelpunt.Refusal as refusal:
         print(refusal.number, refusal.place, refusal.sentence)      # 4 1 a corner names no point
 
-On the command line `python3 -m wazelpunt SHEET` prints the listing of a sheet, a text or a binary STL.
+On the command line `python3 -m wazelpunt SHEET` prints the listing of a sheet: a text, or a binary STL at pitch 1.
 
 Coordinates are binary32 numbers in plate units (0.1 mm). Other numbers are rounded to the nearest one, as `struct` does; one that is too
-large for that raises OverflowError. What the library refuses (answers 1 to 10 and 16) raises Refusal. A verdict on a patch set (answers 11
-to 15) is an answer like any other and is returned. docs/API.md has the answers, the states, the texts and the files.
+large for that raises OverflowError. What the library refuses (answers 1 to 10, 16 and 17) raises Refusal. A verdict on a patch set (answers
+11 to 15) is an answer like any other and is returned. docs/API.md has the answers, the states, the texts and the files.
+
+The pitch of the grid is 1, 2, 5 or 10 plate units. A coordinate goes to the nearest multiple of it, a tie to the even multiple, and the
+grid holds that multiple itself. A surface has its pitch: that of the text it was read of, or the one that is given, or 1. Whatever is asked
+of it goes by that pitch, unless another one is given with the question. A number that is no pitch is refused with 17, before all else.
 
 It stands on the shared library libwazelpunt.so and on nothing but Python's own ctypes. The library is the file that the environment
 variable WAZELPUNT_LIBRARY names; or else one beside this module, or where it was installed together with it; or else one where the system
@@ -47,7 +51,7 @@ import operator
 import os
 import struct
 import sys
-from typing import Any, Dict, Iterable, Iterator, List, Tuple
+from typing import Any, Dict, Iterable, Iterator, List, Optional, Tuple
 
 __all__ = [
     "ANSWER_BYTES", "CORNERS", "Coordinate", "GREATEST", "LISTING_BYTES", "LONGEST", "Loop", "POINTS", "PatchSet", "Patched", "Refusal",
@@ -57,7 +61,7 @@ __all__ = [
 ]
 
 # As in include/wazelpunt.h.
-VERSION = "1.3.1"
+VERSION = "2.0.0"
 POINTS = 1024
 TRIANGLES = 1024
 WORDS = 3072
@@ -67,7 +71,7 @@ SET_TRIANGLES = 3072
 SET_CORNERS = 9216
 LONGEST = 64
 GREATEST = 32767
-SHEET_BYTES = 47131
+SHEET_BYTES = 47140
 SET_BYTES = 56347
 LISTING_BYTES = 161424
 ANSWER_BYTES = 48
@@ -93,6 +97,7 @@ _SENTENCES = (
     "a loop has an allowed cover, but a lighter one exists",
     "corners are left over after the last loop",
     "the file is too short, or its length does not fit its count of facets",
+    "the pitch is none of 1, 2, 5 and 10",
 )
 
 Triple = Tuple[int, int, int]
@@ -111,7 +116,7 @@ class State(enum.IntEnum):
 class Refusal(ValueError):
     """The library refuses what it was given.
 
-    number    1 to 10 or 16, by the table of answers in docs/API.md
+    number    1 to 10, 16 or 17, by the table of answers in docs/API.md
     place     where: a corner, triangle, half-edge or word, from 0; a line, from 1; for 9 how many loops there are
     sentence  the same in words
     """
@@ -139,7 +144,7 @@ _FUNCTIONS = (
 
 def _load() -> ctypes.CDLL:
     """The library, from the first place that has it."""
-    names = ["libwazelpunt.so.1", "libwazelpunt.so"]
+    names = ["libwazelpunt.so.2", "libwazelpunt.so"]
     folder = os.path.dirname(os.path.abspath(__file__))
     folders = [folder]
     if folder.endswith("/share/wazelpunt/python"):  # where `make install` puts it
@@ -153,6 +158,10 @@ def _load() -> ctypes.CDLL:
             for function in _FUNCTIONS:
                 getattr(library, "wazelpunt_" + function).restype = ctypes.c_uint32
             library.wazelpunt_facet.restype = ctypes.c_size_t
+            # one from before there were pitches would take every one for 1
+            nothing = ctypes.c_uint32(), ctypes.byref(ctypes.c_int32()), ctypes.byref(ctypes.c_uint32()), ctypes.c_uint32()
+            if library.wazelpunt_coordinate(*nothing) != 17:
+                raise OSError(f"{name}: it is older than this module, and knows no pitch")
             return library
         except (OSError, AttributeError) as problem:
             # the system's sentences name the file
@@ -192,19 +201,20 @@ def _given_bytes(data: Any, what: str) -> _Slice:
     return given
 
 
-def _ask(function: str, *given: Any, counts: int) -> Tuple[int, ...]:
-    """Calls a function. Returns the number and the place of its answer, and its counts."""
+def _ask(function: str, *given: Any, counts: int, last: Any = None) -> Tuple[int, ...]:
+    """Calls a function. Returns the number and the place of its answer, and its counts. Some have a pitch behind all else."""
     arguments: List[Any] = []
     for each in given:
         arguments += [each.array, ctypes.c_size_t(each.count)] if isinstance(each, _Slice) else [each]
     results = [ctypes.c_size_t() for _ in range(1 + counts)]
-    number = getattr(_LIBRARY, "wazelpunt_" + function)(*arguments, *map(ctypes.byref, results))
+    behind = [] if last is None else [last]
+    number = getattr(_LIBRARY, "wazelpunt_" + function)(*arguments, *map(ctypes.byref, results), *behind)
     return (number, *(result.value for result in results))
 
 
-def _get(function: str, *given: Any, counts: int) -> Tuple[int, ...]:
+def _get(function: str, *given: Any, counts: int, last: Any = None) -> Tuple[int, ...]:
     """Calls a function that has to be done. Returns its counts."""
-    number, place, *counted = _ask(function, *given, counts=counts)
+    number, place, *counted = _ask(function, *given, counts=counts, last=last)
     if number:
         raise Refusal(number, place)
     return tuple(counted)
@@ -311,6 +321,12 @@ def _all_within(numbers: Tuple[int, ...], most: int, what: str) -> Tuple[int, ..
     return tuple(_within(number, most, f"number {i} of the {what}") for i, number in enumerate(numbers))
 
 
+def _pitch_number(pitch: int) -> Any:
+    """A pitch as it is handed over. A number that cannot be is no pitch, and neither is 0."""
+    whole = _whole(pitch, "the pitch")
+    return ctypes.c_uint32(whole if 0 <= whole <= 0xFFFFFFFF else 0)
+
+
 def _by_three(numbers: Any) -> Tuple[Any, ...]:
     return tuple(tuple(numbers[i : i + 3]) for i in range(0, len(numbers), 3))
 
@@ -320,7 +336,7 @@ def _by_three(numbers: Any) -> Tuple[Any, ...]:
 
 @dataclasses.dataclass(frozen=True)
 class Coordinate:
-    """Where a coordinate goes on the grid: the nearest whole number, a tie to the even one, and the rest, exactly."""
+    """Where a coordinate goes on the grid: the nearest multiple of the pitch, a tie to the even one, and the rest, exactly."""
 
     whole: int
     rest: float
@@ -446,39 +462,46 @@ class Surface:
 
     points     triples of coordinates, or coordinates one after another, in a list or in a buffer of binary16, 32 or 64
     triangles  triples of point numbers, or their numbers one after another, in a list or in a buffer of whole numbers
+    pitch      1, 2, 5 or 10: how far apart the lines of its grid are, in plate units
 
-    They are kept as words (the bits of the coordinates) and corners, flat; points and triangles tell them as triples.
+    They are kept as words (the bits of the coordinates) and corners, flat; points and triangles tell them as triples. The points are as
+    they were given, at any pitch: it is survey and patch that put them on the grid.
 
     Whether it is one that the library takes is told by what is asked of it. But a corner that is negative, or greater than 65,535, cannot
     even be handed over; it names no point, and is refused (4) when the surface is made.
+
+    survey, patch, judge and text go by the surface's pitch, unless another is given as pitch=.
     """
 
     words: Tuple[int, ...]
     corners: Tuple[int, ...]
+    pitch: int
 
-    def __init__(self, points: Any = (), triangles: Any = ()) -> None:
-        self._set(_words_of(points), triangles)
+    def __init__(self, points: Any = (), triangles: Any = (), *, pitch: int = 1) -> None:
+        self._set(_words_of(points), triangles, pitch)
 
     @classmethod
-    def from_words(cls, words: Any, triangles: Any = ()) -> Surface:
+    def from_words(cls, words: Any, triangles: Any = (), *, pitch: int = 1) -> Surface:
         """The surface of points that are given by their words: the bits of binary32 numbers, in a list or a buffer of 32-bit numbers."""
         numbers, _ = _buffer(words, "words", _WORDS) or (_flat(words, "point", "word"), "")
         wholes = tuple(_whole(word, f"word {i}") for i, word in enumerate(numbers))
         surface = cls.__new__(cls)
-        surface._set(_all_within(wholes, 0xFFFFFFFF, "words"), triangles)
+        surface._set(_all_within(wholes, 0xFFFFFFFF, "words"), triangles, pitch)
         return surface
 
-    def _set(self, words: Tuple[int, ...], triangles: Any) -> None:
+    def _set(self, words: Tuple[int, ...], triangles: Any, pitch: int) -> None:
         corners = _wholes_of(triangles, "triangle")
         # no surface has so many points, so the last number that can be handed over names none either
         taken = tuple(corner if 0 <= corner <= 0xFFFF else 0xFFFF for corner in corners)
         object.__setattr__(self, "words", words)
         object.__setattr__(self, "corners", taken)
+        object.__setattr__(self, "pitch", _whole(pitch, "the pitch"))
         if taken != corners:
             self.text()
 
     def __repr__(self) -> str:
-        return f"<Surface: {len(self.words) // 3} points, {len(self.corners) // 3} triangles>"
+        at = "" if self.pitch == 1 else f", pitch {self.pitch}"
+        return f"<Surface: {len(self.words) // 3} points, {len(self.corners) // 3} triangles{at}>"
 
     @property
     def points(self) -> Tuple[Point, ...]:
@@ -490,44 +513,48 @@ class Surface:
 
     @classmethod
     def from_text(cls, text: bytes) -> Surface:
-        """The surface that a sheet text says. Refusal 10 tells a wrong line, 4 a corner that names no point."""
-        return cls._read("read", _given_bytes(text, "a text"))
+        """The surface that a sheet text says, with its pitch. Refusal 10 tells a wrong line, 4 a corner that names no point."""
+        pitch = ctypes.c_uint32()
+        words, corners = cls._read("read", _given_bytes(text, "a text"), ctypes.byref(pitch))
+        return cls.from_words(words, corners, pitch=pitch.value)
 
     @classmethod
-    def from_stl(cls, data: bytes) -> Surface:
+    def from_stl(cls, data: bytes, *, pitch: int = 1) -> Surface:
         """The surface of a binary STL. Corners whose words agree are one point; points are numbered by first use; facet k is triangle k.
+        The file says no pitch, so it is the one that is given.
 
         Refusal 16 tells a file that is too short, or whose length does not fit its count of facets, 2 too many facets, 1 too many points.
         What else may be wrong with the surface, refusals 5 to 8, is told by what is asked of it.
         """
-        return cls._read("read_stl", _given_bytes(data, "an STL file"))
+        return cls.from_words(*cls._read("read_stl", _given_bytes(data, "an STL file")), pitch=pitch)
 
-    @classmethod
-    def _read(cls, function: str, given: _Slice) -> Surface:
+    @staticmethod
+    def _read(function: str, given: _Slice, last: Any = None) -> Tuple[List[int], List[int]]:
+        """Words and corners of a text or a file."""
         words, corners = _lent(ctypes.c_uint32, WORDS), _lent(ctypes.c_uint16, CORNERS)
-        worded, cornered = _get(function, given, words, corners, counts=2)
-        return cls.from_words(words.array[:worded], corners.array[:cornered])
+        worded, cornered = _get(function, given, words, corners, counts=2, last=last)
+        return words.array[:worded], corners.array[:cornered]
 
-    def text(self) -> bytes:
-        """The sheet text of the surface. Refusals 1, 2 and 4."""
+    def text(self, *, pitch: Optional[int] = None) -> bytes:
+        """The sheet text of the surface, with a line for its pitch where that is not 1. Refusals 17, 1, 2 and 4."""
         text = _lent(ctypes.c_uint8, SHEET_BYTES)
-        (count,) = _get("write", *self._given(), text, counts=1)
+        (count,) = _get("write", *self._given(), text, counts=1, last=self._pitch(pitch))
         return bytes(text.array[:count])
 
-    def survey(self) -> Survey:
-        """Finds the loops. Refusals 1, 2 and 4 to 8."""
+    def survey(self, *, pitch: Optional[int] = None) -> Survey:
+        """Finds the loops. Refusals 17, 1, 2 and 4 to 8."""
         lent = self._lent()
-        loops, _ = _get("survey", *self._given(), *lent, counts=2)
+        loops, _ = _get("survey", *self._given(), *lent, counts=2, last=self._pitch(pitch))
         grid, rings, lengths = lent
         return Survey(_by_three(grid.array[: grid.count]), _rings(rings, lengths, loops))
 
-    def patch(self) -> Patched:
-        """Finds the loops and patches them. Refusals 1, 2 and 4 to 8."""
+    def patch(self, *, pitch: Optional[int] = None) -> Patched:
+        """Finds the loops and patches them. Refusals 17, 1, 2 and 4 to 8."""
         triangles = len(self.corners) // 3
         lent = self._lent()
         states, weights = _lent(ctypes.c_uint16, triangles), _lent(ctypes.c_uint64, triangles)
         patches = _lent(ctypes.c_uint16, 3 * len(self.corners))
-        count, _, laid = _get("patch", *self._given(), *lent, states, weights, patches, counts=3)
+        count, _, laid = _get("patch", *self._given(), *lent, states, weights, patches, counts=3, last=self._pitch(pitch))
         grid, rings, lengths = lent
         triangles_left = iter(_by_three(patches.array[:laid]))
         loops = []
@@ -537,14 +564,17 @@ class Surface:
             loops.append(Loop(ring, State(state), weight, tuple(next(triangles_left) for _ in range(cover))))
         return Patched(_by_three(grid.array[: grid.count]), tuple(loops))
 
-    def judge(self, patch_set: PatchSet) -> Verdict:
-        """Judges a patch set for this surface. Refusals 1, 2 and 4 to 9; a verdict 11 to 15 is returned."""
+    def judge(self, patch_set: PatchSet, *, pitch: Optional[int] = None) -> Verdict:
+        """Judges a patch set for this surface. Refusals 17, 1, 2 and 4 to 9; a verdict 11 to 15 is returned."""
         lent = self._lent()
         set_given = _given(ctypes.c_uint16, patch_set.states), _given(ctypes.c_uint16, patch_set.corners)
-        number, place, loops, _ = _ask("judge", *self._given(), *set_given, *lent, counts=2)
-        if 1 <= number <= 10:
+        number, place, loops, _ = _ask("judge", *self._given(), *set_given, *lent, counts=2, last=self._pitch(pitch))
+        if 1 <= number <= 10 or number == 17:
             raise Refusal(number, place)
         return Verdict(number, place, _rings(lent[1], lent[2], loops))
+
+    def _pitch(self, other: Optional[int]) -> Any:
+        return _pitch_number(self.pitch if other is None else other)
 
     def _given(self) -> Tuple[_Slice, _Slice]:
         return _given(ctypes.c_uint32, self.words), _given(ctypes.c_uint16, self.corners)
@@ -555,10 +585,10 @@ class Surface:
         return _lent(ctypes.c_int32, len(self.words)), _lent(ctypes.c_uint16, corners), _lent(ctypes.c_uint16, corners // 3)
 
 
-def coordinate(x: float) -> Coordinate:
-    """Where a coordinate goes on the grid. Refusals 7, it is not finite, and 8, it is too far out."""
-    whole, rest = ctypes.c_int32(), ctypes.c_uint32()
-    number = _LIBRARY.wazelpunt_coordinate(ctypes.c_uint32(_word(x, "the coordinate")), ctypes.byref(whole), ctypes.byref(rest))
+def coordinate(x: float, *, pitch: int = 1) -> Coordinate:
+    """Where a coordinate goes on the grid of a pitch. Refusals 17, 7, it is not finite, and 8, the multiple is too far out."""
+    whole, rest, word = ctypes.c_int32(), ctypes.c_uint32(), ctypes.c_uint32(_word(x, "the coordinate"))
+    number = _LIBRARY.wazelpunt_coordinate(word, ctypes.byref(whole), ctypes.byref(rest), _pitch_number(pitch))
     if number:
         raise Refusal(number, 0)
     return Coordinate(whole.value, struct.unpack("=f", struct.pack("=I", rest.value))[0])
@@ -592,7 +622,10 @@ def rewrite_text(sheet: bytes) -> bytes:
 
 
 def import_stl(data: bytes) -> bytes:
-    """The sheet text of a binary STL, or the answer's line. It refuses nothing: the answer is in the line."""
+    """The sheet text of a binary STL at pitch 1, or the answer's line. It refuses nothing: the answer is in the line.
+
+    The text at another pitch is Surface.from_stl(data, pitch=5).text().
+    """
     return _printed("import_stl", SHEET_BYTES, _given_bytes(data, "an STL file"))
 
 
@@ -641,7 +674,7 @@ def _listing(file: Any) -> bytes:
     if b"\0" not in data:  # an STL of less than 842 MB has one in its count
         return list_text(data)
     number = _size_answer(file, data)
-    if number == 16 and data.startswith(b"points="):
+    if number == 16 and data.startswith((b"points=", b"pitch=")):
         return list_text(data)
     sheet = f"answer={number},0\n".encode() if number else import_stl(data)
     return sheet if sheet.startswith(b"answer=") else list_text(sheet)
@@ -651,7 +684,7 @@ def _main(words: List[str]) -> int:
     """Prints the listing of a sheet. The status is 0; 1 if the sheet is refused; 2 for wrong use, or if reading or writing fails."""
     if len(words) != 1 or words[0] in ("-h", "--help"):
         asked = words in (["-h"], ["--help"])
-        usage = "usage: python3 -m wazelpunt SHEET      prints the listing of a sheet text or a binary STL; - is standard input"
+        usage = "usage: python3 -m wazelpunt SHEET      prints the listing of a sheet text or a binary STL (pitch 1); - is standard input"
         print(usage, file=sys.stdout if asked else sys.stderr)
         return 0 if asked else 2
     piped = words[0] == "-"

@@ -21,8 +21,7 @@ enum {
     RIM = 4
 };
 
-/* The bits of 32767.5, the smallest that goes to 32,768, and of infinity. */
-#define TOO_FAR 0x46ffff00u
+/* The bits of infinity. */
 #define NOT_FINITE 0x7f800000u
 
 /* What stands for a run that was not reckoned: the greatest is 3,072 edges of 196,602 each. */
@@ -36,6 +35,7 @@ struct surface {
     size_t words_count;
     const uint16_t *corners;
     size_t corners_count;
+    uint32_t pitch;
 };
 
 /* The half-edges of the surface and after them the diagonals that were laid, each in the chain of its lower end. */
@@ -104,14 +104,15 @@ static size_t pair_edges(struct edges *edges, const struct surface *surface) {
     return repeated;
 }
 
-/* ---- Refusals 1 to 8 ---- */
+/* ---- Refusals 17 and 1 to 8 ---- */
 
 static uint32_t answer(uint32_t number, size_t at, size_t *place) {
     *place = at;
     return number;
 }
 
-static uint32_t refuse_counts(size_t words_count, size_t corners_count, size_t *place) {
+static uint32_t refuse_counts(size_t words_count, size_t corners_count, uint32_t pitch, size_t *place) {
+    if (pitch != 1 && pitch != 2 && pitch != 5 && pitch != 10) return answer(17, 0, place);
     if (words_count % 3 != 0 || words_count > WORDS) return answer(1, 0, place);
     if (corners_count % 3 != 0 || corners_count > CORNERS) return answer(2, 0, place);
     return answer(0, 0, place);
@@ -136,20 +137,26 @@ static uint32_t refuse_corners(const struct surface *surface, size_t *place) {
     return answer(4, c, place);
 }
 
+/* The bits of the smallest that goes too far: 32767.5 at the pitches 1 and 5, 32767 at 2, and what follows 32765 at 10. */
+static uint32_t too_far_at(uint32_t pitch) {
+    return pitch == 2 ? 0x46fffe00u : pitch == 10 ? 0x46fffa01u : 0x46ffff00u;
+}
+
 static uint32_t refuse_words(const struct surface *surface, size_t *place) {
+    const uint32_t too_far = too_far_at(surface->pitch);
     int wrong = 0;
-    for (size_t w = 0; w < surface->words_count; w++) wrong |= (surface->words[w] & 0x7fffffff) >= TOO_FAR;
+    for (size_t w = 0; w < surface->words_count; w++) wrong |= (surface->words[w] & 0x7fffffff) >= too_far;
     if (!wrong) return answer(0, 0, place);
     for (size_t w = 0; w < surface->words_count; w++)
         if ((surface->words[w] & 0x7fffffff) >= NOT_FINITE) return answer(7, w, place);
     size_t w = 0;
-    while ((surface->words[w] & 0x7fffffff) < TOO_FAR) w++;
+    while ((surface->words[w] & 0x7fffffff) < too_far) w++;
     return answer(8, w, place);
 }
 
-/* The first refusal from 1 to 8; where there is none, the half-edges are chained and paired. */
+/* The first refusal, 17 or from 1 to 8; where there is none, the half-edges are chained and paired. */
 static uint32_t refuse_surface(const struct surface *surface, const size_t *lent, size_t buffers, struct edges *edges, size_t *place) {
-    uint32_t number = refuse_counts(surface->words_count, surface->corners_count, place);
+    uint32_t number = refuse_counts(surface->words_count, surface->corners_count, surface->pitch, place);
     if (number == 0) number = refuse_buffers(surface, lent, buffers, place);
     if (number == 0) number = refuse_corners(surface, place);
     if (number != 0) return number;
@@ -162,15 +169,31 @@ static uint32_t refuse_surface(const struct surface *surface, const size_t *lent
 
 /* ---- Grid ---- */
 
-/* A number of this size has no bits below the units, so the sum is rounded to a whole number, a tie going to the even one. */
-static void place_on_grid(const uint32_t *words, size_t count, int32_t *grid) {
-    const float units = 12582912.0f;
+/* A number of this size has no bits below the pitch, which is 1 or 2, so the sum is rounded to a multiple, a tie going to the even one. */
+static void place_by_sums(const uint32_t *words, size_t count, int32_t *grid, float pitch) {
+    const float units = 12582912.0f * pitch;
     for (size_t w = 0; w < count; w++) {
         float value;
         memcpy(&value, &words[w], sizeof value);
         value = value + units;
         grid[w] = (int32_t)(value - units);
     }
+}
+
+/* The same of 64 bits, for how many pitches a number has. That the quotient is rounded before does no harm: it has so many bits more. */
+static void place_by_quotients(const uint32_t *words, size_t count, int32_t *grid, double pitch) {
+    const double units = 6755399441055744.0;
+    for (size_t w = 0; w < count; w++) {
+        float value;
+        memcpy(&value, &words[w], sizeof value);
+        double pitches = (double)value / pitch + units;
+        grid[w] = (int32_t)((pitches - units) * pitch);
+    }
+}
+
+static void place_on_grid(const struct surface *surface, int32_t *grid) {
+    if (surface->pitch <= 2) place_by_sums(surface->words, surface->words_count, grid, (float)surface->pitch);
+    else place_by_quotients(surface->words, surface->words_count, grid, (double)surface->pitch);
 }
 
 /* ---- Loops ---- */
@@ -237,6 +260,25 @@ static void find_loops(struct loops *loops, const struct surface *surface, uint1
         if (h == surface->corners_count) return;
         walk_cycle(loops, surface->corners, twin, (uint32_t)h);
     }
+}
+
+uint32_t baseline_survey(const uint32_t *words, size_t words_count, const uint16_t *corners, size_t corners_count,
+                         int32_t *grid, size_t grid_length, uint16_t *rings, size_t rings_length, uint16_t *lengths,
+                         size_t lengths_length, size_t *place, size_t *loops, size_t *vertices, uint32_t pitch) {
+    const struct surface surface = {words, words_count, corners, corners_count, pitch};
+    const size_t lent[3] = {grid_length, rings_length, lengths_length};
+    struct edges edges;
+    struct loops found;
+    *loops = *vertices = 0;
+    uint32_t number = refuse_surface(&surface, lent, 3, &edges, place);
+    if (number != 0) return number;
+    place_on_grid(&surface, grid);
+    found.rings = rings;
+    found.lengths = lengths;
+    find_loops(&found, &surface, edges.twin);
+    *loops = found.count;
+    *vertices = found.vertices;
+    return 0;
 }
 
 /* ---- Rims ---- */
@@ -485,8 +527,8 @@ uint32_t baseline_patch(const uint32_t *words, size_t words_count, const uint16_
                         int32_t *grid, size_t grid_length, uint16_t *rings, size_t rings_length, uint16_t *lengths,
                         size_t lengths_length, uint16_t *states, size_t states_length, uint64_t *weights,
                         size_t weights_length, uint16_t *patches, size_t patches_length, size_t *place, size_t *loops,
-                        size_t *vertices, size_t *laid) {
-    const struct surface surface = {words, words_count, corners, corners_count};
+                        size_t *vertices, size_t *laid, uint32_t pitch) {
+    const struct surface surface = {words, words_count, corners, corners_count, pitch};
     const size_t lent[BUFFERS] = {grid_length, rings_length, lengths_length, states_length, weights_length, patches_length};
     uint8_t rims[TRIANGLES];
     struct edges edges;
@@ -495,7 +537,7 @@ uint32_t baseline_patch(const uint32_t *words, size_t words_count, const uint16_
     *loops = *vertices = *laid = 0;
     uint32_t number = refuse_surface(&surface, lent, BUFFERS, &edges, place);
     if (number != 0) return number;
-    place_on_grid(words, words_count, grid);
+    place_on_grid(&surface, grid);
     found.rings = rings;
     found.lengths = lengths;
     find_loops(&found, &surface, edges.twin);
@@ -638,8 +680,8 @@ static uint32_t judge_loops(struct hole *hole, const struct loops *loops, const 
 uint32_t baseline_check(const uint32_t *words, size_t words_count, const uint16_t *corners, size_t corners_count,
                         const uint16_t *states, size_t states_count, const uint16_t *set, size_t set_count, int32_t *grid,
                         size_t grid_length, uint16_t *rings, size_t rings_length, uint16_t *lengths, size_t lengths_length,
-                        size_t *place, size_t *loops, size_t *vertices) {
-    const struct surface surface = {words, words_count, corners, corners_count};
+                        size_t *place, size_t *loops, size_t *vertices, uint32_t pitch) {
+    const struct surface surface = {words, words_count, corners, corners_count, pitch};
     const size_t lent[3] = {grid_length, rings_length, lengths_length};
     struct set judged = {states, set, set_count, 0};
     uint16_t own_rings[CORNERS], own_lengths[TRIANGLES];
@@ -654,7 +696,7 @@ uint32_t baseline_check(const uint32_t *words, size_t words_count, const uint16_
     found.lengths = own_lengths;
     find_loops(&found, &surface, edges.twin);
     if (states_count != found.count) return answer(9, found.count, place);
-    place_on_grid(words, words_count, grid);
+    place_on_grid(&surface, grid);
     memcpy(rings, own_rings, found.vertices * sizeof *rings);
     memcpy(lengths, own_lengths, found.count * sizeof *lengths);
     *loops = found.count;
@@ -774,6 +816,24 @@ static int read_triangles(struct reading *reading, uint16_t *corners, size_t tri
     return 1;
 }
 
+/* Takes a line of the pitch, if the text begins with one, and gives the pitch. What begins otherwise is left for the next line. */
+static uint32_t read_pitch(struct reading *reading) {
+    static const struct {
+        const char *line;
+        size_t length;
+        uint32_t pitch;
+    } heads[3] = {{"pitch=2\n", 8, 2}, {"pitch=5\n", 8, 5}, {"pitch=10\n", 9, 10}};
+    size_t left = (size_t)(reading->end - reading->at);
+    if (left < 9 || reading->at[1] != 'i') return 1;
+    for (size_t h = 0; h < 3; h++) {
+        if (memcmp(reading->at, heads[h].line, heads[h].length) != 0) continue;
+        reading->at += heads[h].length;
+        reading->line++;
+        return heads[h].pitch;
+    }
+    return 1;
+}
+
 /* Reads all lines; on 0 the line due is wrong. */
 static int read_lines(struct reading *reading, uint32_t *words, size_t *points, uint16_t *corners, size_t *triangles) {
     return read_count(reading, "points=", POINTS, points) && read_points(reading, words, *points)
@@ -782,23 +842,26 @@ static int read_lines(struct reading *reading, uint32_t *words, size_t *points, 
 
 /* The text is read into a room of its own, since a refusal leaves the lent ones as they were. */
 uint32_t baseline_read(const uint8_t *text, size_t text_length, uint32_t *words, size_t words_length, uint16_t *corners,
-                       size_t corners_length, size_t *place, size_t *words_read, size_t *corners_read) {
+                       size_t corners_length, size_t *place, size_t *words_read, size_t *corners_read, uint32_t *pitch) {
     uint32_t own_words[WORDS];
     uint16_t own_corners[CORNERS];
     size_t ended = text_length, points, triangles;
     *words_read = *corners_read = 0;
+    *pitch = 0;
     while (ended > 0 && text[ended - 1] != '\n') ended--;
     struct reading reading = {text, text + ended, 1};
+    uint32_t own_pitch = read_pitch(&reading);
     if (!read_lines(&reading, own_words, &points, own_corners, &triangles)) return answer(10, reading.line, place);
     if (reading.at != text + text_length) return answer(10, reading.line, place);
     if (words_length < 3 * points) return answer(3, 1, place);
     if (corners_length < 3 * triangles) return answer(3, 2, place);
-    const struct surface surface = {own_words, 3 * points, own_corners, 3 * triangles};
+    const struct surface surface = {own_words, 3 * points, own_corners, 3 * triangles, own_pitch};
     if (refuse_corners(&surface, place) != 0) return 4;
     memcpy(words, own_words, 3 * points * sizeof *words);
     memcpy(corners, own_corners, 3 * triangles * sizeof *corners);
     *words_read = 3 * points;
     *corners_read = 3 * triangles;
+    *pitch = own_pitch;
     return 0;
 }
 
@@ -888,13 +951,14 @@ static uint16_t count_digits(uint16_t value) {
     return (uint16_t)(5 - (value < 10) - (value < 100) - (value < 1000) - (value < 10000));
 }
 
-/* How long the text is: two counts with their keys, the point lines, and triangle lines of a key, three numbers and their marks. The digits
-   of all corners are at most 15,360, so that they are counted in the corners' own 16 bits. */
+/* How long the text is: a line of the pitch where it is not 1, two counts with their keys, the point lines, and triangle lines of a key,
+   three numbers and their marks. The digits of all corners are at most 15,360, so that they are counted in the corners' own 16 bits. */
 static size_t text_needed(const struct surface *surface) {
     size_t points = surface->words_count / 3, triangles = surface->corners_count / 3;
     uint16_t digits = 0;
     for (size_t c = 0; c < surface->corners_count; c++) digits = (uint16_t)(digits + count_digits(surface->corners[c]));
-    return 8 + count_digits((uint16_t)points) + LINE * points + 11 + count_digits((uint16_t)triangles) + 5 * triangles + digits;
+    size_t head = surface->pitch == 1 ? 0 : surface->pitch == 10 ? 9 : 8;
+    return head + 8 + count_digits((uint16_t)points) + LINE * points + 11 + count_digits((uint16_t)triangles) + 5 * triangles + digits;
 }
 
 static inline uint8_t *write_key(uint8_t *at, const char *key) {
@@ -1003,14 +1067,15 @@ static void write_triangles(uint8_t *at, const uint16_t *corners, size_t count) 
 }
 
 uint32_t baseline_write(const uint32_t *words, size_t words_count, const uint16_t *corners, size_t corners_count,
-                        uint8_t *text, size_t text_length, size_t *place, size_t *bytes) {
-    const struct surface surface = {words, words_count, corners, corners_count};
+                        uint8_t *text, size_t text_length, size_t *place, size_t *bytes, uint32_t pitch) {
+    const struct surface surface = {words, words_count, corners, corners_count, pitch};
     *bytes = 0;
-    uint32_t number = refuse_counts(words_count, corners_count, place);
+    uint32_t number = refuse_counts(words_count, corners_count, pitch, place);
     if (number != 0) return number;
     size_t needed = text_needed(&surface);
     if (text_length < needed) return answer(3, 1, place);
     if (refuse_corners(&surface, place) != 0) return 4;
+    if (pitch != 1) text = write_decimal(write_key(text, "pitch="), pitch, '\n');
     uint8_t *at = write_decimal(write_key(text, "points="), (uint32_t)(words_count / 3), '\n');
     at = write_points(at, words, words_count);
     at = write_decimal(write_key(at, "triangles="), (uint32_t)(corners_count / 3), '\n');

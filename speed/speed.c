@@ -3,7 +3,7 @@
                                      the files of facets and on that many made ones of each; what the archive does not export is left out.
    speed count FILE...               calls both on each file; before each call, which is counted (speed/calls.h), it prints the side, the
                                      work and the file's name.
-   speed make FOLDER SEED            writes the full sheets and the files of facets into a folder.
+   speed make FOLDER SEED            writes the full sheets, sheets at every pitch and the files of facets into a folder.
    A file is one of facets where its name ends in .stl, and a sheet elsewhere. */
 #include <inttypes.h>
 #include <stdint.h>
@@ -20,6 +20,7 @@
 #include "wazelpunt.h"
 
 /* An archive that lacks one of these is linked all the same; the function is then null. */
+#pragma weak wazelpunt_survey
 #pragma weak wazelpunt_patch
 #pragma weak wazelpunt_judge
 #pragma weak wazelpunt_read
@@ -30,6 +31,7 @@
 
 struct side {
     const char *name;
+    __typeof__(baseline_survey) *survey;
     __typeof__(baseline_patch) *patch;
     __typeof__(baseline_check) *check;
     __typeof__(baseline_read) *read;
@@ -40,8 +42,8 @@ struct side {
 #define SIDES 2
 
 static const struct side sides[SIDES] = {
-    {"ours", wazelpunt_patch, wazelpunt_judge, wazelpunt_read, wazelpunt_write, wazelpunt_read_stl},
-    {"baseline", baseline_patch, baseline_check, baseline_read, baseline_write, baseline_read_stl},
+    {"ours", wazelpunt_survey, wazelpunt_patch, wazelpunt_judge, wazelpunt_read, wazelpunt_write, wazelpunt_read_stl},
+    {"baseline", baseline_survey, baseline_patch, baseline_check, baseline_read, baseline_write, baseline_read_stl},
 };
 
 /* Everything that is lent, each between guards. */
@@ -57,7 +59,7 @@ struct lent {
     uint8_t text[REFERENCE_LONGEST_TEXT + 2 * GUARD];
 };
 
-/* An answer: number, place, and up to three counts. */
+/* An answer: number, place, and up to three counts, or two and the pitch of a sheet that was read. */
 struct answer {
     size_t number, place, counts[3];
 };
@@ -77,18 +79,33 @@ static struct answer due;
 
 /* ---- The works, by a side or, where it is null, by the reference ---- */
 
+static void work_survey(const struct side *side, struct lent *l, struct answer *a) {
+    const struct generated_surface *s = &surface;
+    const size_t *n = s->lent;
+    if (side != 0) {
+        a->number = side->survey(s->words, s->word_count, s->corners, s->corner_count, l->grid + GUARD, n[0], l->rings + GUARD, n[1],
+                                 l->lengths + GUARD, n[2], &a->place, &a->counts[0], &a->counts[1], s->pitch);
+        return;
+    }
+    struct reference_answer r;
+    reference_survey(s->words, s->word_count, s->corners, s->corner_count, l->grid + GUARD, n[0], l->rings + GUARD, n[1],
+                     l->lengths + GUARD, n[2], s->pitch, &r);
+    *a = (struct answer){r.number, r.place, {r.loops, r.vertices, 0}};
+}
+
 static void work_patch(const struct side *side, struct lent *l, struct answer *a) {
     const struct generated_surface *s = &surface;
     const size_t *n = s->lent;
     if (side != 0) {
         a->number = side->patch(s->words, s->word_count, s->corners, s->corner_count, l->grid + GUARD, n[0], l->rings + GUARD, n[1],
                                 l->lengths + GUARD, n[2], l->states + GUARD, n[3], l->weights + GUARD, n[4], l->patches + GUARD, n[5],
-                                &a->place, &a->counts[0], &a->counts[1], &a->counts[2]);
+                                &a->place, &a->counts[0], &a->counts[1], &a->counts[2], s->pitch);
         return;
     }
     struct reference_patch_answer r;
     reference_patch(s->words, s->word_count, s->corners, s->corner_count, l->grid + GUARD, n[0], l->rings + GUARD, n[1],
-                    l->lengths + GUARD, n[2], l->states + GUARD, n[3], l->weights + GUARD, n[4], l->patches + GUARD, n[5], &r);
+                    l->lengths + GUARD, n[2], l->states + GUARD, n[3], l->weights + GUARD, n[4], l->patches + GUARD, n[5], s->pitch,
+                    &r);
     *a = (struct answer){r.number, r.place, {r.loops, r.vertices, r.corners}};
 }
 
@@ -98,35 +115,37 @@ static void work_check(const struct side *side, struct lent *l, struct answer *a
     if (side != 0) {
         a->number = side->check(s->words, s->word_count, s->corners, s->corner_count, set.states, set.state_count, set.corners,
                                 set.corner_count, l->grid + GUARD, n[0], l->rings + GUARD, n[1], l->lengths + GUARD, n[2],
-                                &a->place, &a->counts[0], &a->counts[1]);
+                                &a->place, &a->counts[0], &a->counts[1], s->pitch);
         return;
     }
     struct reference_answer r;
     reference_check(s->words, s->word_count, s->corners, s->corner_count, set.states, set.state_count, set.corners, set.corner_count,
-                    l->grid + GUARD, n[0], l->rings + GUARD, n[1], l->lengths + GUARD, n[2], &r);
+                    l->grid + GUARD, n[0], l->rings + GUARD, n[1], l->lengths + GUARD, n[2], s->pitch, &r);
     *a = (struct answer){r.number, r.place, {r.loops, r.vertices, 0}};
 }
 
 static void work_read(const struct side *side, struct lent *l, struct answer *a) {
     if (side != 0) {
+        uint32_t pitch = 77;
         a->number = side->read(text, text_length, l->words + GUARD, words_lent, l->corners + GUARD, corners_lent,
-                               &a->place, &a->counts[0], &a->counts[1]);
+                               &a->place, &a->counts[0], &a->counts[1], &pitch);
+        a->counts[2] = pitch;
         return;
     }
     struct reference_read_answer r;
     reference_read(text, text_length, l->words + GUARD, words_lent, l->corners + GUARD, corners_lent, &r);
-    *a = (struct answer){r.number, r.place, {r.words, r.corners, 0}};
+    *a = (struct answer){r.number, r.place, {r.words, r.corners, r.pitch}};
 }
 
 static void work_write(const struct side *side, struct lent *l, struct answer *a) {
     const struct generated_surface *s = &surface;
     if (side != 0) {
         a->number = side->write(s->words, s->word_count, s->corners, s->corner_count, l->text + GUARD, text_lent,
-                                &a->place, &a->counts[0]);
+                                &a->place, &a->counts[0], s->pitch);
         return;
     }
     struct reference_write_answer r;
-    reference_write(s->words, s->word_count, s->corners, s->corner_count, l->text + GUARD, text_lent, &r);
+    reference_write(s->words, s->word_count, s->corners, s->corner_count, l->text + GUARD, text_lent, s->pitch, &r);
     *a = (struct answer){r.number, r.place, {r.bytes, 0, 0}};
 }
 
@@ -141,17 +160,19 @@ static void work_read_stl(const struct side *side, struct lent *l, struct answer
     *a = (struct answer){r.number, r.place, {r.words, r.corners, 0}};
 }
 
-enum { PATCH, CHECK, READ, WRITE, READ_STL, WORKS };
+enum { SURVEY, PATCH, CHECK, READ, WRITE, READ_STL, WORKS };
 
 static const struct {
     const char *name;
     void (*by)(const struct side *, struct lent *, struct answer *);
     int of_facets; /* it is done on a file of facets, and not on a sheet */
 } works[WORKS] = {
-    {"patch", work_patch, 0}, {"check", work_check, 0}, {"read", work_read, 0}, {"write", work_write, 0}, {"read_stl", work_read_stl, 1}};
+    {"survey", work_survey, 0}, {"patch", work_patch, 0}, {"check", work_check, 0},
+    {"read", work_read, 0}, {"write", work_write, 0}, {"read_stl", work_read_stl, 1}};
 
 static int has(const struct side *side, size_t work) {
     switch (work) {
+    case SURVEY: return side->survey != 0;
     case PATCH: return side->patch != 0;
     case CHECK: return side->check != 0;
     case READ: return side->read != 0;
@@ -162,7 +183,7 @@ static int has(const struct side *side, size_t work) {
 
 /* ---- Comparing ---- */
 
-#define HIGHEST WAZELPUNT_MISFIT
+#define HIGHEST WAZELPUNT_NO_PITCH
 
 static size_t compared[SIDES][WORKS], wrong, met[WORKS][HIGHEST + 1];
 
@@ -279,6 +300,27 @@ static void compare_made(size_t many, uint64_t seed) {
     }
 }
 
+/* ---- Sheets at every pitch ---- */
+
+/* As many points as there may be: alone, so that little more is done than to lay the grid, on a closed surface, and on a plate with holes;
+   each at every pitch, which but at 1 has its line in the text. At 1 the last two are full sheets anyway. Gives the name, or 0 where there
+   is no such sheet. */
+static const char *make_pitched(struct generator *generator, size_t number) {
+    static const char *const kinds[3] = {"points", "closed", "plate with holes of 10"};
+    static const size_t full[3] = {0, 0, 11};
+    static const uint32_t pitches[4] = {1, 2, 5, 10};
+    static char name[64];
+    size_t kind = number < 4 ? 0 : (number - 1) / 3, p = number < 4 ? number : 1 + (number - 1) % 3;
+    if (kind >= 3) return 0;
+    sheet_make(generator, full[kind], &surface, pitches[p]);
+    if (kind == 0) {
+        surface.corner_count = 0;
+        generate_lend_exactly(&surface);
+    }
+    snprintf(name, sizeof name, "%s at %" PRIu32, kinds[kind], pitches[p]);
+    return name;
+}
+
 /* ---- Files ---- */
 
 static size_t read_file(const char *path, uint8_t *room, size_t size) {
@@ -307,6 +349,7 @@ static int load(const char *path) {
     } else {
         text_length = read_file(path, text, sizeof text);
         reference_read(text, text_length, surface.words, words_lent, surface.corners, corners_lent, &read);
+        surface.pitch = (uint32_t)read.pitch;
         surface.word_count = read.words;
         surface.corner_count = read.corners;
         for (size_t b = 0; b < GENERATE_BUFFERS; b++) surface.lent[b] = SIZE_MAX;
@@ -327,7 +370,8 @@ static void compare_full(uint64_t seed) {
     const char *name;
     generate_start(&generator, seed);
     fill(&generator);
-    for (size_t sheet = 0; (name = sheet_make(&generator, sheet, &surface)) != 0; sheet++) compare_sheet(name, seed);
+    for (size_t sheet = 0; (name = sheet_make(&generator, sheet, &surface, 1)) != 0; sheet++) compare_sheet(name, seed);
+    for (size_t sheet = 0; (name = make_pitched(&generator, sheet)) != 0; sheet++) compare_sheet(name, seed);
     for (size_t file = 0; (name = file_make(file, facets, &facets_length)) != 0; file++) compare_facets(name, seed);
 }
 
@@ -405,7 +449,11 @@ static int run_make(const char *folder, uint64_t seed) {
     struct generator generator;
     const char *name;
     generate_start(&generator, seed);
-    for (size_t sheet = 0; (name = sheet_make(&generator, sheet, &surface)) != 0; sheet++) {
+    for (size_t sheet = 0; (name = sheet_make(&generator, sheet, &surface, 1)) != 0; sheet++) {
+        text_length = generate_sheet_text(&surface, text);
+        if (!make_file(folder, name, "sheet", text, text_length)) return 1;
+    }
+    for (size_t sheet = 0; (name = make_pitched(&generator, sheet)) != 0; sheet++) {
         text_length = generate_sheet_text(&surface, text);
         if (!make_file(folder, name, "sheet", text, text_length)) return 1;
     }

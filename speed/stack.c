@@ -1,8 +1,8 @@
 /* How much stack each exported function takes at most: it is called on a stack that was painted before, and what is no longer painted was
    used. The stack that an empty call takes is taken off.
-   stack COUNT SEED  measures on the full sheets, on plates whose hole is closed by a fan, on the files of facets that are counted, and on
-                     that many made surfaces, sets, texts and files of facets; then, of the functions that patch or judge, by the longest
-                     loop that a sheet has to patch.
+   stack COUNT SEED  measures on the full sheets at every pitch, on plates whose hole is closed by a fan, on the files of facets that are
+                     counted, and on that many made surfaces, sets, texts and files of facets; then, of the functions that patch or judge,
+                     by the longest loop that a sheet has to patch.
    stack sheet       prints one of these plates as a sheet text.
    stack facets      prints the file of facets with the most points. */
 #include <inttypes.h>
@@ -35,6 +35,7 @@ static uint64_t weights[GENERATE_CORNER_ROOM];
 static uint16_t patches[3 * GENERATE_CORNER_ROOM];
 static float floats[9];
 static size_t place, first, second, third;
+static uint32_t pitch;
 
 #define SURFACE surface.words, surface.word_count, surface.corners, surface.corner_count
 #define SURVEYED grid, GENERATE_WORD_ROOM, rings, GENERATE_CORNER_ROOM, lengths, GENERATE_CORNER_ROOM
@@ -44,27 +45,27 @@ static void work_none(void) {}
 static void work_coordinate(void) {
     int32_t whole;
     uint32_t rest;
-    for (size_t w = 0; w < surface.word_count; w++) wazelpunt_coordinate(surface.words[w], &whole, &rest);
+    for (size_t w = 0; w < surface.word_count; w++) wazelpunt_coordinate(surface.words[w], &whole, &rest, surface.pitch);
 }
 
 static void work_survey(void) {
-    wazelpunt_survey(SURFACE, SURVEYED, &place, &first, &second);
+    wazelpunt_survey(SURFACE, SURVEYED, &place, &first, &second, surface.pitch);
 }
 
 static void work_patch(void) {
-    wazelpunt_patch(SURFACE, SURVEYED, states, GENERATE_CORNER_ROOM, weights, GENERATE_CORNER_ROOM, patches, 3 * GENERATE_CORNER_ROOM, &place, &first, &second, &third);
+    wazelpunt_patch(SURFACE, SURVEYED, states, GENERATE_CORNER_ROOM, weights, GENERATE_CORNER_ROOM, patches, 3 * GENERATE_CORNER_ROOM, &place, &first, &second, &third, surface.pitch);
 }
 
 static void work_judge(void) {
-    wazelpunt_judge(SURFACE, set.states, set.state_count, set.corners, set.corner_count, SURVEYED, &place, &first, &second);
+    wazelpunt_judge(SURFACE, set.states, set.state_count, set.corners, set.corner_count, SURVEYED, &place, &first, &second, surface.pitch);
 }
 
 static void work_read(void) {
-    wazelpunt_read(text, text_length, words, GENERATE_WORD_ROOM, corners, GENERATE_SET_ROOM, &place, &first, &second);
+    wazelpunt_read(text, text_length, words, GENERATE_WORD_ROOM, corners, GENERATE_SET_ROOM, &place, &first, &second, &pitch);
 }
 
 static void work_write(void) {
-    wazelpunt_write(SURFACE, out, sizeof out, &place, &first);
+    wazelpunt_write(SURFACE, out, sizeof out, &place, &first, surface.pitch);
 }
 
 static void work_read_set(void) {
@@ -165,6 +166,7 @@ static void make_fan(size_t apex) {
     static const uint16_t frame[3] = {64, 65, 66};
     uint16_t ring[64];
     memset(&surface, 0, sizeof surface);
+    surface.pitch = 1;
     for (size_t v = 0; v < 64; v++) {
         int32_t x = (int32_t)((v + 64 - apex) % 64);
         put(v, x, 1000 + (x - 32) * (x - 32));
@@ -193,7 +195,7 @@ static void print_kind(const char *kind, struct generator *generator, void (*mak
 }
 
 static void make_named(struct generator *generator, const char *name) {
-    for (size_t sheet = 0; strcmp(sheet_make(generator, sheet, &surface), name) != 0; sheet++) continue;
+    for (size_t sheet = 0; strcmp(sheet_make(generator, sheet, &surface, 1), name) != 0; sheet++) continue;
 }
 
 static void make_closed(struct generator *generator) { make_named(generator, "closed"); }
@@ -201,8 +203,8 @@ static void make_fours(struct generator *generator) { make_named(generator, "pla
 static void make_sixes(struct generator *generator) { make_named(generator, "128 holes of 6"); }
 static void make_longest(struct generator *generator) { make_named(generator, "plate with holes closed by fans"); }
 static void make_small(struct generator *generator) { make_named(generator, "plate with a hole of 8"); }
-static void make_sixteens(struct generator *generator) { sheet_make_pair(generator, &surface, 16, 16, 0); }
-static void make_seventeens(struct generator *generator) { sheet_make_pair(generator, &surface, 17, 17, 0); }
+static void make_sixteens(struct generator *generator) { sheet_make_pair(generator, &surface, 16, 16, 0, 1); }
+static void make_seventeens(struct generator *generator) { sheet_make_pair(generator, &surface, 17, 17, 0, 1); }
 
 static void print_kinds(struct generator *generator) {
     printf("\n%-26s %11s %11s %11s %11s\n", "bytes by the holes", "patch", "judge", "list_text", "judge_texts");
@@ -220,6 +222,7 @@ static int print(const uint8_t *bytes, size_t length) {
 }
 
 int main(int argc, char **argv) {
+    static const uint32_t pitches[] = {1, 2, 5, 10};
     size_t count = argc > 1 ? strtoul(argv[1], 0, 10) : 200;
     uint64_t seed = argc > 2 ? strtoull(argv[2], 0, 10) : 1;
     struct generator generator;
@@ -232,7 +235,8 @@ int main(int argc, char **argv) {
         return print(facets, facets_length);
     }
     generate_start(&generator, seed);
-    for (size_t sheet = 0; sheet_make(&generator, sheet, &surface) != 0; sheet++) measure_on(&generator);
+    for (size_t p = 0; p < sizeof pitches / sizeof *pitches; p++)
+        for (size_t sheet = 0; sheet_make(&generator, sheet, &surface, pitches[p]) != 0; sheet++) measure_on(&generator);
     for (size_t apex = 0; apex < 64; apex++) {
         make_fan(apex);
         measure_on(&generator);

@@ -15,7 +15,7 @@ MOST_BYTES = 300_000
 STATES = {1: 'patched', 2: 'long', 3: 'open', 4: 'rim'}
 # in these no triangle pierces another, so it can be told at each spot which one is seen
 PLAIN = {'box', 'cube', 'cube-with-a-hole-behind', 'cube-without-its-lid', 'cube-with-two-holes', 'relief', 'many-holes', 'far', 'tall',
-         'cone', 'flat-relief'}
+         'cone', 'flat-relief', 'relief-at-2', 'relief-at-5', 'relief-at-10'}
 NAMES = {
     b'quo"te\'s.sheet': 'quo"te\'s.sheet',
     b'a<b&c>d.sheet': 'a<b&c>d.sheet',
@@ -88,7 +88,7 @@ def heights_told(points, triangles):
     return (f'heights × {larger}' if larger > 1 else f'heights ÷ {smaller}' if smaller > 1 else None), larger, smaller
 
 
-def try_legend(tally, what, panel, listing, triangles):
+def try_legend(tally, what, panel, listing, triangles, pitch):
     entries = panel.texts('legend')
     due = states_told(listing)
     if not listing.states:
@@ -98,7 +98,7 @@ def try_legend(tally, what, panel, listing, triangles):
     if 'back side' in entries:
         tally.true(f'{what}, back sides', any(face.kind == 'b' for face in panel.faces), 'are in the legend, and none is drawn')
     extra = [text for text in entries if text not in due + ['hidden', 'back side'] and not text.startswith('(')]
-    tally.same(f'{what}, other entries of the legend', extra, [])
+    tally.same(f'{what}, other entries of the legend', extra, [f'pitch {pitch}'] if pitch != 1 else [])
 
 
 def try_numbers(tally, what, panel, listing):
@@ -120,7 +120,7 @@ def try_numbers(tally, what, panel, listing):
 
 def try_panel(tally, what, panel, text, listing, plan):
     """One panel against its sheet."""
-    points, triangles = numbers_of(text)
+    points, triangles, pitch = numbers_of(text)
     size = f'{plural(len(points), "point", "points")}, {plural(len(triangles), "triangle", "triangles")}, '
     size += plural(len(listing.states), 'loop', 'loops')
     tally.same(f'{what}, the line below the name', panel.text('sizes').partition(';')[0], size)
@@ -133,7 +133,7 @@ def try_panel(tally, what, panel, text, listing, plan):
     told = heights_told(points, triangles)
     tally.same(f'{what}, heights', panel.text('strong'), None if plan else told[0])
     tally.same(f'{what}, points', panel.dots, len(points) if not triangles or panel.has('all points lie in one place') else 0)
-    try_legend(tally, what, panel, listing, triangles)
+    try_legend(tally, what, panel, listing, triangles, pitch)
     try_numbers(tally, what, panel, listing)
     tally.true(f'{what}, size', not triangles or panel.fills_area(), 'is less than there is room for')
     if what.split(',')[0] in PLAIN:

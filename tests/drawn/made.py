@@ -1,29 +1,35 @@
 """Sheets for pictures: at the limits of what a sheet may be, and some that are easy to judge by eye."""
 import struct
+from fractions import Fraction
 
 GREATEST = 32767
 
 
-def text_of(points, triangles):
-    """The text of a sheet with these points, of whole numbers, and these triangles."""
+def text_of(points, triangles, pitch=1):
+    """The text of a sheet with these points, of whole numbers, and these triangles, at a pitch."""
     def word(number):
         return struct.pack('>f', float(number)).hex()
 
-    lines = [f'points={len(points)}'] + ['p=' + ','.join(map(word, point)) for point in points]
+    lines = [f'pitch={pitch}'] if pitch != 1 else []
+    lines += [f'points={len(points)}'] + ['p=' + ','.join(map(word, point)) for point in points]
     lines += [f'triangles={len(triangles)}'] + ['t=' + ','.join(map(str, triangle)) for triangle in triangles]
     return ('\n'.join(lines) + '\n').encode()
 
 
 def numbers_of(text):
-    """The points and the triangles of a sheet's text, the points rounded as the grid is: to the nearest, a tie to the even one."""
-    points, triangles = [], []
+    """The points and the triangles of a sheet's text and its pitch, the points rounded as the grid is: to the nearest multiple of the
+    pitch, a tie to the even multiple."""
+    points, triangles, pitch = [], [], 1
     for line in text.decode().split('\n'):
         key, _, rest = line.partition('=')
-        if key == 'p':
-            points.append(tuple(round(struct.unpack('>f', bytes.fromhex(word))[0]) for word in rest.split(',')))
+        if key == 'pitch':
+            pitch = int(rest)
+        elif key == 'p':
+            values = (Fraction(struct.unpack('>f', bytes.fromhex(word))[0]) for word in rest.split(','))
+            points.append(tuple(round(value / pitch) * pitch for value in values))
         elif key == 't':
             triangles.append(tuple(map(int, rest.split(','))))
-    return points, triangles
+    return points, triangles, pitch
 
 
 CUBE = [(x, y, z) for z in (0, 100) for y in (0, 100) for x in (0, 100)]
@@ -107,5 +113,11 @@ def made():
         'islands': ([(40 * (k // 3 % 32) + 12 * (k % 3), 40 * (k // 96) + 15 * (k % 3 // 2), k % 7) for k in range(1023)],
                     [(k, k + 1, k + 2) for k in range(0, 1023, 3)]),
         'fan': ([(0, 0, 500)] + [(k * 10, (k * k) % 977, (k * 37) % 100) for k in range(1, 1024)], fan),
+        # on a coarser grid: far out, with squares that are no squares any more, and where all points go to one place
+        'relief-at-2': (*plate(8, 8, 43, wave, {(3, 3), (6, 2)}), 2),
+        'relief-at-5': (*plate(8, 8, 43, wave, {(3, 3), (6, 2)}), 5),
+        'relief-at-10': (*plate(8, 8, 43, wave, {(3, 3), (6, 2)}), 10),
+        'far-at-10': ([tuple(number * 32765 // far for number in corner) for corner in corners], [(0, 1, 2), (0, 2, 3), (0, 3, 1)], 10),
+        'one-place-at-5': ([(11, 9, 12), (12, 8, 10), (9, 12, 11)], [(0, 1, 2)], 5),
     }
     return {name: text_of(*sheet) for name, sheet in sheets.items()}

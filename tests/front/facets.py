@@ -5,6 +5,7 @@ FRONT, FACET = 84, 50  # the bytes before the first facet, and those of a facet
 MOST = 1024  # facets, and points
 LONGEST = FRONT + FACET * MOST
 NAN, INFINITE, MINUS_ZERO = 0x7fc00000, 0x7f800000, 0x80000000
+SHEET_BEGINS = b'points=', b'pitch='
 
 
 def word(value):
@@ -57,8 +58,8 @@ def surface(data):
     return list(points), triangles
 
 
-def imported(data):
-    """What importing prints."""
+def imported(data, pitch=1):
+    """What importing prints, and what the front does at another pitch."""
     if not is_well_sized(data):
         return answer(16)
     if count_of(data) > MOST:
@@ -66,7 +67,8 @@ def imported(data):
     points, triangles = surface(data)
     if len(points) > MOST:
         return answer(1)
-    lines = [f'points={len(points)}'] + ['p={:08x},{:08x},{:08x}'.format(*point) for point in points]
+    lines = [f'pitch={pitch}'] if pitch != 1 else []
+    lines += [f'points={len(points)}'] + ['p={:08x},{:08x},{:08x}'.format(*point) for point in points]
     lines += [f'triangles={len(triangles)}'] + ['t={},{},{}'.format(*three) for three in triangles]
     return ('\n'.join(lines) + '\n').encode()
 
@@ -85,7 +87,7 @@ def is_taken_for_stl(name, data):
     """Whether what is given for a sheet is a binary STL file."""
     if is_well_sized(data):
         return True
-    if unmarked(data).startswith(b'points=') or is_ascii_stl(data):
+    if unmarked(data).startswith(SHEET_BEGINS) or is_ascii_stl(data):
         return False
     return b'\0' in data[:LONGEST + 1] or name.lower().endswith('.stl')
 
@@ -95,8 +97,15 @@ def counts_of(text):
     return [int(line.split(b'=')[1]) for line in text.split(b'\n') if line.startswith((b'points=', b'triangles='))]
 
 
+def pitch_of(text):
+    """The pitch of a sheet's text whose first line is right."""
+    first = text.split(b'\n')[0]
+    return int(first.split(b'=')[1]) if first.startswith(b'pitch=') else 1
+
+
 def made_of(name, text):
-    """What is said of a file that is read: `wazelpunt: part.stl: binary STL, 12 facets, 8 points`."""
+    """What is said of a file that is read: `wazelpunt: part.stl: binary STL, 12 facets, 8 points`, and behind that the pitch, if not 1."""
     points, facets = counts_of(text)
+    pitch = f', pitch {pitch_of(text)}' if pitch_of(text) != 1 else ''
     return (f'wazelpunt: {name}: binary STL, {facets:,} facet{"" if facets == 1 else "s"}, '
-            f'{points:,} point{"" if points == 1 else "s"}').encode()
+            f'{points:,} point{"" if points == 1 else "s"}{pitch}').encode()

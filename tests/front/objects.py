@@ -4,7 +4,7 @@ import os
 import shutil
 
 from calls import HOME, read, write
-from facets import count_of, counts_of, imported, is_taken_for_stl, surface
+from facets import count_of, counts_of, imported, is_taken_for_stl, pitch_of, surface
 
 STATES = {1: 'patched', 2: 'long', 3: 'open', 4: 'rim'}
 # names that are odd in a string or in a line; from b'\xff\xfe' on they are not UTF-8
@@ -26,7 +26,7 @@ def object_of(listing, sheet, with_patches):
     if number != 0:
         return due
     counts = counts_of(sheet)
-    due.update(points=counts[0], triangles=counts[1], left_open=[], loops=[])
+    due.update(points=counts[0], triangles=counts[1], pitch=pitch_of(sheet), left_open=[], loops=[])
     for key, value in lines[2:]:
         if key == 'loop':
             length, state, weight = numbers(value)
@@ -158,8 +158,8 @@ def try_plate(front, tally, folder):
     """Objects that are fixed to the byte."""
     for ending in ('sheet', 'patches'):
         shutil.copy(f'{HOME}/examples/plate.{ending}', folder)
-    due = (b'{"file":"plate.sheet","answer":{"number":0,"place":0,"sentence":"done"},"points":6,"triangles":6,"left_open":[],"loops":['
-           b'{"length":3,"state":4,"name":"rim","weight":0,"ring":[0,1,2]},'
+    due = (b'{"file":"plate.sheet","answer":{"number":0,"place":0,"sentence":"done"},"points":6,"triangles":6,"pitch":1,"left_open":[],'
+           b'"loops":[{"length":3,"state":4,"name":"rim","weight":0,"ring":[0,1,2]},'
            b'{"length":3,"state":1,"name":"patched","weight":100,"ring":[4,3,5]}]}\n')
     got = front('list', '--json', 'plate.sheet', cwd=folder)
     tally.same('list --json plate.sheet', (got.status, got.out, got.err), (0, due, b''))
@@ -175,6 +175,11 @@ def try_plate(front, tally, folder):
     got = front('list', '--json', '--patches', 'plate.sheet', cwd=folder)
     found = parsed(tally, 'list --json --patches', got.out)
     tally.same('the patches of the plate', [loop.get('patches') for loop in found[0]['loops']] if found else None, [[], [[4, 5, 3]]])
+    due = (b'{"file":"schoolroom.sheet","answer":{"number":0,"place":0,"sentence":"done"},"points":8,"triangles":8,"pitch":5,'
+           b'"left_open":[],"loops":[{"length":4,"state":4,"name":"rim","weight":0,"ring":[0,1,2,3],"patches":[]},'
+           b'{"length":4,"state":1,"name":"patched","weight":1500,"ring":[5,4,7,6],"patches":[[5,6,4],[4,6,7]]}]}\n')
+    got = front('list', '--json', '--patches', 'schoolroom.sheet', cwd=f'{HOME}/examples')
+    tally.same('list --json --patches schoolroom.sheet', (got.status, got.out, got.err), (0, due, b''))
 
 
 def try_odd_names(front, tally, folder):

@@ -115,11 +115,11 @@ def try_programs(front, tally, case, room):
 
 
 def longest():
-    """The longest sheet and the longest set. Any corners of four digits do for reading; the second triangle of the sheet runs along an edge
-    of the first."""
+    """The longest sheet, of a pitch of two digits, and the longest set. Any corners of four digits do for reading; the second triangle of
+    the sheet runs along an edge of the first."""
     def corners(count):
         return f'triangles={count}\n' + ''.join(f't={1000 + i % 24},{1000 + (i + 1) % 24},{1000 + (i + 2) % 24}\n' for i in range(count))
-    sheet = 'points=1024\n' + ''.join(f'p={3 * i:08x},{3 * i + 1:08x},{3 * i + 2:08x}\n' for i in range(1024)) + corners(1024)
+    sheet = 'pitch=10\npoints=1024\n' + ''.join(f'p={3 * i:08x},{3 * i + 1:08x},{3 * i + 2:08x}\n' for i in range(1024)) + corners(1024)
     return sheet.encode(), ('states=1024\n' + 's=4\n' * 1024 + corners(3072)).encode()
 
 
@@ -131,11 +131,11 @@ def try_longest(front, tally, room):
     for name, text in (('sheet', sheet), ('set', patches), ('small', read(f'{HOME}/examples/plate.sheet'))):
         for what, changed in (('', text), (' and a byte', text + b'\n'), (' without its end', text[:-1])):
             files[name + what] = write(os.path.join(room, name + what), changed)
-    for arguments, answer in ((['list', 'sheet'], '6,3'), (['list', 'sheet and a byte'], '10,2051'),
-                              (['list', 'sheet without its end'], '10,2050'), (['rewrite', 'sheet and a byte'], '10,2051'),
-                              (['rewrite', 'sheet without its end'], '10,2050'),
-                              (['check', 'sheet', 'set'], '6,3'), (['check', 'sheet', 'set and a byte'], '10,6149'),
-                              (['check', 'sheet', 'set without its end'], '10,6148'), (['check', 'sheet and a byte', 'set'], '10,2051'),
+    for arguments, answer in ((['list', 'sheet'], '6,3'), (['list', 'sheet and a byte'], '10,2052'),
+                              (['list', 'sheet without its end'], '10,2051'), (['rewrite', 'sheet and a byte'], '10,2052'),
+                              (['rewrite', 'sheet without its end'], '10,2051'),
+                              (['check', 'sheet', 'set'], '6,3'), (['check', 'sheet', 'set and a byte'], '10,6150'),
+                              (['check', 'sheet', 'set without its end'], '10,6149'), (['check', 'sheet and a byte', 'set'], '10,2052'),
                               (['check', 'small', 'set'], '9,2'), (['check', 'small', 'set and a byte'], '10,4113')):
         got = front(arguments[0], '-q', *(files[name] for name in arguments[1:]))
         tally.same(f'{arguments}', (got.status, got.out), (1, f'answer={answer}\n'.encode()))

@@ -7,6 +7,7 @@ import shlex
 import subprocess
 import threading
 import time
+from fractions import Fraction
 
 from calls import HOME, read, write
 from facets import (FACET, FRONT, INFINITE, LONGEST, MINUS_ZERO, MOST, NAN, answer, apart, count_of, counts_of, grid, imported,
@@ -97,7 +98,8 @@ def try_headers(bench):
     """What begins as something else, whole and cut, with a NUL byte and without: the order of the rules, and the names' endings."""
     headers = [b'solid part', b'SOLID', b' \t solid x', b'\nsolid\n', b'solidus', b'\xef\xbb\xbf \nSolid_', b' \xef\xbb\xbfsolid',
                b'\xef\xbb\xbf', b'soli', b'points=3\n', b'points=', b'states=1\n', b'answer=0,0\n', b'ply\n', b'OFF\n', b'v 1 2 3\n',
-               b'\x1f\x8b\x08', b'\xef\xbb\xbfpoints=0\n', b'\xff\xfep\0', b'p=', b'\n', b'facet', b'-']
+               b'\x1f\x8b\x08', b'\xef\xbb\xbfpoints=0\n', b'\xff\xfep\0', b'p=', b'\n', b'facet', b'-', b'pitch=5\n', b'pitch=', b'pitch',
+               b'\xef\xbb\xbfpitch=3\n']
     files = []
     for number, header in enumerate(headers):
         filled = header + b' ' * (80 - len(header))
@@ -366,6 +368,90 @@ def try_several(bench):
                           'answer': {'number': 0, 'place': 0, 'sentence': 'done'}, 'left_open': []}))
 
 
+# a box whose corners lie off every grid but the finest, two of them on a tie of pitch 5, and a facet of which one number is too far at some
+OFF_GRID = [tuple((x + 2.5, y - 0.25, z + 1.75 * x) for x, y, z in facet) for facet in PLATE]
+FURTHEST = {32767.0: (1, 5), 32766.5: (1, 2, 5), 32765.0: (1, 2, 5, 10), -32765.001953125: (1, 2, 5), -32767.498046875: (1, 5), 32767.5: (),
+            32785.0: (), -32772.5: ()}
+
+
+def try_pitches(bench):
+    """Files at each pitch: the text has its line, and everything is printed, said and drawn as of that text."""
+    bench.write('cut.stl', stl(PLATE)[:-1])
+    files = {'plate.stl': stl(PLATE), 'off.stl': stl(OFF_GRID), 'empty.stl': stl([]), 'large.stl': stl(grid(31, 31)[:MOST]),
+             'points.stl': stl(apart(342)), 'facets.stl': stl(apart(MOST + 1)), 'cut.stl': stl(PLATE)[:-1], 'twice.stl': stl(WHOLE[:1] * 2),
+             'nan.stl': stl([((0, 0, NAN), (0, 1, 0), (1, 0, 0))])}
+    for name, data in files.items():
+        bench.write(name, data)
+    listings = set()
+    for pitch in (1, 2, 5, 10):
+        for name, data in files.items():
+            text = imported(data, pitch)
+            refused = text.startswith(b'answer=')
+            for command in ('import', 'rewrite'):
+                got = bench.call(command, '--pitch', str(pitch), name)
+                bench.tally.same(f'{command} of {name} at pitch {pitch}', (got.status, got.out), (1 if refused else 0, text))
+                if not refused:
+                    bench.tally.same(f'what {command} says of {name} at pitch {pitch}', got.err, made_of(name, text) + b'\n')
+            listing = text if refused else bench.ask('list', text)
+            for names, given in (([name], None), (['-'], data)):
+                got = bench.call('list', '-q', f'--pitch={pitch}', *names, given=given)
+                bench.tally.same(f'list of {name} at pitch {pitch}, {names}', got.out, listing)
+            bench.tally.same(f'its status, {name} at pitch {pitch}', got.status, 0 if listing.startswith(b'answer=0,0') else 1)
+            if listing.startswith(b'answer=0,0'):
+                try_pitched_as_text(bench, name, text, pitch)
+        listings.add(bench.call('list', '-q', '--pitch', str(pitch), 'off.stl').out)
+        try_furthest(bench, pitch)
+    bench.tally.same('how many listings one file has at four pitches', len(listings), 4)
+    bench.tally.same('without a pitch it is 1', bench.call('list', 'off.stl').out, bench.call('list', '--pitch=1', 'off.stl').out)
+    # a text that is no sheet's is told as ever, and not that it says its pitch
+    bench.write('ascii.stl', b'solid x\nendsolid x\n')
+    bench.write('other.sheet', b'states=0\n')
+    for name in ('ascii.stl', 'other.sheet'):
+        plain, pitched = bench.call('list', name), bench.call('list', '--pitch', '5', name)
+        bench.tally.same(f'{name} at a pitch', (pitched.status, pitched.out, pitched.err), (1, b'answer=10,1\n', plain.err))
+
+
+def try_pitched_as_text(bench, name, text, pitch):
+    """Objects, pictures, sets and what is said of a file at a pitch are those of its text."""
+    option = f'--pitch={pitch}'
+    sheet = bench.write(f'{name}.sheet', text)
+    patches = bench.write(f'{name}.patches', set_of(bench.ask('list', text)))
+    found, due = (json.loads(bench.call('list', '--json', '--patches', *words).out) for words in ((option, name), (sheet,)))
+    bench.tally.same(f'the object of {name} at pitch {pitch}: its pitch', found.get('pitch'), pitch)
+    for each in (found, due):
+        each.pop('stl', None)
+        del each['file']
+    bench.tally.same(f'the object of {name} at pitch {pitch}', found, due)
+    drawn, of_text = bench.call('draw', option, name).out, bench.call('draw', sheet).out
+    is_same = drawn.replace(name.encode(), sheet.encode()) == of_text
+    bench.tally.true(f'the picture of {name} at pitch {pitch}', is_same, 'is not that of its text')
+    bench.tally.same(f'the pitch in the picture of {name} at pitch {pitch}', b'>pitch %d<' % pitch in drawn, pitch != 1)
+    said = bench.call('list', option, name).err
+    loops = bench.call('list', sheet).err.partition(b': pitch %d: ' % pitch if pitch != 1 else b'.sheet: ')[2]
+    bench.tally.same(f'what is said of {name} at pitch {pitch}', said, made_of(name, text) + b': ' + loops)
+    got = bench.call('check', '-q', option, name, patches)
+    bench.tally.same(f'check of {name} at pitch {pitch}', (got.status, got.out, got.err), (0, b'answer=0,0\n', b''))
+    # the lines of a set are counted on from the text's last
+    wrong = bench.write('wrong.patches', b'states=x\n')
+    got = bench.call('check', '-q', option, name, wrong)
+    bench.tally.same(f'a wrong set of {name} at pitch {pitch}', got.out, b'answer=10,%d\n' % (text.count(b'\n') + 1))
+
+
+def try_furthest(bench, pitch):
+    """How far the grid reaches at a pitch, by facets that are refused with 8, which are told with the multiple."""
+    for value, pitches in FURTHEST.items():
+        name = bench.write('far.stl', stl([((0.0, 0.0, 0.0), (10.0, 0.0, 0.0), (0.0, value, 0.0))]))
+        got = bench.call('list', '--pitch', str(pitch), name)
+        if pitch in pitches:
+            bench.tally.same(f'{value} at pitch {pitch}', (got.status, got.out.split(b'\n')[0]), (0, b'answer=0,0'))
+            continue
+        bench.tally.same(f'{value} at pitch {pitch}', (got.status, got.out), (1, b'answer=8,7\n'))
+        multiple = round(Fraction(value) / pitch) * pitch
+        goes = f', which goes to {multiple:,} at pitch {pitch}' if pitch != 1 else ''
+        said, due = got.err.decode().split('\n')[0], f' is {value:.9g}{goes}: the grid goes from -32,767 to 32,767'
+        bench.tally.true(f'what is said of {value} at pitch {pitch}', said.endswith(due), said)
+
+
 def try_program(bench):
     """The program itself, against the front."""
     many = stl(apart(MOST + 1))
@@ -402,7 +488,7 @@ def front_out(bench, kind, data):
 def try_files(front, tally, room):
     """Everything of this file but the program."""
     bench = Bench(front, tally, room)
-    for part in (try_lengths, try_headers, try_points, try_made, try_long, try_said, try_several, try_named, try_example):
+    for part in (try_lengths, try_headers, try_points, try_made, try_long, try_said, try_several, try_pitches, try_named, try_example):
         part(bench)
     return bench
 

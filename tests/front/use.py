@@ -32,6 +32,8 @@ class Bench:
             self.make_set(name)
         shutil.copy(f'{cases}/set-declared-open.patches', f'{self.folder}/misdeclared.patches')
         shutil.copy(f'{cases}/set-declared-open.sheet', f'{self.folder}/misdeclared.sheet')
+        for name in ('box.stl', 'box.patches', 'schoolroom.sheet', 'schoolroom.patches'):
+            shutil.copy(f'{examples}/{name}', self.folder)
         self.plate = read(f'{self.folder}/plate.sheet')
         self.listing = read(f'{cases}/plate.listing')
 
@@ -111,6 +113,48 @@ def try_wrong_use(bench):
         bench.wrong_use(name, '-', 'plate.sheet', '-', given=bench.plate)
     bench.wrong_use('example', 'plate')
     bench.wrong_use('example', 'patches', 'patches')
+
+
+def try_wrong_pitches(bench):
+    """A pitch that is none is told with the four that there are, before anything is read; and a sheet's text takes none from outside."""
+    four = b'pitches are 1, 2, 5 and 10'
+    for command in ('list', 'check', 'rewrite', 'import', 'draw'):
+        for value in ('3', '0', '', '-5', '05', '+5', '5 ', '5.0', 'five', '20', '100', '15', '4294967297', '--', '--quiet', 'box.stl'):
+            bench.wrong_use(command, '--pitch', value, 'box.stl', says=[f'--pitch {value}'.encode(), four])
+            bench.wrong_use(command, 'box.stl', f'--pitch={value}', says=[four])
+        bench.wrong_use(command, 'box.stl', '--pitch', says=[b'--pitch', b'no value', four])
+        bench.wrong_use(command, '--pitch', '2', 'box.stl', '--pitch', '5', says=[b'twice', b'as 2 and as 5'])
+        bench.wrong_use(command, '--pitchy', 'box.stl', says=[b'unknown option', b'--pitchy'])
+        for pitch in ('1', '2', '5', '10'):
+            due = (0, bench.call(command, 'box.stl', '--pitch', pitch).out)
+            for arguments in ((f'--pitch={pitch}', 'box.stl'), ('--pitch', pitch, '--pitch', pitch, 'box.stl')):
+                got = bench.call(command, '-q', *arguments)
+                bench.tally.same(f'{command} {arguments}', (got.status, got.out, got.err), (*due, b''))
+            bench.right_use(due[1], f'--pitch={pitch}', command, '-q', 'box.stl')
+    for command in ('example', 'help'):
+        bench.wrong_use(command, '--pitch', '5', says=[command.encode(), b'has no option --pitch'])
+    # behind -- it is a name
+    bench.wrong_use('list', '--', '--pitch', '5', says=[b'--pitch: No such file', b'5: No such file'])
+    # the text says its own, also where it would be the same; whatever else is given is done
+    own = b'--pitch is for STL files, and this is the text of a sheet, which says its own pitch'
+    for name, pitch in (('plate.sheet', '1'), ('plate.sheet', '5'), ('schoolroom.sheet', '5'), ('schoolroom.sheet', '1'),
+                        ('refused.sheet', '2')):
+        for command in ('list', 'check', 'rewrite', 'draw'):
+            bench.wrong_use(command, '--pitch', pitch, name, says=[name.encode() + b': ' + own])
+        for command in ('list', 'rewrite', 'draw'):
+            text = read(f'{bench.folder}/{name}')
+            bench.wrong_use(command, '--pitch', pitch, '-', given=text, says=[b'standard input: ' + own])
+            bench.wrong_use(command, '--pitch', pitch, given=text, says=[b'standard input: ' + own])
+        got = bench.status(2, 'list', '-q', '--pitch', pitch, name, 'box.stl')
+        due = b'# box.stl\n' + bench.call('list', '-q', '--pitch', pitch, 'box.stl').out
+        bench.tally.true(f'list of {name} and another', got.out == due and own in got.err, repr(got))
+        got = bench.status(2, 'list', '--json', '--pitch', pitch, name)
+        bench.tally.true(f'list --json of {name}', got.out.startswith(b'{"file":"' + name.encode() + b'","error":"' + own), repr(got))
+        got = bench.status(2, 'draw', '-q', '--pitch', pitch, name, 'box.stl')
+        bench.tally.true(f'draw of {name} and another', got.out.count(b'<svg') == 1 and own in got.err, repr(got))
+    # import takes anything for an STL file, and so refuses a text as one
+    got = bench.status(1, 'import', '--pitch', '5', 'plate.sheet')
+    bench.tally.same('import of a text at a pitch', got.out, b'answer=16,0\n')
 
 
 def try_names(bench):
@@ -266,6 +310,6 @@ def try_terminal(bench):
 
 def try_use(front, tally, room):
     bench = Bench(front, tally, room)
-    for part in (try_help, try_wrong_use, try_names, try_sample, try_order, try_statuses, try_check_statuses, try_closed,
+    for part in (try_help, try_wrong_use, try_wrong_pitches, try_names, try_sample, try_order, try_statuses, try_check_statuses, try_closed,
                  try_refused_pictures, try_terminal):
         part(bench)

@@ -1,6 +1,6 @@
 /* calls LIBRARY SHEET PATCHES: loads the shared library and calls each of its functions by the header's declaration, on the texts of
    examples/plate: with lent buffers that are as long as the header's factors say and not a number longer, with each of them a number
-   shorter, and with nothing at all. The plate is made a file of facets besides, and so is the largest surface. */
+   shorter, with nothing at all, and at each pitch. The plate is made a file of facets besides, and so is the largest surface. */
 #include <dlfcn.h>
 #include <stdio.h>
 #include <string.h>
@@ -89,32 +89,36 @@ static uint16_t states[WAZELPUNT_STATES_FOR(C)], patches[WAZELPUNT_PATCHES_FOR(C
 static uint64_t weights[WAZELPUNT_WEIGHTS_FOR(C)];
 static size_t place, first, second, third;
 
+/* The pitch at which everything is called, and what reading leaves. */
+static uint32_t pitch = 1, pitch_read;
+
 /* Each with lent buffer `less` a number shorter; none is if that is 0. */
 static size_t but(size_t length, int buffer, int less) { return length - (buffer == less); }
 
 static uint32_t do_survey(int less)
 {
     return survey(words, W, corners, C, grid, but(LENGTH(grid), 1, less), rings, but(LENGTH(rings), 2, less), lengths,
-                  but(LENGTH(lengths), 3, less), &place, &first, &second);
+                  but(LENGTH(lengths), 3, less), &place, &first, &second, pitch);
 }
 
 static uint32_t do_patch(int less)
 {
     return patch(words, W, corners, C, grid, but(LENGTH(grid), 1, less), rings, but(LENGTH(rings), 2, less), lengths,
                  but(LENGTH(lengths), 3, less), states, but(LENGTH(states), 4, less), weights, but(LENGTH(weights), 5, less), patches,
-                 but(LENGTH(patches), 6, less), &place, &first, &second, &third);
+                 but(LENGTH(patches), 6, less), &place, &first, &second, &third, pitch);
 }
 
 static uint32_t do_judge(int less)
 {
     return judge(words, W, corners, C, set_states, LENGTH(set_states), set_corners, LENGTH(set_corners), grid, but(LENGTH(grid), 1, less),
-                 rings, but(LENGTH(rings), 2, less), lengths, but(LENGTH(lengths), 3, less), &place, &first, &second);
+                 rings, but(LENGTH(rings), 2, less), lengths, but(LENGTH(lengths), 3, less), &place, &first, &second, pitch);
 }
 
 static uint32_t do_read(int less)
 {
+    pitch_read = 77;
     return read_sheet(sheet, sheet_length, words, but(LENGTH(words), 1, less), corners, but(LENGTH(corners), 2, less), &place, &first,
-                      &second);
+                      &second, &pitch_read);
 }
 
 static uint32_t do_read_set(int less)
@@ -125,7 +129,7 @@ static uint32_t do_read_set(int less)
 
 static uint8_t written[WAZELPUNT_SHEET_BYTES], listing[WAZELPUNT_LISTING_BYTES], answer[WAZELPUNT_ANSWER_BYTES];
 
-static uint32_t do_write(int less) { return write_sheet(words, W, corners, C, written, but(sheet_length, 1, less), &place, &first); }
+static uint32_t do_write(int less) { return write_sheet(words, W, corners, C, written, but(sheet_length, 1, less), &place, &first, pitch); }
 static uint32_t do_list(int less) { return list_text(sheet, sheet_length, listing, but(LENGTH(listing), 1, less), &place, &first); }
 static uint32_t do_rewrite(int less) { return rewrite_text(sheet, sheet_length, written, but(LENGTH(written), 1, less), &place, &first); }
 static uint32_t do_judge_texts(int less)
@@ -151,6 +155,7 @@ static void call_numbers(void)
 {
     fits("read", do_read, 2);
     expect("18 words and corners are read", first == W && second == C && words[3] == 0x41f00000 && corners[17] == 5);
+    expect("at pitch 1, and at none where it is refused", pitch_read == 1 && do_read(2) == WAZELPUNT_BUFFER && pitch_read == 0);
     fits("survey", do_survey, 3);
     expect("two loops of three", first == 2 && second == 6 && lengths[0] == 3 && lengths[1] == 3);
     expect("their rings, and the grid", rings[2] == 2 && rings[3] == 4 && rings[5] == 5 && grid[3] == 30 && grid[17] == 0);
@@ -299,7 +304,7 @@ static void call_files(void)
                                                 == WAZELPUNT_BUFFER && place == 1);
     fits("import_stl", do_import, 1);
     expect("its text", do_read_stl(0) == 0 && do_import(0) == 0
-                           && write_sheet(file_words, W, file_corners, C, listing, LENGTH(listing), &place, &second) == 0
+                           && write_sheet(file_words, W, file_corners, C, listing, LENGTH(listing), &place, &second, 1) == 0
                            && first == second && memcmp(written, listing, first) == 0 && written[first] == 0);
     file_length++;
     expect("a byte too many", do_read_stl(0) == WAZELPUNT_MISFIT && place == 0 && first == 0 && second == 0 && file_words[0] == 0x77777777);
@@ -342,11 +347,12 @@ static void call_sizes(void)
 static void call_with_nothing(void)
 {
     place = first = second = third = 77;
-    expect("no surface", survey(words, 0, corners, 0, grid, 0, rings, 0, lengths, 0, &place, &first, &second) == 0 && first == 0);
+    expect("no surface", survey(words, 0, corners, 0, grid, 0, rings, 0, lengths, 0, &place, &first, &second, 1) == 0 && first == 0);
     expect("no patches", patch(words, 0, corners, 0, grid, 0, rings, 0, lengths, 0, states, 0, weights, 0, patches, 0, &place, &first,
-                               &second, &third) == 0 && third == 0);
-    expect("no set", judge(words, 0, corners, 0, states, 0, set_corners, 0, grid, 0, rings, 0, lengths, 0, &place, &first, &second) == 0);
-    expect("no text", read_sheet(sheet, 0, words, 0, corners, 0, &place, &first, &second) == WAZELPUNT_LINE && place == 1);
+                               &second, &third, 1) == 0 && third == 0);
+    expect("no set", judge(words, 0, corners, 0, states, 0, set_corners, 0, grid, 0, rings, 0, lengths, 0, &place, &first, &second, 1)
+                         == 0);
+    expect("no text", read_sheet(sheet, 0, words, 0, corners, 0, &place, &first, &second, &pitch_read) == WAZELPUNT_LINE && place == 1);
     expect("no text of a set", read_set(set, 0, 0, states, 0, corners, 0, &place, &first, &second) == WAZELPUNT_LINE && place == 1);
     expect("no text to list", list_text(sheet, 0, listing, LENGTH(listing), &place, &first) == 0 && holds(listing, first, "answer=10,1\n"));
     expect("no texts to judge", judge_texts(sheet, 0, set, 0, answer, LENGTH(answer), &place, &first) == 0);
@@ -361,13 +367,145 @@ static void call_with_nothing(void)
     no_facet_at(84, 9);
 }
 
+static int32_t whole;
+static uint32_t rest;
+
+static uint32_t do_coordinate(uint32_t word, uint32_t at_pitch)
+{
+    whole = 77;
+    rest = 77;
+    return coordinate(word, &whole, &rest, at_pitch);
+}
+
+static void call_coordinates(void)
+{
+    expect("1.5 goes to 2", do_coordinate(0x3fc00000, 1) == 0 && whole == 2 && rest == 0xbf000000);
+    expect("3 goes to 4 at pitch 2", do_coordinate(0x40400000, 2) == 0 && whole == 4 && rest == 0xbf800000);
+    expect("-7.5 goes to -10 at pitch 5", do_coordinate(0xc0f00000, 5) == 0 && whole == -10 && rest == 0x40200000);
+    expect("5 goes to 0 at pitch 10", do_coordinate(0x40a00000, 10) == 0 && whole == 0 && rest == 0x40a00000);
+    expect("32,767 is too far at pitch 2", do_coordinate(0x46fffe00, 2) == WAZELPUNT_TOO_FAR && whole == 0 && rest == 0x46fffe00);
+    expect("32,765 is not at pitch 10", do_coordinate(0x46fffa00, 10) == 0 && whole == 32760 && rest == 0x40a00000);
+    expect("what follows it is", do_coordinate(0x46fffa01, 10) == WAZELPUNT_TOO_FAR && whole == 0 && rest == 0x46fffa01);
+    for (uint32_t no_pitch = 0; no_pitch < 300; no_pitch++) {
+        int is_pitch = no_pitch == 1 || no_pitch == 2 || no_pitch == 5 || no_pitch == 10;
+        expect("no pitch", is_pitch || (do_coordinate(0x7f800000, no_pitch) == WAZELPUNT_NO_PITCH && whole == 0 && rest == 0));
+    }
+    expect("a pitch modulo 2^8 or 2^16", do_coordinate(0, 258) == WAZELPUNT_NO_PITCH && do_coordinate(0, 65537) == WAZELPUNT_NO_PITCH
+                                             && do_coordinate(0, UINT32_MAX) == WAZELPUNT_NO_PITCH);
+}
+
+/* What is refused for its pitch is refused before all else, and everything stays. */
+static void call_without_pitch(void)
+{
+    static const uint32_t others[] = {0, 3, 4, 6, 9, 11, 20, 258, 65541, UINT32_MAX};
+    for (size_t o = 0; o < LENGTH(others); o++) {
+        pitch = others[o];
+        place = first = second = third = 77;
+        memset(grid, 0x77, sizeof grid);
+        written[0] = 77;
+        expect("survey without a pitch", do_survey(1) == WAZELPUNT_NO_PITCH && place == 0 && first == 0 && second == 0);
+        place = first = second = third = 77;
+        expect("patch without a pitch", do_patch(1) == WAZELPUNT_NO_PITCH && place == 0 && first == 0 && second == 0 && third == 0);
+        place = first = second = 77;
+        expect("judge without a pitch", do_judge(1) == WAZELPUNT_NO_PITCH && place == 0 && first == 0 && second == 0);
+        place = first = 77;
+        expect("write without a pitch", do_write(1) == WAZELPUNT_NO_PITCH && place == 0 && first == 0);
+        expect("and nothing is changed", grid[0] == 0x77777777 && grid[W - 1] == 0x77777777 && written[0] == 77);
+        place = 77;
+        expect("17 before 1", survey(words, 1, corners, 1, grid, 0, rings, 0, lengths, 0, &place, &first, &second, pitch)
+                                      == WAZELPUNT_NO_PITCH && place == 0);
+    }
+    pitch = 1;
+}
+
+/* The plate at each pitch: its grid and its patch's weight, and its text, which begins with the pitch and reads back with it. */
+static void call_at(uint32_t at_pitch, const char *line, int32_t inner, uint64_t weight)
+{
+    size_t head = strlen(line), longer = sheet_length + head;
+    pitch = at_pitch;
+    expect("the grid at a pitch", do_survey(0) == 0 && grid[3] == 30 && grid[9] == inner && grid[17] == 0);
+    fits("patch at a pitch", do_patch, 6);
+    expect("the weight at a pitch", weights[1] == weight && states[1] == WAZELPUNT_PATCHED);
+    set_states[1] = WAZELPUNT_PATCHED;
+    fits("judge at a pitch", do_judge, 3);
+    expect("the text at a pitch", write_sheet(words, W, corners, C, written, longer, &place, &first, pitch) == 0 && first == longer
+                                      && memcmp(written, line, head) == 0 && memcmp(written + head, sheet, sheet_length) == 0);
+    expect("has no room in a byte less", write_sheet(words, W, corners, C, written, longer - 1, &place, &first, pitch) == WAZELPUNT_BUFFER
+                                             && place == 1 && first == 0);
+    expect("reads back", read_sheet(written, longer, words, W, corners, C, &place, &first, &second, &pitch_read) == 0 && first == W
+                             && second == C && pitch_read == at_pitch);
+    pitch = 1;
+}
+
+/* The functions over texts go by the pitch that the text says. */
+static void call_texts_at_a_pitch(void)
+{
+    static uint8_t coarse[sizeof sheet + 9];
+    size_t length = sheet_length + 9;
+    memcpy(coarse, "pitch=10\n", 9);
+    memcpy(coarse + 9, sheet, sheet_length);
+    expect("rewritten at a pitch", rewrite_text(coarse, length, written, LENGTH(written), &place, &first) == 0 && first == length
+                                       && memcmp(written, coarse, length) == 0);
+    /* the hole's points (5,5), (15,5) and (5,15) go to (0,0), (20,0) and (0,20) */
+    expect("listed at a pitch", list_text(coarse, length, listing, LENGTH(listing), &place, &first) == 0
+                                    && holds(listing, first, "answer=0,0\nloops=2\nloop=3,4,0\nring=0,1,2\nloop=3,1,400\nring=4,3,5\n"
+                                                             "patch=4,5,3\n"));
+    expect("judged at a pitch", judge_texts(coarse, length, set, set_length, answer, LENGTH(answer), &place, &first) == 0
+                                    && holds(answer, first, "answer=0,0\n"));
+    expect("a set's lines are counted on", judge_texts(coarse, length, set, 0, answer, LENGTH(answer), &place, &first) == 0
+                                               && holds(answer, first, "answer=10,16\n"));
+    coarse[6] = '2';
+    expect("a wrong pitch is a wrong line", list_text(coarse, length, listing, LENGTH(listing), &place, &first) == 0
+                                                && holds(listing, first, "answer=10,1\n"));
+}
+
+static void call_at_pitches(void)
+{
+    uint32_t kept[W];
+    memcpy(kept, words, sizeof kept);
+    words[9] = words[10] = 0x40f00000; /* point 3 at 7.5 and 7.5 */
+    words[13] = words[15] = 0x40f00000;
+    expect("the plate with a smaller hole", do_write(0) == 0 && first == sheet_length);
+    memcpy(sheet, written, sheet_length);
+    call_at(1, "", 8, 49);
+    call_at(2, "pitch=2\n", 8, 64);
+    call_at(5, "pitch=5\n", 10, 25);
+    call_at(10, "pitch=10\n", 10, 100);
+    memcpy(words, kept, sizeof kept);
+    do_write(0);
+    memcpy(sheet, written, sheet_length);
+}
+
+/* A hole of four edges in a rim, and the heavier of its two covers, which at pitch 5 weighs no more than the other. */
+#define HOLE \
+    "points=7\np=00000000,00000000,00000000\np=41200000,00000000,00000000\np=40400000,40400000,00000000\np=00000000,41200000,00000000\n" \
+    "p=c2480000,c2480000,00000000\np=42c80000,c2480000,00000000\np=c2480000,42c80000,00000000\n" \
+    "triangles=7\nt=0,1,4\nt=5,4,1\nt=1,2,5\nt=2,3,5\nt=6,5,3\nt=3,0,6\nt=4,6,0\n"
+#define HEAVIER "states=2\ns=1\ns=4\ntriangles=2\nt=0,3,1\nt=1,3,2\n"
+
+static int judged(const char *text, const char *due)
+{
+    return judge_texts((const uint8_t *)text, strlen(text), (const uint8_t *)HEAVIER, strlen(HEAVIER), answer, LENGTH(answer), &place,
+                       &first) == 0 && holds(answer, first, due);
+}
+
+/* What the judging weighs, it weighs on the grid of the sheet's own pitch. */
+static void call_judged_at_a_pitch(void)
+{
+    expect("a cover that is too heavy", judged(HOLE, "answer=14,0\n"));
+    expect("and at pitch 5 is not", judged("pitch=5\n" HOLE, "answer=0,0\n"));
+    expect("and at pitch 10 is again", judged("pitch=10\n" HOLE, "answer=14,0\n"));
+}
+
 int main(int count, char **names)
 {
-    int32_t whole = 77;
-    uint32_t rest = 77;
     if (count != 4 || !load(names[1]) || !load_texts(names[2], names[3])) return 1;
-    expect("1.5 goes to 2", coordinate(0x3fc00000, &whole, &rest) == 0 && whole == 2 && rest == 0xbf000000);
+    call_coordinates();
     call_numbers();
+    call_without_pitch();
+    call_at_pitches();
+    call_texts_at_a_pitch();
+    call_judged_at_a_pitch();
     call_facets();
     call_files();
     call_largest_files();

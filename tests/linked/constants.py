@@ -90,7 +90,7 @@ def main(printed):
     lines = pathlib.Path(printed).read_text(encoding="utf-8").splitlines()
     said = dict(line.split("=", 1) for line in lines)
     header = {name[len("WAZELPUNT_"):]: value for name, value in said.items() if name.startswith("WAZELPUNT_")}
-    sentences = [said[f"sentence {number}"] for number in range(19)]
+    sentences = [said[f"sentence {number}"] for number in range(20)]
 
     known = rattle_constants("base_types", "program_lines", "program_roll")
     known.update(defined_numbers("crates/stl_facets/specs/Facets.antt"))
@@ -106,14 +106,14 @@ def main(printed):
 
     answers = pathlib.Path("crates/base_answers/src/lib.rt").read_text(encoding="utf-8")
     numbers = re.findall(r"Answer::(\w+)(?:\(_\))? => (\d+),", answers.split("fn number", 1)[1].split("fn refuses", 1)[0])
-    expect("how many answers base_answers has", len(numbers), 17)
+    expect("how many answers base_answers has", len(numbers), 18)
     for name, number in numbers:
         expect(f"WAZELPUNT_{answer_name(name)}", header.pop(answer_name(name), None), number)
     for state in ("PATCHED", "LONG", "OPEN", "RIM"):
         expect(f"WAZELPUNT_{state}", header.pop(state), str(known[f"State::{state}"]))
 
-    expect("sentences of numbers 0 to 16 that are not like another", len(set(sentences[:17])), 17)
-    expect("sentences of other numbers", set(sentences[17:]), {"an answer that this header does not know"})
+    expect("sentences of numbers 0 to 17 that are not like another", len(set(sentences[:18])), 18)
+    expect("sentences of other numbers", set(sentences[18:]), {"an answer that this header does not know"})
 
     exports, functions = rattle_exports(), header_functions()
     expect("functions that are declared", sorted(functions), sorted(exports))
@@ -135,7 +135,7 @@ def main(printed):
     expect("VERSION of python/wazelpunt.py", module.get("VERSION"), header.pop("VERSION"))
     for name in due:
         expect(f"{name} of python/wazelpunt.py", str(module.get(name)), said["WAZELPUNT_" + name])
-    expect("the sentences of python/wazelpunt.py", module.get("_SENTENCES"), tuple(sentences[:17]))
+    expect("the sentences of python/wazelpunt.py", module.get("_SENTENCES"), tuple(sentences[:18]))
     expect("what header.c printed besides", header, {})
 
     print(f"{tried} tried, {wrong} wrong")

@@ -44,6 +44,7 @@ static void say_answers(void)
     SAY(WAZELPUNT_HEAVY);
     SAY(WAZELPUNT_LEFT_OVER);
     SAY(WAZELPUNT_MISFIT);
+    SAY(WAZELPUNT_NO_PITCH);
     SAY(WAZELPUNT_PATCHED);
     SAY(WAZELPUNT_LONG);
     SAY(WAZELPUNT_OPEN);
@@ -56,7 +57,7 @@ int main(void)
     say_limits();
     say_answers();
     /* one number more than there are answers, and the greatest */
-    for (uint32_t number = 0; number <= 17; number++) printf("sentence %u=%s\n", (unsigned)number, wazelpunt_sentence(number));
-    printf("sentence 18=%s\n", wazelpunt_sentence(UINT32_MAX));
+    for (uint32_t number = 0; number <= 18; number++) printf("sentence %u=%s\n", (unsigned)number, wazelpunt_sentence(number));
+    printf("sentence 19=%s\n", wazelpunt_sentence(UINT32_MAX));
     return wazelpunt_floats_are_default() ? 0 : 1;
 }

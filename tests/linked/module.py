@@ -18,6 +18,7 @@ import subprocess
 import sys
 import textwrap
 import threading
+from fractions import Fraction
 
 HOME = pathlib.Path(__file__).resolve().parent.parent.parent
 sys.dont_write_bytecode = True
@@ -29,6 +30,7 @@ from wazelpunt import Coordinate, PatchSet, Refusal, State, Surface, Verdict  # 
 
 CASES = HOME / "tests/programs/cases"
 PLATE = (HOME / "examples/plate.sheet").read_bytes()
+SCHOOLROOM = (HOME / "examples/schoolroom.sheet").read_bytes()
 TRIANGLE = [(0, 0, 0), (10, 0, 0), (0, 10, 0)]
 tried = wrong = 0
 
@@ -75,18 +77,24 @@ def answer_line(number, place):
     return f"answer={number},{place}\n".encode()
 
 
+def nearest(number, pitch):
+    """The nearest multiple of a pitch, a tie to the even one."""
+    return round(Fraction(number) / pitch) * pitch
+
+
 def try_surface(name, sheet, listing):
     """A sheet that is accepted, by way of objects."""
     surface = Surface.from_text(sheet)
     expect(f"{name}, written", surface.text(), sheet)
-    expect(f"{name}, from floats", Surface(surface.points, surface.triangles), surface)
+    expect(f"{name}, from floats", Surface(surface.points, surface.triangles, pitch=surface.pitch), surface)
     if not listing.startswith(b"answer=0,0"):
         expect(f"{name}, surveyed", answer_line(*refusal_of(surface.survey)), listing)
         expect(f"{name}, patched", answer_line(*refusal_of(surface.patch)), listing)
         return
     patched, survey = surface.patch(), surface.survey()
     expect(f"{name}, listed by objects", listing_of(patched), listing)
-    expect(f"{name}, its grid", patched.grid, tuple(tuple(map(round, point)) for point in surface.points))
+    grid = tuple(tuple(nearest(number, surface.pitch) for number in point) for point in surface.points)
+    expect(f"{name}, its grid", patched.grid, grid)
     expect(f"{name}, surveyed", (survey.grid, survey.rings), (patched.grid, tuple(loop.ring for loop in patched.loops)))
     verdict = surface.judge(patched.patch_set)
     expect(f"{name}, what is patched passes", (verdict, bool(verdict)), (Verdict(0, 0, survey.rings), True))
@@ -160,7 +168,7 @@ def try_refusals():
 
     # the module lends enough, so that 3 comes by no other way than this
     short = wazelpunt._lent(ctypes.c_uint8, len(PLATE) - 1)
-    expect("3", refusal_of(lambda: wazelpunt._get("write", *plate._given(), short, counts=1)), (3, 1))
+    expect("3", refusal_of(lambda: wazelpunt._get("write", *plate._given(), short, counts=1, last=ctypes.c_uint32(1))), (3, 1))
     given = wazelpunt._given_bytes(PLATE, "a text")
     expect("3, printed", refusal_of(lambda: wazelpunt._printed("list_text", wazelpunt.LISTING_BYTES - 1, given)), (3, 1))
     expect("3, imported", refusal_of(lambda: wazelpunt._printed("import_stl", wazelpunt.SHEET_BYTES - 1, given)), (3, 1))
@@ -316,6 +324,65 @@ def try_floats():
     expect_raised("a str", TypeError, "'1'", lambda: wazelpunt.coordinate("1"))
 
 
+# ---- Pitches ----
+
+
+def try_pitches():
+    """A surface goes by the pitch that it was read or made with, or by the one that is asked for."""
+    room = Surface.from_text(SCHOOLROOM)
+    expect("a text with a pitch", (room.pitch, room.text(), repr(room)), (5, SCHOOLROOM, "<Surface: 8 points, 8 triangles, pitch 5>"))
+    expect("one without", (Surface.from_text(PLATE).pitch, Surface().pitch, Surface.from_words([]).pitch), (1, 1, 1))
+    expect("the same points at pitch 1", room.text(pitch=1), SCHOOLROOM.partition(b"\n")[2])
+    expect("another pitch is another surface", Surface(room.points, room.triangles) == room, False)
+    expect("the same one", Surface(room.points, room.triangles, pitch=5), room)
+    expect("pickled", pickle.loads(pickle.dumps(room)), room)
+    for pitch in (1, 2, 5, 10):
+        own, asked = Surface(room.points, room.triangles, pitch=pitch), room.patch(pitch=pitch)
+        grid = tuple(tuple(nearest(number, pitch) for number in point) for point in room.points)
+        expect(f"grids at pitch {pitch}", [own.patch().grid, asked.grid, own.survey().grid, room.survey(pitch=pitch).grid], [grid] * 4)
+        expect(f"patched at pitch {pitch}", own.patch(), asked)
+        expect(f"listed at pitch {pitch}", listing_of(asked), wazelpunt.list_text(own.text()))
+        expect(f"judged at pitch {pitch}", [own.judge(asked.patch_set).passed, room.judge(asked.patch_set, pitch=pitch).passed], [True] * 2)
+        expect(f"written at pitch {pitch}", own.text(), room.text(pitch=pitch))
+        expect(f"read again at pitch {pitch}", Surface.from_text(own.text()), own)
+        of_file = Surface.from_stl(stl_of_surface(room), pitch=pitch)
+        met = tuple(grid[corner] for corner in dict.fromkeys(room.corners))
+        expect(f"a file at pitch {pitch}", (of_file.pitch, of_file.patch().grid), (pitch, met))
+        expect(f"the text of a file at pitch {pitch}", of_file.text().startswith(b"pitch=%d\n" % pitch), pitch > 1)
+    expect("the weights at two pitches", [room.patch(pitch=pitch).loops[1].weight for pitch in (5, 1)], [1500, 1484])
+    expect("the patch of one at the other", room.judge(room.patch().patch_set, pitch=1).number, 14)
+    expect("lines of a set after a pitch", wazelpunt.judge_texts(SCHOOLROOM, b"states=x\n"), answer_line(10, SCHOOLROOM.count(b"\n") + 1))
+    for number, pitch, due in [(2.5, 5, Coordinate(0, 2.5)), (7.5, 5, Coordinate(10, -2.5)), (-3, 2, Coordinate(-4, 1.0)),
+                               (32765, 10, Coordinate(32760, 5.0)), (32767.25, 5, Coordinate(32765, 2.25))]:
+        expect(f"{number} at pitch {pitch}", wazelpunt.coordinate(number, pitch=pitch), due)
+    for number, pitch, due in [(32767, 2, (8, 0)), (-32765.001953125, 10, (8, 0)), (math.inf, 10, (7, 0)), (math.nan, 3, (17, 0))]:
+        expect(f"{number} at pitch {pitch}", refusal_of(lambda x=number, p=pitch: wazelpunt.coordinate(x, pitch=p)), due)
+
+
+def try_wrong_pitches():
+    """17 comes before all else, of every number that is no pitch, also of one that cannot be handed over."""
+    wrong_one = Surface([0, 0, 0, 0], [0, 0])  # refused with 1 otherwise
+    for pitch in (0, 3, 4, 6, 11, 20, 257, 65537, -1, -5, (1 << 32) + 5, 1 << 80):
+        for what, call in [("survey", wrong_one.survey), ("patch", wrong_one.patch), ("text", wrong_one.text),
+                           ("judge", lambda pitch: wrong_one.judge(PatchSet(), pitch=pitch)),
+                           ("coordinate", lambda pitch: wazelpunt.coordinate(1, pitch=pitch)),
+                           ("made", lambda pitch: Surface(TRIANGLE, pitch=pitch).survey()),
+                           ("a file", lambda pitch: Surface.from_stl(stl_of([0] * 9), pitch=pitch).patch())]:
+            expect(f"{what}, pitch {pitch}", refusal_of(lambda ask=call, number=pitch: ask(pitch=number)), (17, 0))
+    for what, kind, words, call in [
+        ("a pitch that is a float", TypeError, "the pitch is no whole number: 5.0", lambda: Surface(pitch=5.0)),
+        ("a pitch in a str", TypeError, "the pitch", lambda: Surface.from_stl(stl_of([]), pitch="5")),
+        ("a pitch that is asked for, a float", TypeError, "the pitch", lambda: Surface().patch(pitch=2.0)),
+        ("a pitch that is no keyword", TypeError, "positional", lambda: Surface([], [], 5)),
+        ("a pitch of one coordinate that is none", TypeError, "the pitch", lambda: wazelpunt.coordinate(1, pitch=None)),
+    ]:
+        expect_raised(what, kind, words, call)
+    for text, due in [(b"pitch=3\n", (10, 1)), (b"pitch=1\n" + PLATE, (10, 1)), (b"pitch=05\n" + PLATE, (10, 1)), (b"pitch=2\n", (10, 2)),
+                      (b"pitch=2", (10, 1)), (b"pitch=2\npitch=2\n" + PLATE, (10, 2)), (b"pitch=10\n" + PLATE + b"\n", (10, 16)),
+                      (b"pitch=10\n" + PLATE.replace(b"t=1,4,3", b"t=1,6,3"), (4, 4))]:
+        expect(f"{text[:20]}, read", refusal_of(lambda given=text: Surface.from_text(given)), due)
+
+
 # ---- Files of facets ----
 
 
@@ -428,7 +495,7 @@ def try_usage(room):
         known = {}
         exec(re.sub(r'"(plate\.\w+)"', lambda name: repr(str(room / name[1])), usage), known)
     expect("what the usage prints", printed.getvalue().splitlines(), due)
-    expect("what the usage reads at last", known["surface"], Surface.from_stl((room / "plate.stl").read_bytes()))
+    expect("what the usage reads at last", known["surface"], Surface.from_stl((room / "plate.stl").read_bytes(), pitch=5))
 
 
 def try_threads():
@@ -467,7 +534,7 @@ def try_finding(room):
         os.makedirs(room / name)
     for name in ("alone", "beside", "installed/share/wazelpunt/python"):
         shutil.copy(HOME / "python/wazelpunt.py", room / name)
-    for name in ("beside/libwazelpunt.so", "system/libwazelpunt.so.1", "installed/lib/libwazelpunt.so.1"):
+    for name in ("beside/libwazelpunt.so", "system/libwazelpunt.so.2", "installed/lib/libwazelpunt.so.2"):
         shutil.copy(library, room / name)
     listing = (CASES / "plate.listing").read_bytes()
     command = ["-m", "wazelpunt", str(room / "plate.sheet")]
@@ -481,6 +548,10 @@ def try_finding(room):
     expect("one that is no library", (status, out, b"ImportError" in said, b"plate.sheet" in said), (1, b"", True, True))
     status, out, said = run(room / "alone", *command, environment={"WAZELPUNT_LIBRARY": "libc.so.6"})
     expect("another library", (status, out, b"ImportError" in said, b"wazelpunt_coordinate" in said), (1, b"", True, True))
+    # one from before there were pitches, whose functions pass over what is given behind all else
+    old = "class Old:\n def __call__(self, *given): return 0\n def __getattr__(self, name): return Old()\n"
+    status, out, said = run(room / "alone", "-c", f"import ctypes\n{old}ctypes.CDLL = lambda name: Old()\nimport wazelpunt")
+    expect("an older library", (status, out, b"ImportError" in said, b"knows no pitch" in said), (1, b"", True, True))
 
 
 def try_command(room):
@@ -510,7 +581,8 @@ def try_command_on_files(room):
         ("a byte less", data[:-1], (16, 0)), ("a byte more", data + b"\0", (16, 0)), ("1,025 points", counted_stl(1024, 1025), (1, 0)),
         ("the longest file and a byte", counted_stl(1024, 1024) + b"\0", (16, 0)), ("3,000 facets", counted_stl(3000, 3), (2, 0)),
         ("a facet that names a point twice", stl_of([0] * 9), (5, 0)), ("a sheet text with a NUL byte", PLATE + b"\0", (10, 15)),
-        ("a long text", PLATE + b"\n" * 100000, (10, 15)), ("nothing", b"", (10, 1)),
+        ("a long text", PLATE + b"\n" * 100000, (10, 15)), ("nothing", b"", (10, 1)), ("a pitch alone", b"pitch=5\n", (10, 2)),
+        ("a sheet text with a pitch and a NUL byte", SCHOOLROOM + b"\0", (10, 20)),
     ]:
         status, out, said = run(where, "-m", "wazelpunt", "-", input=given)
         expect(f"{what}, listed", (status, out, said.count(b"\n")), (1, answer_line(*due), 1))
@@ -525,6 +597,8 @@ try_buffers()
 try_wrong_types()
 try_far_corners()
 try_floats()
+try_pitches()
+try_wrong_pitches()
 try_files()
 try_wrong_files()
 try_sets()

@@ -4,6 +4,7 @@ its listing."""
 
 import struct
 import sys
+from fractions import Fraction
 
 STATES = {"1": "patched", "2": "long, left open", "3": "no allowed cover, left open", "4": "rim"}
 
@@ -13,12 +14,15 @@ def values(path):
         return [line.rstrip("\n").split("=") for line in file]
 
 
+lines = values(sys.argv[1])
+pitch = int(lines[0][1]) if lines[0][0] == "pitch" else 1
+print(f"pitch: {pitch}")
 point = triangle = 0
-for key, value in values(sys.argv[1]):
+for key, value in lines:
     if key == "p":
-        # round takes a tie to the even number, as the grid does
+        # round takes a tie to the even number, as the grid does to the even multiple
         floats = struct.unpack(">3f", bytes.fromhex(value.replace(",", "")))
-        print(f"point {point}:", *map(round, floats))
+        print(f"point {point}:", *(round(Fraction(number) / pitch) * pitch for number in floats))
         point += 1
     elif key == "t":
         print(f"triangle {triangle}:", *value.split(","))

@@ -1,6 +1,6 @@
 /* Compares wazelpunt_patch with the plain reference: the answer, the counts, and every byte of the six lent buffers with what lies
    before and behind them. It takes the scope's examples with what is said of them, as islands and as holes, rims and holes of every
-   length, full sheets, and made surfaces, sound and damaged.
+   length, full sheets, and made surfaces, sound and damaged, at every pitch.
    patches COUNT SEED: that many made surfaces, from that seed on. */
 #include <inttypes.h>
 #include <stdint.h>
@@ -31,7 +31,13 @@ static struct reference_patch_answer said, due;
 
 /* ---- What was met ---- */
 
-static size_t by_answer[9], by_state[5], long_rims, patched[REFERENCE_LONGEST_LOOP + 1], barred[REFERENCE_LONGEST_LOOP + 1], rims[REFERENCE_LONGEST_LOOP + 1];
+#define HIGHEST 17
+#define PITCHES 4
+
+/* the pitches, and how far a coordinate may be moved at each that stays at its multiple */
+static const int32_t pitches[PITCHES] = {1, 2, 5, 10}, within[PITCHES] = {0, 0, 2, 4};
+
+static size_t by_answer[HIGHEST + 1], by_state[5], weighed[PITCHES], long_rims, patched[REFERENCE_LONGEST_LOOP + 1], barred[REFERENCE_LONGEST_LOOP + 1], rims[REFERENCE_LONGEST_LOOP + 1];
 static unsigned char laid_between[REFERENCE_MOST_POINTS][REFERENCE_MOST_POINTS];
 
 static void mark(const uint16_t *patch, size_t count, unsigned char value) {
@@ -49,13 +55,15 @@ static int is_barred_by_a_patch(const uint16_t *ring, size_t length) {
     return 0;
 }
 
-/* Counts the answer and the loops by their states, and by their lengths the rims, those that are patched and those that a patch bars. */
-static void meet(void) {
+/* Counts the answer and the loops by their states, by the pitch those that are patched with a weight, and by their lengths the rims, those
+   that are patched and those that a patch bars. */
+static void meet(uint32_t pitch) {
     const uint16_t *ring = theirs.rings + GUARD, *patches = theirs.patches + GUARD, *patch = patches;
     by_answer[due.number]++;
     for (size_t l = 0; l < due.loops; l++) {
         size_t length = theirs.lengths[GUARD + l], state = theirs.states[GUARD + l];
         by_state[state]++;
+        for (size_t p = 0; p < PITCHES; p++) weighed[p] += pitch == (uint32_t)pitches[p] && theirs.weights[GUARD + l] > 0;
         if (state == 4 && length > REFERENCE_LONGEST_LOOP) long_rims++;
         if (state == 4 && length <= REFERENCE_LONGEST_LOOP) rims[length]++;
         if (state == 1 || state == 3) barred[length] += is_barred_by_a_patch(ring, length);
@@ -69,9 +77,11 @@ static void meet(void) {
     mark(patches, due.corners, 0);
 }
 
-/* Whether every answer and every state was met, rims of every length, and loops of every length that are patched, and that a patch bars. */
+/* Whether every answer and every state was met, holes with a weight at every pitch, rims of every length, and loops of every length that
+   are patched, and that a patch bars. */
 static int met_all(void) {
-    size_t missing = (patched[3] == 0) + (long_rims == 0);
+    size_t missing = (patched[3] == 0) + (long_rims == 0) + (by_answer[17] == 0);
+    for (size_t p = 0; p < PITCHES; p++) missing += weighed[p] < 200;
     for (size_t n = 0; n <= 8; n++) missing += by_answer[n] == 0;
     for (size_t s = 1; s <= 4; s++) missing += by_state[s] < 20;
     for (size_t n = 3; n <= REFERENCE_LONGEST_LOOP; n++) missing += rims[n] == 0;
@@ -91,8 +101,8 @@ static int same_answer(void) {
 static int agree(const struct generated_surface *s) {
     const size_t *lent = s->lent;
     ours = theirs = before;
-    said.number = wazelpunt_patch(s->words, s->word_count, s->corners, s->corner_count, ours.grid + GUARD, lent[0], ours.rings + GUARD, lent[1], ours.lengths + GUARD, lent[2], ours.states + GUARD, lent[3], ours.weights + GUARD, lent[4], ours.patches + GUARD, lent[5], &said.place, &said.loops, &said.vertices, &said.corners);
-    reference_patch(s->words, s->word_count, s->corners, s->corner_count, theirs.grid + GUARD, lent[0], theirs.rings + GUARD, lent[1], theirs.lengths + GUARD, lent[2], theirs.states + GUARD, lent[3], theirs.weights + GUARD, lent[4], theirs.patches + GUARD, lent[5], &due);
+    said.number = wazelpunt_patch(s->words, s->word_count, s->corners, s->corner_count, ours.grid + GUARD, lent[0], ours.rings + GUARD, lent[1], ours.lengths + GUARD, lent[2], ours.states + GUARD, lent[3], ours.weights + GUARD, lent[4], ours.patches + GUARD, lent[5], &said.place, &said.loops, &said.vertices, &said.corners, s->pitch);
+    reference_patch(s->words, s->word_count, s->corners, s->corner_count, theirs.grid + GUARD, lent[0], theirs.rings + GUARD, lent[1], theirs.lengths + GUARD, lent[2], theirs.states + GUARD, lent[3], theirs.weights + GUARD, lent[4], theirs.patches + GUARD, lent[5], s->pitch, &due);
     if (!same_answer()) return 0;
     if (memcmp(&ours, &theirs, sizeof ours) != 0) {
         printf("a buffer differs, answer %zu\n", due.number);
@@ -114,23 +124,24 @@ static size_t compare_made(size_t many, uint64_t seed) {
         else generate_surface(&generator, &surface);
         if (own % 16 == 0) fill(&before, sizeof before, &generator);
         if (!agree(&surface) && wrong++ < 10) printf("surface of seed %" PRIu64 "\n", own);
-        meet();
+        meet(surface.pitch);
     }
     return wrong;
 }
 
 /* ---- Full sheets ---- */
 
-static size_t compare_sheets(uint64_t seed, size_t *sheets) {
+/* All sheets at pitch 1, or each at one of the coarse pitches. */
+static size_t compare_sheets(uint64_t seed, size_t *sheets, int coarse) {
     static struct generated_surface surface;
     struct generator generator;
     const char *name;
     size_t wrong = 0;
     generate_start(&generator, seed);
     fill(&before, sizeof before, &generator);
-    for (*sheets = 0; (name = sheet_make(&generator, *sheets, &surface)) != 0; ++*sheets) {
+    for (*sheets = 0; (name = sheet_make(&generator, *sheets, &surface, coarse ? (uint32_t)pitches[1 + *sheets % 3] : 1)) != 0; ++*sheets) {
         if (!agree(&surface) || due.number != 0) {
-            printf("sheet \"%s\", answer %zu\n", name, due.number);
+            printf("sheet \"%s\" at pitch %" PRIu32 ", answer %zu\n", name, surface.pitch, due.number);
             wrong++;
         }
     }
@@ -176,20 +187,31 @@ static const struct example examples[] = {
     {"the greatest runs there are", 6, {-32767, -32767, -32767, 32767, 32767, 32767, -32767, -32767, -32767, 32767, 32767, 32767, -32767, -32767, -32767, 32767, 32767, 32766}, 18, {0, 1, 3, 1, 4, 3, 1, 2, 4, 2, 5, 4, 2, 0, 5, 0, 3, 5}, 2, {0, 1, 2, 4, 3, 5}, {3, 3}, {4, 1}, {0, 131068}, 3, {4, 5, 3}},
 };
 
-/* Whether the patcher leaves what is known of an example. */
-static int shows(const struct example *e) {
+/* The coordinates of an example in pitches in place of plate units, moved off their multiples where they come back. */
+static void place_in_pitches(struct generated_surface *s, const int16_t *at, size_t words, size_t p) {
+    s->pitch = (uint32_t)pitches[p];
+    for (size_t w = 0; w < words; w++) s->words[w] = sheet_word(at[w] * pitches[p] + (w % 2 == 0 ? within[p] : -within[p]));
+}
+
+/* Whether an example reaches so far that it is one at pitch 1 alone. */
+static int is_far(const struct example *e) { return e->points > 0 && e->at[0] == -REFERENCE_GREATEST_COORDINATE; }
+
+/* Whether the patcher leaves what is known of an example: weights are known in squares of the pitch. */
+static int shows(const struct example *e, size_t p) {
     static struct generated_surface surface;
     size_t vertices = 0;
+    uint64_t square = (uint64_t)(pitches[p] * pitches[p]);
     surface.word_count = 3 * e->points;
-    for (size_t w = 0; w < surface.word_count; w++) surface.words[w] = sheet_word(e->at[w]);
+    place_in_pitches(&surface, e->at, surface.word_count, p);
     surface.corner_count = e->corner_count;
     memcpy(surface.corners, e->corners, sizeof e->corners);
     generate_lend_exactly(&surface);
     for (size_t l = 0; l < e->loops; l++) vertices += e->lengths[l];
     int right = agree(&surface) && said.number == 0 && said.place == 0 && said.loops == e->loops && said.vertices == vertices && said.corners == e->laid;
-    for (size_t w = 0; w < surface.word_count; w++) right = right && ours.grid[GUARD + w] == e->at[w];
-    right = right && memcmp(ours.rings + GUARD, e->rings, vertices * sizeof *e->rings) == 0 && memcmp(ours.lengths + GUARD, e->lengths, e->loops * sizeof *e->lengths) == 0 && memcmp(ours.states + GUARD, e->states, e->loops * sizeof *e->states) == 0 && memcmp(ours.weights + GUARD, e->weights, e->loops * sizeof *e->weights) == 0 && memcmp(ours.patches + GUARD, e->patches, e->laid * sizeof *e->patches) == 0;
-    if (!right) printf("example \"%s\": answered %zu, %zu; %zu, %zu, %zu\n", e->name, said.number, said.place, said.loops, said.vertices, said.corners);
+    for (size_t w = 0; w < surface.word_count; w++) right = right && ours.grid[GUARD + w] == e->at[w] * pitches[p];
+    for (size_t l = 0; l < e->loops; l++) right = right && ours.weights[GUARD + l] == square * e->weights[l];
+    right = right && memcmp(ours.rings + GUARD, e->rings, vertices * sizeof *e->rings) == 0 && memcmp(ours.lengths + GUARD, e->lengths, e->loops * sizeof *e->lengths) == 0 && memcmp(ours.states + GUARD, e->states, e->loops * sizeof *e->states) == 0 && memcmp(ours.patches + GUARD, e->patches, e->laid * sizeof *e->patches) == 0;
+    if (!right) printf("example \"%s\" at pitch %" PRId32 ": answered %zu, %zu; %zu, %zu, %zu\n", e->name, pitches[p], said.number, said.place, said.loops, said.vertices, said.corners);
     return right;
 }
 
@@ -244,12 +266,13 @@ static const uint16_t *is_rim(const uint16_t *ring, size_t loop, size_t edges, i
 }
 
 /* Rings and frames take turns, since each collar begins with its ring; then come the islands. */
-static int shows_holes(const struct holes *e) {
+static int shows_holes(const struct holes *e, size_t p) {
     static struct generated_surface surface;
+    uint64_t square = (uint64_t)(pitches[p] * pitches[p]);
     const uint16_t *known = e->ring, *ring = ours.rings + GUARD;
     surface.word_count = 3 * (e->points + 3 * e->rings);
     surface.corner_count = 0;
-    for (size_t w = 0; w < 3 * e->points; w++) surface.words[w] = sheet_word(e->at[w]);
+    place_in_pitches(&surface, e->at, 3 * e->points, p);
     for (size_t r = 0; r < e->rings; known += e->lengths[r++]) close_in(&surface, known, e->lengths[r], e->points + 3 * r, 3);
     for (size_t b = 0; b < e->bars; b++) sheet_add_triangle(&surface, e->bar[3 * b], e->bar[3 * b + 1], e->bar[3 * b + 2]);
     generate_lend_exactly(&surface);
@@ -257,13 +280,13 @@ static int shows_holes(const struct holes *e) {
     known = e->ring;
     for (size_t r = 0; r < e->rings; r++) {
         size_t length = e->lengths[r];
-        right = right && ours.lengths[GUARD + 2 * r] == length && ours.states[GUARD + 2 * r] == e->states[r] && ours.weights[GUARD + 2 * r] == e->weights[r] && memcmp(ring, known, length * sizeof *ring) == 0;
+        right = right && ours.lengths[GUARD + 2 * r] == length && ours.states[GUARD + 2 * r] == e->states[r] && ours.weights[GUARD + 2 * r] == square * e->weights[r] && memcmp(ring, known, length * sizeof *ring) == 0;
         ring = is_rim(ring + length, 2 * r + 1, 3, &right);
         known += length;
     }
     for (size_t island = 0; island < e->islands; island++) ring = is_rim(ring, 2 * e->rings + island, 3, &right);
     right = right && memcmp(ours.patches + GUARD, e->patches, e->laid * sizeof *e->patches) == 0;
-    if (!right) printf("holes \"%s\": answered %zu, %zu; %zu, %zu, %zu\n", e->name, said.number, said.place, said.loops, said.vertices, said.corners);
+    if (!right) printf("holes \"%s\" at pitch %" PRId32 ": answered %zu, %zu; %zu, %zu, %zu\n", e->name, pitches[p], said.number, said.place, said.loops, said.vertices, said.corners);
     return right;
 }
 
@@ -274,6 +297,7 @@ static int shows_island(size_t n) {
     static struct generated_surface surface;
     uint16_t rim[REFERENCE_LONGEST_LOOP + 2];
     for (size_t r = 0; r < n; r++) rim[r] = (uint16_t)r;
+    surface.pitch = (uint32_t)pitches[n % PITCHES];
     surface.corner_count = 0;
     sheet_add_cone(&surface, rim, n, (uint16_t)n);
     surface.word_count = 3 * (n + 1);
@@ -289,6 +313,7 @@ static int shows_hole(size_t n, size_t edges) {
     static struct generated_surface surface;
     uint16_t ring[REFERENCE_LONGEST_LOOP + 2];
     for (size_t r = 0; r < n; r++) ring[r] = (uint16_t)r;
+    surface.pitch = (uint32_t)pitches[n % PITCHES];
     surface.corner_count = 0;
     memset(surface.words, 0, sizeof surface.words);
     close_in(&surface, ring, n, n, edges);
@@ -323,7 +348,7 @@ static size_t compare_pairs(uint64_t seed) {
     for (size_t pair = 0; pair < 2 * many * many; pair++) {
         size_t first = lengths[pair / 2 / many], second = lengths[pair / 2 % many];
         int shut = pair % 2 == 1;
-        sheet_make_pair(&generator, &surface, first, second, shut);
+        sheet_make_pair(&generator, &surface, first, second, shut, (uint32_t)pitches[(pair / 2 + pair / 2 / many) % PITCHES]);
         if (pair % 16 == 0) fill(&before, sizeof before, &generator);
         int right = agree(&surface) && said.number == 0;
         for (size_t l = 0, holes = 0; right && l < said.loops; l++) {
@@ -348,8 +373,10 @@ static int refuses(const struct generated_surface *s, size_t number, size_t plac
     return right;
 }
 
-/* A surface with every fault there is, which are mended one after the other: each refusal comes before the next. */
-static size_t compare_refusals(void) {
+/* A surface with every fault there is, which are mended one after the other: each refusal comes before the next. What is too far at any
+   pitch is so at that one. */
+static size_t compare_refusals(uint32_t pitch) {
+    static const uint32_t no_pitches[] = {0, 3, 4, 9, 11, 20, 257, 65538, 0x8000000a, 0xffffffff};
     static struct generated_surface s;
     static const uint16_t corners[12] = {0, 1, 2, 0, 2, 4, 3, 2, 3, 0, 1, 3};
     size_t wrong = 0;
@@ -361,6 +388,12 @@ static size_t compare_refusals(void) {
     s.words[2] = 0xc6ffff00;
     s.word_count = 13;
     s.corner_count = 11;
+    memset(s.lent, 0, sizeof s.lent);
+    for (size_t n = 0; n < sizeof no_pitches / sizeof *no_pitches; n++) {
+        s.pitch = no_pitches[n];
+        wrong += !refuses(&s, 17, 0);
+    }
+    s.pitch = pitch;
     wrong += !refuses(&s, 1, 0);
     s.word_count = REFERENCE_MOST_WORDS + 3;
     wrong += !refuses(&s, 1, 0);
@@ -393,6 +426,15 @@ static size_t compare_refusals(void) {
     wrong += !refuses(&s, 8, 2);
     s.words[2] = 0;
     wrong += !agree(&s) || said.number != 0 || said.place != 0;
+    /* the ends of each pitch: the last that is kept, and the first that is not */
+    for (size_t p = 0; p < PITCHES; p++) {
+        static const uint32_t kept[PITCHES] = {0x46fffeff, 0x46fffdff, 0x46fffeff, 0x46fffa00};
+        s.pitch = (uint32_t)pitches[p];
+        s.words[8] = s.words[11] = kept[p];
+        wrong += !agree(&s) || said.number != 0 || ours.grid[GUARD + 8] != REFERENCE_GREATEST_COORDINATE / pitches[p] * pitches[p];
+        s.words[8] = s.words[11] = 0x80000000 | (kept[p] + 1);
+        wrong += !refuses(&s, 8, 8);
+    }
     return wrong;
 }
 
@@ -400,16 +442,22 @@ int main(int count, char **arguments) {
     size_t many = count > 1 ? strtoull(arguments[1], 0, 10) : 8000;
     uint64_t seed = count > 2 ? strtoull(arguments[2], 0, 10) : 20261115;
     size_t named = sizeof examples / sizeof examples[0], closed_in = sizeof holes / sizeof holes[0], sheets, barred_loops = 0;
-    size_t wrong = compare_sheets(seed, &sheets) + compare_refusals();
-    for (size_t i = 0; i < named; i++) wrong += !shows(&examples[i]);
-    for (size_t i = 0; i < closed_in; i++) wrong += !shows_holes(&holes[i]);
+    size_t wrong = compare_sheets(seed, &sheets, 0) + compare_sheets(seed, &sheets, 1);
+    for (size_t p = 0; p < PITCHES; p++) {
+        wrong += compare_refusals((uint32_t)pitches[p]);
+        for (size_t i = 0; i < named; i++) wrong += (p == 0 || !is_far(&examples[i])) && !shows(&examples[i], p);
+        for (size_t i = 0; i < closed_in; i++) wrong += !shows_holes(&holes[i], p);
+    }
     wrong += compare_lengths() + compare_pairs(seed);
     wrong += compare_made(many, seed);
     wrong += count < 2 && !met_all();
     for (size_t n = 4; n <= REFERENCE_LONGEST_LOOP; n++) barred_loops += barred[n];
-    printf("patches: %zu examples, islands, holes and rims of %d lengths, %zu refusals, %zu sheets, %zu made from seed %" PRIu64 ", %zu wrong; ", named + closed_in, REFERENCE_LONGEST_LOOP, refusals, sheets, many, seed, wrong);
+    printf("patches: %zu examples, islands, holes and rims of %d lengths, %zu refusals, %zu sheets at two pitches each, %zu made from seed %" PRIu64 ", %zu wrong; ", named + closed_in, REFERENCE_LONGEST_LOOP, refusals, sheets, many, seed, wrong);
     printf("loops made by state: 1: %zu 2: %zu 3: %zu 4: %zu; barred by a patch: %zu; by answer:", by_state[1], by_state[2], by_state[3], by_state[4], barred_loops);
-    for (int n = 0; n <= 8; n++) printf(" %d: %zu", n, by_answer[n]);
+    for (int n = 0; n <= HIGHEST; n++)
+        if (n <= 8 || n == 17) printf(" %d: %zu", n, by_answer[n]);
+    printf("; made loops with a weight by pitch:");
+    for (size_t p = 0; p < PITCHES; p++) printf(" %" PRId32 ": %zu", pitches[p], weighed[p]);
     printf("\n");
     return wrong != 0;
 }

@@ -40,6 +40,18 @@ static size_t between(struct generator *generator, size_t low, size_t high)
     return low + generate_below(generator, high - low + 1);
 }
 
+uint32_t generate_pitch(struct generator *generator)
+{
+    static const uint32_t pitches[6] = {1, 1, 1, 2, 5, 10};
+    return pitches[generate_below(generator, 6)];
+}
+
+uint32_t generate_wrong_pitch(struct generator *generator)
+{
+    static const uint32_t numbers[18] = {0, 3, 4, 6, 7, 8, 9, 11, 15, 20, 50, 100, 257, 258, 65541, 65546, 0x80000001u, 0xffffffffu};
+    return numbers[generate_below(generator, 18)];
+}
+
 /* ---- Building a surface ---- */
 
 /* A surface as it grows: triangles over points numbered from 0. A point may be meant to lie outside of all others, or where
@@ -616,21 +628,30 @@ static int64_t signed_between(struct generator *generator, int64_t low, int64_t 
     return low + (int64_t)generate_below(generator, (size_t)(high - low + 1));
 }
 
-/* The farthest values that are kept, and their neighbours inwards. */
-static uint32_t extreme_word(struct generator *generator)
+/* The last value that is kept, in units of 2^-9, which is how close floats lie there: half a pitch behind the farthest multiple, and
+   that itself only where the tie goes back to it. */
+static int64_t last_kept(uint32_t pitch)
 {
-    static const uint32_t words[8] = {0x46fffe00, 0x46fffeff, 0x46fffd00, 0x46fffcff,
-                                      0x46fffe01, 0x46fffc00, 0x00000000, 0x46fffdff};
-    uint32_t sign = (uint32_t)(generate_below(generator, 2) << 31);
-    return sign | words[generate_below(generator, 8)];
+    int64_t farthest = reference_greatest(pitch);
+    return (2 * farthest + pitch) * 256 - farthest / pitch % 2;
 }
 
-/* Zeros, subnormals, the smallest normals, and values about a half. */
-static uint32_t tiny_word(struct generator *generator)
+/* The farthest values that are kept, and their neighbours inwards. */
+static uint32_t extreme_word(struct generator *generator, uint32_t pitch)
 {
-    static const uint32_t words[12] = {0x00000000, 0x00000001, 0x007fffff, 0x00800000,
-                                       0x00800001, 0x3effffff, 0x3f000000, 0x3f000001,
-                                       0x3fbfffff, 0x3fc00000, 0x3fc00001, 0x33000000};
+    int64_t farthest = reference_greatest(pitch);
+    const int64_t units[8] = {farthest * 512, last_kept(pitch), (2 * farthest - pitch) * 256, (2 * farthest - pitch) * 256 - 1,
+                              farthest * 512 + 1, (farthest - pitch) * 512, 0, farthest * 512 - 1};
+    uint32_t sign = (uint32_t)(generate_below(generator, 2) << 31);
+    return sign | word_of(units[generate_below(generator, 8)], 9);
+}
+
+/* Zeros, subnormals, the smallest normals, and values about a half and one and a half of the pitch. */
+static uint32_t tiny_word(struct generator *generator, uint32_t pitch)
+{
+    const uint32_t half = word_of(pitch, 1), three_halves = word_of(3 * (int64_t)pitch, 1);
+    const uint32_t words[12] = {0x00000000, 0x00000001, 0x007fffff, 0x00800000, 0x00800001, half - 1, half, half + 1,
+                                three_halves - 1, three_halves, three_halves + 1, 0x33000000};
     uint32_t sign = (uint32_t)(generate_below(generator, 2) << 31);
     if (chance(generator, 4)) {
         return sign | (uint32_t)generate_below(generator, 0x00800000);
@@ -639,10 +660,11 @@ static uint32_t tiny_word(struct generator *generator)
 }
 
 /* Words that are refused: not finite or too far. */
-static uint32_t refused_word(struct generator *generator)
+static uint32_t refused_word(struct generator *generator, uint32_t pitch)
 {
-    static const uint32_t words[10] = {0x7f800000, 0x7fc00000, 0x7f800001, 0x7fffffff, 0x46ffff00,
-                                       0x47000000, 0x7f7fffff, 0x46ffff01, 0x4b000000, 0x4f000000};
+    const uint32_t off = word_of(last_kept(pitch) + 1, 9);
+    const uint32_t words[10] = {0x7f800000, 0x7fc00000, 0x7f800001, 0x7fffffff, off, 0x47000000, 0x7f7fffff, off + 1,
+                                0x4b000000, 0x4f000000};
     uint32_t sign = (uint32_t)(generate_below(generator, 2) << 31);
     return sign | words[generate_below(generator, 10)];
 }
@@ -654,52 +676,56 @@ static uint32_t small_word(struct generator *generator)
     return word_of(value, (uint32_t)between(generator, 10, 60));
 }
 
-/* A word on the plate, in one of the moods of a surface. */
-static uint32_t word_in_mood(struct generator *generator, size_t mood)
+/* A word on the plate, in one of the moods of a surface. Few numbers are told in pitches, so that a coarse grid does not make one of
+   them. */
+static uint32_t word_in_mood(struct generator *generator, size_t mood, uint32_t pitch)
 {
+    int64_t farthest = reference_greatest(pitch);
     switch (mood) {
-    case 0: return word_of(signed_between(generator, 0, 3), 0);
-    case 1: return word_of(signed_between(generator, -9, 9), 1);
-    case 2: return word_of(signed_between(generator, -40, 40), 3);
-    case 3: return word_of(signed_between(generator, -32767, 32767), 0);
-    case 4: return extreme_word(generator);
-    case 5: return tiny_word(generator);
-    case 6: return word_of(signed_between(generator, -0x7ffeff, 0x7ffeff), 8);
+    case 0: return word_of(pitch * signed_between(generator, 0, 3), 0);
+    case 1: return word_of(pitch * signed_between(generator, -9, 9), 1);
+    case 2: return word_of(pitch * signed_between(generator, -40, 40), 3);
+    case 3: return word_of(signed_between(generator, -farthest, farthest), 0);
+    case 4: return extreme_word(generator, pitch);
+    case 5: return tiny_word(generator, pitch);
+    case 6: return word_of(signed_between(generator, 1 - (2 * farthest + pitch) * 128, (2 * farthest + pitch) * 128 - 1), 8);
     case 7: return small_word(generator);
-    default: return word_of(signed_between(generator, -20, 20), 0);
+    default: return word_of(pitch * signed_between(generator, -20, 20), 0);
     }
 }
 
-uint32_t generate_word(struct generator *generator)
+uint32_t generate_word(struct generator *generator, uint32_t pitch)
 {
     if (chance(generator, 4)) {
         return (uint32_t)generate_bits(generator);
     }
     if (chance(generator, 4)) {
-        return refused_word(generator);
+        return refused_word(generator, pitch);
     }
     if (chance(generator, 4)) {
-        return word_of(signed_between(generator, -65540, 65540), 1);
+        int64_t halves = 65540 / pitch;
+        return word_of(pitch * signed_between(generator, -halves, halves), 1);
     }
-    return word_in_mood(generator, generate_below(generator, 9));
+    return word_in_mood(generator, generate_below(generator, 9), pitch);
 }
 
 /* Puts the points that are meant to lie outside to the ends of the plate, and those that are meant to lie where another lies there. */
-static void place_as_meant(struct generator *generator, const struct build *build, uint32_t *words)
+static void place_as_meant(struct generator *generator, const struct build *build, uint32_t *words, uint32_t pitch)
 {
+    int64_t farthest = reference_greatest(pitch);
     for (size_t p = 0; p < build->points; p++) {
         for (size_t axis = 0; axis < 3; axis++) {
             if (build->outside[p]) {
-                int64_t end = p % 2 == 0 ? REFERENCE_GREATEST_COORDINATE : -REFERENCE_GREATEST_COORDINATE;
-                words[3 * p + axis] = word_of(chance(generator, 4) ? signed_between(generator, -32767, 32767) : end, 0);
+                int64_t end = p % 2 == 0 ? farthest : -farthest;
+                words[3 * p + axis] = word_of(chance(generator, 4) ? signed_between(generator, -farthest, farthest) : end, 0);
             }
             words[3 * p + axis] = words[3 * (size_t)build->lies_at[p] + axis];
         }
     }
 }
 
-/* Points all over, all in one place, on a line, or in a plane. */
-static void place_points(struct generator *generator, uint32_t *words, size_t points)
+/* Points all over, all in one place, on a line, or in a plane. Those on a line are on the grid, or they would leave it. */
+static void place_points(struct generator *generator, uint32_t *words, size_t points, uint32_t pitch)
 {
     size_t mood = generate_below(generator, 11);
     size_t lie = generate_below(generator, 8);
@@ -708,10 +734,10 @@ static void place_points(struct generator *generator, uint32_t *words, size_t po
         step[axis] = signed_between(generator, -3, 3);
     }
     for (size_t p = 0; p < points; p++) {
-        int64_t along = signed_between(generator, -2000, 2000);
+        int64_t along = signed_between(generator, -2000, 2000) / pitch * pitch;
         for (size_t axis = 0; axis < 3; axis++) {
             uint32_t *word = &words[3 * p + axis];
-            *word = word_in_mood(generator, mood > 8 ? generate_below(generator, 9) : mood);
+            *word = word_in_mood(generator, mood > 8 ? generate_below(generator, 9) : mood, pitch);
             if (lie == 0 && p > 0) {
                 *word = words[axis];
             } else if (lie == 1) {
@@ -780,9 +806,15 @@ static void damage_triangle(struct generator *generator, struct generated_surfac
     }
 }
 
+/* A number that is no pitch, or another pitch than the points are laid for. */
+static void damage_pitch(struct generator *generator, struct generated_surface *surface)
+{
+    surface->pitch = chance(generator, 4) ? generate_pitch(generator) : generate_wrong_pitch(generator);
+}
+
 static void damage_surface(struct generator *generator, struct generated_surface *surface)
 {
-    switch (generate_below(generator, 6)) {
+    switch (generate_below(generator, 7)) {
     case 0:
         damage_counts(generator, surface);
         break;
@@ -793,9 +825,13 @@ static void damage_surface(struct generator *generator, struct generated_surface
     case 3:
         damage_triangle(generator, surface);
         break;
+    case 4:
+        damage_pitch(generator, surface);
+        break;
     default:
         if (surface->word_count > 0) {
-            surface->words[generate_below(generator, surface->word_count)] = refused_word(generator);
+            uint32_t pitch = reference_is_pitch(surface->pitch) ? surface->pitch : 1;
+            surface->words[generate_below(generator, surface->word_count)] = refused_word(generator, pitch);
         }
         break;
     }
@@ -832,6 +868,7 @@ static void take_build(struct generator *generator, const struct build *build,
                        struct generated_surface *surface)
 {
     uint32_t words[REFERENCE_MOST_WORDS];
+    surface->pitch = generate_pitch(generator);
     surface->word_count = 3 * build->points;
     surface->corner_count = build->count;
     for (size_t w = 0; w < GENERATE_WORD_ROOM; w++) {
@@ -840,9 +877,9 @@ static void take_build(struct generator *generator, const struct build *build,
     for (size_t c = 0; c < GENERATE_CORNER_ROOM; c++) {
         surface->corners[c] = c < build->count ? build->corners[c] : 0;
     }
-    place_points(generator, words, build->points);
+    place_points(generator, words, build->points, surface->pitch);
     if (!chance(generator, 4)) {
-        place_as_meant(generator, build, words);
+        place_as_meant(generator, build, words, surface->pitch);
     }
     for (size_t p = 0; p < build->points; p++) {
         for (size_t axis = 0; axis < 3; axis++) {
@@ -864,7 +901,7 @@ void generate_sound_surface(struct generator *generator, struct generated_surfac
         take_build(generator, &build, surface);
         reference_survey(surface->words, surface->word_count, surface->corners, surface->corner_count,
                          grid, REFERENCE_MOST_WORDS, rings, REFERENCE_MOST_CORNERS,
-                         lengths, REFERENCE_MOST_TRIANGLES, &answer);
+                         lengths, REFERENCE_MOST_TRIANGLES, surface->pitch, &answer);
     } while (answer.number != 0);
 }
 
@@ -975,7 +1012,7 @@ static void choose_covers(struct generator *generator, const struct generated_su
     set->corner_count = 0;
     reference_survey(surface->words, surface->word_count, surface->corners, surface->corner_count,
                      grid, REFERENCE_MOST_WORDS, rings, REFERENCE_MOST_CORNERS,
-                     lengths, REFERENCE_MOST_TRIANGLES, &answer);
+                     lengths, REFERENCE_MOST_TRIANGLES, surface->pitch, &answer);
     if (answer.number == 0) {
         reference_rims(grid, surface->corners, surface->corner_count, rings, lengths, answer.loops, rims);
     }
@@ -1142,7 +1179,8 @@ static size_t put_triangles(uint8_t *text, size_t at, const uint16_t *corners, s
 size_t generate_sheet_text(const struct generated_surface *surface, uint8_t *text)
 {
     size_t words = surface->word_count - surface->word_count % 3;
-    size_t at = put_count(text, 0, "points=", words / 3);
+    size_t at = surface->pitch == 1 ? 0 : put_count(text, 0, "pitch=", surface->pitch);
+    at = put_count(text, at, "points=", words / 3);
     for (size_t w = 0; w < words; w++) {
         at = put_text(text, at, w % 3 == 0 ? "p=" : ",");
         at = put_number(text, at, surface->words[w], 16, 8);
@@ -1209,6 +1247,19 @@ static size_t damage_line(struct generator *generator, uint8_t *text, size_t len
     return length;
 }
 
+/* Puts a line of a pitch, right or wrong, before the text, or before any of its lines. */
+static size_t damage_head(struct generator *generator, uint8_t *text, size_t length)
+{
+    static const char *const heads[12] = {"pitch=1\n", "pitch=2\n", "pitch=5\n", "pitch=10\n", "pitch=3\n", "pitch=02\n",
+                                          "pitch=\n", "pitch=2", "pitch=0\n", "pitch=2\r\n", "pitch=20\n", "pitch=100\n"};
+    const char *head = heads[generate_below(generator, 12)];
+    size_t at = chance(generator, 2) ? 0 : line_start(generator, text, length);
+    for (size_t b = 0; head[b] != 0; b++) {
+        length = insert_byte(text, length, at + b, (uint8_t)head[b]);
+    }
+    return length;
+}
+
 /* A byte that is likely to matter. */
 static uint8_t telling_byte(struct generator *generator)
 {
@@ -1222,7 +1273,7 @@ static uint8_t telling_byte(struct generator *generator)
 size_t generate_text_damage(struct generator *generator, uint8_t *text, size_t length)
 {
     size_t at = length == 0 ? 0 : generate_below(generator, length);
-    switch (generate_below(generator, 8)) {
+    switch (generate_below(generator, 10)) {
     case 0:
         return at;
     case 1:
@@ -1240,6 +1291,14 @@ size_t generate_text_damage(struct generator *generator, uint8_t *text, size_t l
             at -= 1;
         }
         return insert_byte(text, length, at, '0');
+    case 7:
+        return damage_head(generator, text, length);
+    case 8:
+        /* among the first bytes, where a pitch is told */
+        if (length > 0) {
+            text[generate_below(generator, length < 10 ? length : 10)] = telling_byte(generator);
+        }
+        return length;
     default:
         if (length > 0) {
             text[at] = telling_byte(generator);

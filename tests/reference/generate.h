@@ -19,9 +19,10 @@ struct generator {
     uint64_t state;
 };
 
-/* A surface, and how long each of the patcher's six buffers is lent (the
-   checker and the survey are lent the first three). */
+/* A surface with its pitch, and how long each of the patcher's six buffers is
+   lent (the checker and the survey are lent the first three). */
 struct generated_surface {
+    uint32_t pitch;
     uint32_t words[GENERATE_WORD_ROOM];
     size_t word_count;
     uint16_t corners[GENERATE_CORNER_ROOM];
@@ -46,8 +47,14 @@ size_t generate_below(struct generator *generator, size_t below);
 /* Any 64 bits. */
 uint64_t generate_bits(struct generator *generator);
 
-/* A word of any kind of coordinate, also those that are refused. */
-uint32_t generate_word(struct generator *generator);
+/* A pitch: 1 in every other case, else 2, 5 or 10. */
+uint32_t generate_pitch(struct generator *generator);
+
+/* A number that is no pitch: near one, or one but for its higher bits. */
+uint32_t generate_wrong_pitch(struct generator *generator);
+
+/* A word of any kind of coordinate at that pitch, also those that are refused. */
+uint32_t generate_word(struct generator *generator, uint32_t pitch);
 
 /* Puts triangles into any order and begins each at any corner. */
 void generate_shuffle_triangles(struct generator *generator, uint16_t *corners, size_t count);
@@ -55,7 +62,7 @@ void generate_shuffle_triangles(struct generator *generator, uint16_t *corners, 
 /* Lends each buffer exactly what is needed. */
 void generate_lend_exactly(struct generated_surface *surface);
 
-/* A surface without damage, its coordinates all on the plate, buffers exact. */
+/* A surface without damage at any pitch, its coordinates all on the plate, buffers exact. */
 void generate_sound_surface(struct generator *generator, struct generated_surface *surface);
 
 /* A surface with no fault, one or several, and buffers exact, long, short or empty. */
@@ -65,7 +72,7 @@ void generate_surface(struct generator *generator, struct generated_surface *sur
 void generate_set(struct generator *generator, const struct generated_surface *surface,
                   struct generated_set *set);
 
-/* The sheet text of a surface as it stands, faults and all; gives its length. */
+/* The sheet text of a surface as it stands, faults and all: any pitch but 1 has its line; gives its length. */
 size_t generate_sheet_text(const struct generated_surface *surface, uint8_t *text);
 
 /* The text of a patch set as it stands; gives its length. */

@@ -108,7 +108,7 @@ static void patch_desk(const struct reference_read_answer *sheet, struct referen
                     desk.grid, REFERENCE_MOST_WORDS, desk.rings, REFERENCE_MOST_CORNERS,
                     desk.lengths, REFERENCE_MOST_TRIANGLES, desk.states, REFERENCE_MOST_TRIANGLES,
                     desk.weights, REFERENCE_MOST_TRIANGLES, desk.patches, REFERENCE_MOST_PATCH_CORNERS,
-                    answer);
+                    (uint32_t)sheet->pitch, answer);
 }
 
 static void read_sheet(const struct file *file, struct reference_read_answer *answer)
@@ -171,7 +171,7 @@ static void check_program(FILE *out, const struct file *sheet, const struct file
     reference_check(desk.words, read.words, desk.corners, read.corners,
                     desk.set_states, set.states, desk.set_corners, set.corners,
                     desk.grid, REFERENCE_MOST_WORDS, desk.rings, REFERENCE_MOST_CORNERS,
-                    desk.lengths, REFERENCE_MOST_TRIANGLES, &verdict);
+                    desk.lengths, REFERENCE_MOST_TRIANGLES, (uint32_t)read.pitch, &verdict);
     print_answer(out, verdict.number, verdict.place);
 }
 
@@ -184,7 +184,7 @@ static void print_sheet(FILE *out, const struct reference_read_answer *read)
         return;
     }
     reference_write(desk.words, read->words, desk.corners, read->corners,
-                    desk.text, REFERENCE_LONGEST_TEXT, &write);
+                    desk.text, REFERENCE_LONGEST_TEXT, (uint32_t)read->pitch, &write);
     if (write.number != 0) {
         print_answer(out, write.number, write.place);
         return;
@@ -201,11 +201,12 @@ static void rewrite_program(FILE *out, const struct file *sheet)
     print_sheet(out, &read);
 }
 
-/* "The outcome is a surface as if it had come by sheet text." A file longer
-   than what is kept of it has more than 1,024 facets, or no length that fits. */
+/* "The outcome is a surface as if it had come by sheet text", one without a
+   pitch line: a file has no pitch of its own. A file longer than what is kept
+   of it has more than 1,024 facets, or no length that fits. */
 static void import_program(FILE *out, const struct file *file)
 {
-    struct reference_read_answer read = {0, 0, 0, 0};
+    struct reference_read_answer read = {0, 0, 0, 0, 0};
     if (file->whole > file->length) {
         read.number = reference_size_stl(file->whole, reference_count_stl(file->bytes));
     } else {
@@ -330,7 +331,7 @@ static void own_set(const struct generated_surface *surface, struct generated_se
     reference_patch(surface->words, surface->word_count, surface->corners, surface->corner_count,
                     desk.grid, REFERENCE_MOST_WORDS, desk.rings, REFERENCE_MOST_CORNERS,
                     desk.lengths, REFERENCE_MOST_TRIANGLES, set->states, REFERENCE_MOST_TRIANGLES,
-                    desk.weights, REFERENCE_MOST_TRIANGLES, set->corners, REFERENCE_MOST_PATCH_CORNERS, &answer);
+                    desk.weights, REFERENCE_MOST_TRIANGLES, set->corners, REFERENCE_MOST_PATCH_CORNERS, surface->pitch, &answer);
     set->state_count = answer.loops;
     set->corner_count = answer.corners;
 }
@@ -351,12 +352,13 @@ static int damage_case(struct generator *generator)
     return 1;
 }
 
-/* A sheet and a set for it: the full sheets first, whole and with the set that passes, and then made ones. */
+/* A sheet and a set for it: the full sheets first, each at one of the pitches, whole and with the set that passes, and then made ones. */
 static void make_case(struct generator *generator, const char *directory, unsigned number)
 {
+    static const uint32_t pitches[4] = {1, 2, 5, 10};
     static struct generated_surface surface;
     static struct generated_set set;
-    int full = sheet_make(generator, number, &surface) != NULL;
+    int full = sheet_make(generator, number, &surface, pitches[number % 4]) != NULL;
     if (full) {
         own_set(&surface, &set);
     } else {
@@ -402,6 +404,7 @@ static int make_cases(const char *directory, unsigned count, uint64_t seed)
 #define HOLE_PATCHED "states=2\ns=1\ns=4\ntriangles=2\n"
 #define HOLE_LIST(weight) "answer=0,0\nloops=2\nloop=4,1," #weight "\nring=0,1,2,3\n"
 #define FRAME_LIST "loop=3,4,0\nring=5,4,6\n"
+#define HOLE_IN_RIM "points=7\n" RIM FRAME "triangles=7\n" COLLAR
 
 /* A sheet text, the set text judged against it (NULL where none is), what is
    listed (NULL where it stands above) and what is judged. */
@@ -444,6 +447,27 @@ static const struct example examples[] = {
     {"points=8\n" SQUARE FRAME TIP "triangles=9\n" COLLAR "t=0,2,7\nt=1,3,7\n", "states=4\ns=3\ns=4\ns=4\ns=4\ntriangles=0\n",
      "answer=0,0\nloops=4\nloop=4,3,0\nring=0,1,2,3\n" FRAME_LIST "loop=3,4,0\nring=0,2,7\nloop=3,4,0\nring=1,3,7\n",
      "answer=0,0\n"},
+
+    /* The lighter cover's point (3,3,0) goes to (4,4,0), (5,5,0) and (0,0,0): at 5 the covers weigh the same, at 10 one weighs nothing. */
+    {"pitch=2\n" HOLE_IN_RIM, HOLE_PATCHED "t=3,2,0\nt=2,1,0\n", HOLE_LIST(80) "patch=0,3,2\npatch=0,2,1\n" FRAME_LIST, "answer=0,0\n"},
+    {"pitch=2\n" HOLE_IN_RIM, HOLE_PATCHED "t=0,3,1\nt=1,3,2\n", NULL, "answer=14,0\n"},
+    {"pitch=5\n" HOLE_IN_RIM, HOLE_PATCHED "t=3,2,0\nt=2,1,0\n", HOLE_LIST(100) "patch=0,3,1\npatch=1,3,2\n" FRAME_LIST, "answer=0,0\n"},
+    {"pitch=5\n" HOLE_IN_RIM, HOLE_PATCHED "t=0,3,1\nt=1,3,2\n", NULL, "answer=0,0\n"},
+    {"pitch=10\n" HOLE_IN_RIM, HOLE_PATCHED "t=0,3,1\nt=1,3,2\n", HOLE_LIST(0) "patch=0,3,2\npatch=0,2,1\n" FRAME_LIST, "answer=14,0\n"},
+    /* The sheet has 16 lines, or 17: the set's lines are counted on from there. */
+    {HOLE_IN_RIM, "states=2\ns=1\ns=x\n", NULL, "answer=10,19\n"},
+    {"pitch=10\n" HOLE_IN_RIM, "states=2\ns=1\ns=x\n", NULL, "answer=10,20\n"},
+    {"pitch=10\n" HOLE_IN_RIM, NULL, NULL, "answer=10,18\n"},
+    {"pitch=10\n" HOLE_IN_RIM, "pitch=10\n" HOLE_PATCHED "t=0,3,1\nt=1,3,2\n", NULL, "answer=10,18\n"},
+    {"pitch=5\npoints=0\ntriangles=1\nt=0,0,0\n", "", "answer=4,0\n", "answer=10,5\n"},
+    {"pitch=5\npoints=0\ntriangles=1\nt=0,0,0\n", "states=0\ntriangles=0\n", NULL, "answer=4,0\n"},
+    {"pitch=1\n" HOLE_IN_RIM, "", "answer=10,1\n", "answer=10,1\n"},
+    {"pitch=3\n" HOLE_IN_RIM, "", "answer=10,1\n", "answer=10,1\n"},
+    {"pitch=2\n", "", "answer=10,2\n", "answer=10,2\n"},
+    {"pitch=2\npitch=2\n" HOLE_IN_RIM, "", "answer=10,2\n", "answer=10,2\n"},
+    /* 32,767 is on the grid at pitch 1 and too far at 2. */
+    {"points=1\np=46fffe00,00000000,00000000\ntriangles=0\n", "states=0\ntriangles=0\n", "answer=0,0\nloops=0\n", "answer=0,0\n"},
+    {"pitch=2\npoints=1\np=46fffe00,00000000,00000000\ntriangles=0\n", "states=0\ntriangles=0\n", "answer=8,0\n", "answer=8,0\n"},
 };
 
 static void take_text(struct file *file, const char *text)
@@ -464,6 +488,9 @@ static int run_examples(void)
         int same = examples[e].listing == NULL || prints_expected(0);
         take_text(&case_expected, examples[e].verdict);
         same = prints_expected(1) && same;
+        /* what was listed was read, and so is written again as it was */
+        take_text(&case_expected, examples[e].sheet);
+        same = (examples[e].listing == NULL || strncmp(examples[e].listing, "answer=0", 8) != 0 || prints_expected(2)) && same;
         if (!same) {
             printf("differs: example %zu\n", e);
         }

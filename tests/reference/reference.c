@@ -54,16 +54,33 @@ static uint32_t float_bits(int negative, int64_t magnitude, uint32_t field)
     return (negative ? 0x80000000u : 0u) | (field << 23) | fraction;
 }
 
-/* "Each coordinate becomes the nearest whole number, a tie going to the even
-   one." "The rest is the value less the whole number". "Too far means the
-   whole number lies outside -32,767 to 32,767. Both zeros are exact 0." */
-int reference_coordinate(uint32_t word, int32_t *whole, uint32_t *rest)
+/* "a pitch of 2, 5 or 10 plate units"; "Pitch 1 is document 01's rule." */
+int reference_is_pitch(uint32_t number)
+{
+    return number == 1 || number == 2 || number == 5 || number == 10;
+}
+
+int32_t reference_greatest(uint32_t pitch)
+{
+    return (int32_t)(REFERENCE_GREATEST_COORDINATE / pitch * pitch);
+}
+
+/* "A coordinate goes to the nearest multiple of the pitch, a tie to the even
+   multiple. The rest is then at most half a pitch, is still exact". "The rest
+   is the value less the whole number". "Too far means the whole number lies
+   outside -32,767 to 32,767. Both zeros are exact 0." An even multiple is an
+   even number of pitches: at a pitch that is even all multiples are even
+   numbers. */
+int reference_coordinate(uint32_t word, int32_t *whole, uint32_t *rest, uint32_t pitch)
 {
     int negative = (word >> 31) != 0;
     uint32_t field = (word >> 23) & 0xff;
     int64_t magnitude = word & 0x7fffff;
     *whole = 0;
     *rest = 0;
+    if (!reference_is_pitch(pitch)) {
+        return 17;
+    }
     if (field == 255) {
         return 7;
     }
@@ -72,23 +89,24 @@ int reference_coordinate(uint32_t word, int32_t *whole, uint32_t *rest)
     } else {
         magnitude += (int64_t)1 << 23;
     }
-    /* The value is now magnitude * 2^(field - 150), the magnitude below 2^24. */
+    /* The value is now magnitude * 2^(field - 150), the magnitude below 2^24. From 2^23 upwards every multiple nearby is too far. */
     if (field >= 150) {
         *rest = word;
         return 8;
     }
-    int64_t nearest = 0;
+    int64_t pitches = 0;
     int64_t left = magnitude;
     /* From 2^-26 downwards the unit of the magnitude leaves a value below a quarter. */
     if (field > 124) {
-        int64_t one = (int64_t)1 << (150 - field);
-        nearest = magnitude / one;
-        left = magnitude % one;
-        if (2 * left > one || (2 * left == one && nearest % 2 != 0)) {
-            nearest += 1;
-            left -= one;
+        int64_t step = (int64_t)pitch << (150 - field);
+        pitches = magnitude / step;
+        left = magnitude % step;
+        if (2 * left > step || (2 * left == step && pitches % 2 != 0)) {
+            pitches += 1;
+            left -= step;
         }
     }
+    int64_t nearest = pitches * pitch;
     if (nearest > REFERENCE_GREATEST_COORDINATE) {
         *rest = word;
         return 8;
@@ -284,7 +302,13 @@ void reference_rims(const int32_t *grid, const uint16_t *corners, size_t corner_
     }
 }
 
-/* ---- Refusals 1 to 8 ---- */
+/* ---- Refusals 17 and 1 to 8 ---- */
+
+/* "17 for a pitch other than 1, 2, 5 or 10, place 0". */
+static struct finding find_wrong_pitch(uint32_t pitch)
+{
+    return reference_is_pitch(pitch) ? found(0, 0) : found(17, 0);
+}
 
 /* "a corner of the surface names no point", at the smallest corner index. */
 static struct finding find_unnamed(size_t word_count, const uint16_t *corners, size_t corner_count)
@@ -355,12 +379,12 @@ static struct finding find_repeated_edge(const uint16_t *corners, size_t corner_
 }
 
 /* "a coordinate isn't finite" (7) or "a coordinate is too far" (8), at the smallest word index. */
-static struct finding find_coordinate(const uint32_t *words, size_t word_count, int number)
+static struct finding find_coordinate(const uint32_t *words, size_t word_count, uint32_t pitch, int number)
 {
     for (size_t w = 0; w < word_count; w++) {
         int32_t whole;
         uint32_t rest;
-        if (reference_coordinate(words[w], &whole, &rest) == number) {
+        if (reference_coordinate(words[w], &whole, &rest, pitch) == number) {
             return found((size_t)number, w);
         }
     }
@@ -368,12 +392,16 @@ static struct finding find_coordinate(const uint32_t *words, size_t word_count, 
 }
 
 /* "Checks run in the order 10, 1 to 9, each over the whole input before the
-   next, the smallest index reported." Here those from 1 to 8. */
+   next, the smallest index reported." 17 comes "between 10 and 1". Here that
+   and those from 1 to 8. */
 static struct finding find_refusal(const uint32_t *words, size_t word_count,
                                    const uint16_t *corners, size_t corner_count,
-                                   const size_t *lent, size_t buffers)
+                                   const size_t *lent, size_t buffers, uint32_t pitch)
 {
-    struct finding finding = find_wrong_counts(word_count, corner_count);
+    struct finding finding = find_wrong_pitch(pitch);
+    if (finding.number == 0) {
+        finding = find_wrong_counts(word_count, corner_count);
+    }
     if (finding.number == 0) {
         finding = find_short_buffer(word_count, corner_count, lent, buffers);
     }
@@ -387,21 +415,21 @@ static struct finding find_refusal(const uint32_t *words, size_t word_count,
         finding = find_repeated_edge(corners, corner_count);
     }
     if (finding.number == 0) {
-        finding = find_coordinate(words, word_count, 7);
+        finding = find_coordinate(words, word_count, pitch, 7);
     }
     if (finding.number == 0) {
-        finding = find_coordinate(words, word_count, 8);
+        finding = find_coordinate(words, word_count, pitch, 8);
     }
     return finding;
 }
 
 /* The grid, the loops and the rims of a surface that has no refusal. */
 static void take_survey(struct survey *survey, const uint32_t *words, size_t word_count,
-                        const uint16_t *corners, size_t corner_count)
+                        const uint16_t *corners, size_t corner_count, uint32_t pitch)
 {
     for (size_t w = 0; w < word_count; w++) {
         uint32_t rest;
-        reference_coordinate(words[w], &survey->grid[w], &rest);
+        reference_coordinate(words[w], &survey->grid[w], &rest, pitch);
     }
     find_loops(survey, corners, corner_count);
     reference_rims(survey->grid, corners, corner_count, survey->rings, survey->lengths, survey->loops,
@@ -428,17 +456,17 @@ void reference_survey(const uint32_t *words, size_t word_count,
                       const uint16_t *corners, size_t corner_count,
                       int32_t *grid, size_t grid_length,
                       uint16_t *rings, size_t rings_length,
-                      uint16_t *lengths, size_t lengths_length,
+                      uint16_t *lengths, size_t lengths_length, uint32_t pitch,
                       struct reference_answer *answer)
 {
     const size_t lent[3] = {grid_length, rings_length, lengths_length};
-    struct finding refusal = find_refusal(words, word_count, corners, corner_count, lent, 3);
+    struct finding refusal = find_refusal(words, word_count, corners, corner_count, lent, 3, pitch);
     *answer = (struct reference_answer){refusal.number, refusal.place, 0, 0};
     if (refusal.number != 0) {
         return;
     }
     struct survey survey;
-    take_survey(&survey, words, word_count, corners, corner_count);
+    take_survey(&survey, words, word_count, corners, corner_count, pitch);
     hand_out_survey(&survey, word_count, grid, rings, lengths);
     answer->loops = survey.loops;
     answer->vertices = survey.vertices;
@@ -619,19 +647,19 @@ void reference_patch(const uint32_t *words, size_t word_count,
                      uint16_t *lengths, size_t lengths_length,
                      uint16_t *states, size_t states_length,
                      uint64_t *weights, size_t weights_length,
-                     uint16_t *patches, size_t patches_length,
+                     uint16_t *patches, size_t patches_length, uint32_t pitch,
                      struct reference_patch_answer *answer)
 {
     const size_t lent[6] = {grid_length, rings_length, lengths_length,
                             states_length, weights_length, patches_length};
-    struct finding refusal = find_refusal(words, word_count, corners, corner_count, lent, 6);
+    struct finding refusal = find_refusal(words, word_count, corners, corner_count, lent, 6, pitch);
     *answer = (struct reference_patch_answer){refusal.number, refusal.place, 0, 0, 0};
     if (refusal.number != 0) {
         return;
     }
     struct survey survey;
     struct run run;
-    take_survey(&survey, words, word_count, corners, corner_count);
+    take_survey(&survey, words, word_count, corners, corner_count, pitch);
     patch_loops(&survey, corners, corner_count, &run);
     hand_out_survey(&survey, word_count, grid, rings, lengths);
     for (size_t l = 0; l < survey.loops; l++) {
@@ -789,17 +817,17 @@ void reference_check(const uint32_t *words, size_t word_count,
                      const uint16_t *set, size_t set_count,
                      int32_t *grid, size_t grid_length,
                      uint16_t *rings, size_t rings_length,
-                     uint16_t *lengths, size_t lengths_length,
+                     uint16_t *lengths, size_t lengths_length, uint32_t pitch,
                      struct reference_answer *answer)
 {
     const size_t lent[3] = {grid_length, rings_length, lengths_length};
-    struct finding refusal = find_refusal(words, word_count, corners, corner_count, lent, 3);
+    struct finding refusal = find_refusal(words, word_count, corners, corner_count, lent, 3, pitch);
     *answer = (struct reference_answer){refusal.number, refusal.place, 0, 0};
     if (refusal.number != 0) {
         return;
     }
     struct survey survey;
-    take_survey(&survey, words, word_count, corners, corner_count);
+    take_survey(&survey, words, word_count, corners, corner_count, pitch);
     if (state_count != survey.loops) {
         *answer = (struct reference_answer){9, survey.loops, 0, 0};
         return;
@@ -956,12 +984,29 @@ static int take_triangle_lines(struct reading *reading, size_t most, uint16_t *c
     return reading->at == reading->length;
 }
 
-/* "Lines of key=value [...] in this order". On 0 the wrong line is the one then due. */
+/* "The sheet text gets a first line `pitch=`; a text that begins with
+   `points=` is pitch 1". "in a text such a line, or `pitch=1`, is a wrong
+   line". A text that begins with neither key is wrong at its first line
+   either way. */
+static int take_pitch_line(struct reading *reading, size_t *pitch)
+{
+    struct reading ahead = *reading;
+    *pitch = 1;
+    if (take_key(&ahead, "points=")) {
+        return 1;
+    }
+    return take_key(reading, "pitch=") && take_decimal(reading, 10, pitch)
+        && (*pitch == 2 || *pitch == 5 || *pitch == 10) && end_line(reading);
+}
+
+/* "Lines of key=value [...] in this order". On 0 the wrong line is the one
+   then due. "With a pitch line every later line number goes up by one". */
 static int take_sheet(struct reading *reading, uint32_t *words, size_t *word_count,
-                      uint16_t *corners, size_t *corner_count)
+                      uint16_t *corners, size_t *corner_count, size_t *pitch)
 {
     size_t points;
-    if (!take_count_line(reading, "points=", REFERENCE_MOST_POINTS, &points)) {
+    if (!take_pitch_line(reading, pitch)
+        || !take_count_line(reading, "points=", REFERENCE_MOST_POINTS, &points)) {
         return 0;
     }
     for (size_t p = 0; p < points; p++) {
@@ -979,6 +1024,7 @@ struct sheet {
     uint16_t corners[REFERENCE_MOST_CORNERS];
     size_t word_count;
     size_t corner_count;
+    size_t pitch;
 };
 
 /* "3 (words 1, corners 2)". */
@@ -994,7 +1040,7 @@ static struct finding find_short_room(const struct sheet *sheet, size_t words_le
 static void hand_out_sheet(const struct sheet *sheet, struct finding refusal, uint32_t *words, uint16_t *corners,
                            struct reference_read_answer *answer)
 {
-    *answer = (struct reference_read_answer){refusal.number, refusal.place, 0, 0};
+    *answer = (struct reference_read_answer){refusal.number, refusal.place, 0, 0, 0};
     if (refusal.number != 0) {
         return;
     }
@@ -1006,6 +1052,7 @@ static void hand_out_sheet(const struct sheet *sheet, struct finding refusal, ui
     }
     answer->words = sheet->word_count;
     answer->corners = sheet->corner_count;
+    answer->pitch = sheet->pitch;
 }
 
 /* "Reading may give, in this order, 10, 3 (words 1, corners 2) and 4". */
@@ -1017,7 +1064,7 @@ void reference_read(const uint8_t *text, size_t text_length,
     struct reading reading = {text, text_length, 0, 1};
     struct sheet sheet;
     struct finding refusal;
-    if (!take_sheet(&reading, sheet.words, &sheet.word_count, sheet.corners, &sheet.corner_count)) {
+    if (!take_sheet(&reading, sheet.words, &sheet.word_count, sheet.corners, &sheet.corner_count, &sheet.pitch)) {
         refusal = found(10, reading.line);
     } else {
         refusal = find_short_room(&sheet, words_length, corners_length);
@@ -1135,6 +1182,7 @@ static struct finding take_facets(struct sheet *sheet, const uint8_t *file, size
 {
     sheet->word_count = 0;
     sheet->corner_count = 3 * facets;
+    sheet->pitch = 1;
     for (size_t c = 0; c < sheet->corner_count; c++) {
         uint32_t point[3];
         for (size_t w = 0; w < 3; w++) {
@@ -1235,6 +1283,16 @@ static void put_mark(struct writing *writing, size_t index)
     put_byte(writing, index % 3 == 2 ? '\n' : ',');
 }
 
+/* "pitch 1 is written without the line, so there is still one text for one sheet." */
+static void put_pitch(struct writing *writing, uint32_t pitch)
+{
+    if (pitch != 1) {
+        put_key(writing, "pitch=");
+        put_decimal(writing, pitch);
+        put_byte(writing, '\n');
+    }
+}
+
 static void put_sheet(struct writing *writing, const uint32_t *words, size_t word_count,
                       const uint16_t *corners, size_t corner_count)
 {
@@ -1257,16 +1315,20 @@ static void put_sheet(struct writing *writing, const uint32_t *words, size_t wor
 }
 
 /* "writing gives 1, 2, 3 (text buffer too short for this text, each corner in
-   its own digits; number 1) and 4." */
+   its own digits; number 1) and 4"; 17 before these. */
 void reference_write(const uint32_t *words, size_t word_count,
                      const uint16_t *corners, size_t corner_count,
-                     uint8_t *text, size_t text_length,
+                     uint8_t *text, size_t text_length, uint32_t pitch,
                      struct reference_write_answer *answer)
 {
     struct writing writing;
-    struct finding refusal = find_wrong_counts(word_count, corner_count);
+    struct finding refusal = find_wrong_pitch(pitch);
+    if (refusal.number == 0) {
+        refusal = find_wrong_counts(word_count, corner_count);
+    }
     if (refusal.number == 0) {
         writing.length = 0;
+        put_pitch(&writing, pitch);
         put_sheet(&writing, words, word_count, corners, corner_count);
         if (text_length < writing.length) {
             refusal = found(3, 1);

@@ -15,7 +15,7 @@
 #define REFERENCE_MOST_SET_TRIANGLES 3072
 #define REFERENCE_LONGEST_LOOP 64
 #define REFERENCE_GREATEST_COORDINATE 32767
-#define REFERENCE_LONGEST_TEXT 47131
+#define REFERENCE_LONGEST_TEXT 47140
 #define REFERENCE_LONGEST_STL 51284
 #define REFERENCE_STL_FRONT 84
 #define REFERENCE_STL_FACET 50
@@ -41,12 +41,14 @@ struct reference_patch_answer {
     size_t corners;
 };
 
-/* The answer of the readers of sheet texts and of files of facets. */
+/* The answer of the readers of sheet texts and of files of facets. A file has
+   no pitch of its own, and so that of a text without a pitch line: 1. */
 struct reference_read_answer {
     size_t number;
     size_t place;
     size_t words;
     size_t corners;
+    size_t pitch;
 };
 
 /* The answer of the writer of sheet texts. */
@@ -74,18 +76,24 @@ struct reference_memo {
     int64_t least[REFERENCE_LONGEST_LOOP][REFERENCE_LONGEST_LOOP];
 };
 
-/* Gives 0, 7 or 8. With 0, *whole is the nearest whole number and *rest the
-   bits of the rest, 0 where exact. With 8, *rest is the word and *whole 0.
-   With 7 both are 0. */
-int reference_coordinate(uint32_t word, int32_t *whole, uint32_t *rest);
+/* Whether a number is a pitch: 1, 2, 5 or 10. */
+int reference_is_pitch(uint32_t number);
 
-/* Grid, rings and lengths of all loops, or a refusal 1 to 8 (buffers: grid 1,
-   rings 2, lengths 3). */
+/* How far the grid reaches at that pitch: the greatest multiple that is not too far. */
+int32_t reference_greatest(uint32_t pitch);
+
+/* Gives 0, 7, 8 or 17. With 0, *whole is the nearest multiple of the pitch
+   and *rest the bits of the rest, 0 where exact. With 8, *rest is the word
+   and *whole 0. With 7 and 17 both are 0. */
+int reference_coordinate(uint32_t word, int32_t *whole, uint32_t *rest, uint32_t pitch);
+
+/* Grid, rings and lengths of all loops, or a refusal 17 or 1 to 8 (buffers:
+   grid 1, rings 2, lengths 3). */
 void reference_survey(const uint32_t *words, size_t word_count,
                       const uint16_t *corners, size_t corner_count,
                       int32_t *grid, size_t grid_length,
                       uint16_t *rings, size_t rings_length,
-                      uint16_t *lengths, size_t lengths_length,
+                      uint16_t *lengths, size_t lengths_length, uint32_t pitch,
                       struct reference_answer *answer);
 
 /* The patcher with its six buffers. */
@@ -96,7 +104,7 @@ void reference_patch(const uint32_t *words, size_t word_count,
                      uint16_t *lengths, size_t lengths_length,
                      uint16_t *states, size_t states_length,
                      uint64_t *weights, size_t weights_length,
-                     uint16_t *patches, size_t patches_length,
+                     uint16_t *patches, size_t patches_length, uint32_t pitch,
                      struct reference_patch_answer *answer);
 
 /* The checker: the set is state_count states and set_count corners. */
@@ -106,7 +114,7 @@ void reference_check(const uint32_t *words, size_t word_count,
                      const uint16_t *set, size_t set_count,
                      int32_t *grid, size_t grid_length,
                      uint16_t *rings, size_t rings_length,
-                     uint16_t *lengths, size_t lengths_length,
+                     uint16_t *lengths, size_t lengths_length, uint32_t pitch,
                      struct reference_answer *answer);
 
 /* Reads a sheet text; refusals 10, 3 (words 1, corners 2) and 4. */
@@ -115,10 +123,10 @@ void reference_read(const uint8_t *text, size_t text_length,
                     uint16_t *corners, size_t corners_length,
                     struct reference_read_answer *answer);
 
-/* Writes a sheet text; refusals 1, 2, 3 (text 1) and 4. */
+/* Writes a sheet text; refusals 17, 1, 2, 3 (text 1) and 4. */
 void reference_write(const uint32_t *words, size_t word_count,
                      const uint16_t *corners, size_t corner_count,
-                     uint8_t *text, size_t text_length,
+                     uint8_t *text, size_t text_length, uint32_t pitch,
                      struct reference_write_answer *answer);
 
 /* Reads the text of a patch set whose first line is line first_line;

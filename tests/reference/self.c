@@ -15,7 +15,9 @@ enum tally {
     TALLY_PATCHED, TALLY_LOOPS, TALLY_HOLES, TALLY_LONG, TALLY_NO_COVER, TALLY_RIMS, TALLY_LONG_RIMS, TALLY_EQUAL_RUNS,
     TALLY_SHORTER_RIMS, TALLY_PIECES, TALLY_CLOSED_PIECES, TALLY_SPLIT, TALLY_ENUMERATED,
     TALLY_IS_NO_COVER, TALLY_IS_COVER, TALLY_VERDICT, TALLY_RIM_REFUSED, TALLY_HOLE_NO_RIM, TALLY_READ, TALLY_WRONG_LINE,
-    TALLY_FILES_READ, TALLY_JOINED, TALLY_MISFITS, TALLY_MANY_FACETS, TALLY_MANY_POINTS, TALLIES
+    TALLY_FILES_READ, TALLY_JOINED, TALLY_MISFITS, TALLY_MANY_FACETS, TALLY_MANY_POINTS,
+    TALLY_COARSE, TALLY_COARSE_HOLES, TALLY_COARSE_WEIGHED, TALLY_COARSE_READ, TALLY_COARSE_WRONG_LINE, TALLY_COARSE_TIES, TALLY_COARSE_FAR,
+    TALLIES
 };
 
 static const char *const tally_names[TALLIES] = {
@@ -26,12 +28,15 @@ static const char *const tally_names[TALLIES] = {
     "verdicts compared with all covers", "verdicts on a rim that is not declared 4",
     "verdicts on a loop that is no rim and declared 4", "texts read and written again", "texts with a wrong line",
     "files of facets read", "corners that are a point met before", "files whose length does not fit", "files of too many facets",
-    "files of too many points"};
+    "files of too many points", "surfaces patched at a coarse pitch", "their loops of state 1", "of these with a weight",
+    "texts read with a pitch line", "texts with a wrong line after a pitch line", "ties at a coarse pitch",
+    "coordinates too far at a coarse pitch"};
 
 static size_t faults;
 static size_t tallies[TALLIES];
-static size_t patch_numbers[9];
-static size_t check_numbers[16];
+#define HIGHEST 17
+static size_t patch_numbers[HIGHEST + 1];
+static size_t check_numbers[HIGHEST + 1];
 static uint64_t self_seed;
 
 static void expect(int holds, const char *what)
@@ -88,7 +93,7 @@ static void patch_lent(const struct generated_surface *s, struct reference_patch
     memset(&lent, MARK, sizeof lent);
     reference_patch(s->words, s->word_count, s->corners, s->corner_count,
                     lent.grid, s->lent[0], lent.rings, s->lent[1], lent.lengths, s->lent[2],
-                    lent.states, s->lent[3], lent.weights, s->lent[4], lent.patches, s->lent[5], answer);
+                    lent.states, s->lent[3], lent.weights, s->lent[4], lent.patches, s->lent[5], s->pitch, answer);
     expect_rest_stays(&lent, answer->number == 0 ? s->word_count : 0, answer->vertices, answer->loops,
                       answer->loops, answer->corners);
 }
@@ -99,8 +104,9 @@ static void check_lent(const struct generated_surface *s, const struct generated
     memset(&other, MARK, sizeof other);
     reference_check(s->words, s->word_count, s->corners, s->corner_count,
                     set->states, set->state_count, set->corners, set->corner_count,
-                    other.grid, s->lent[0], other.rings, s->lent[1], other.lengths, s->lent[2], answer);
-    expect_rest_stays(&other, answer->number == 0 || answer->number > 10 ? s->word_count : 0,
+                    other.grid, s->lent[0], other.rings, s->lent[1], other.lengths, s->lent[2], s->pitch, answer);
+    int judged = answer->number == 0 || (answer->number >= 11 && answer->number <= 15);
+    expect_rest_stays(&other, judged ? s->word_count : 0,
                       answer->vertices, answer->loops, 0, 0);
 }
 
@@ -365,7 +371,10 @@ static void expect_patched_surface(const struct generated_surface *s,
     size_t open = 0;
     memcpy(all, s->corners, s->corner_count * sizeof all[0]);
     memcpy(all + s->corner_count, lent.patches, answer->corners * sizeof all[0]);
+    tallies[TALLY_COARSE] += s->pitch != 1;
     for (size_t loop = 0; loop < answer->loops; loop++) {
+        tallies[TALLY_COARSE_HOLES] += s->pitch != 1 && lent.states[loop] == 1;
+        tallies[TALLY_COARSE_WEIGHED] += s->pitch != 1 && lent.weights[loop] > 0;
         tallies[TALLY_HOLES] += lent.states[loop] == 1;
         tallies[TALLY_LONG] += lent.states[loop] == 2;
         tallies[TALLY_NO_COVER] += lent.states[loop] == 3;
@@ -641,7 +650,7 @@ static void expect_same_refusal(const struct generated_surface *s, const struct 
     check_lent(s, set, &check);
     memset(&other, MARK, sizeof other);
     reference_survey(s->words, s->word_count, s->corners, s->corner_count, other.grid, s->lent[0],
-                     other.rings, s->lent[1], other.lengths, s->lent[2], &survey);
+                     other.rings, s->lent[1], other.lengths, s->lent[2], s->pitch, &survey);
     if (patch->number != 0 && !(patch->number == 3 && patch->place > 3)) {
         expect(check.number == patch->number && check.place == patch->place,
                "the checker refuses otherwise");
@@ -678,11 +687,11 @@ static void expect_written_again(const uint8_t *text, size_t length, const uint3
     static uint8_t written[REFERENCE_LONGEST_TEXT];
     struct reference_write_answer answer;
     memset(written, MARK, sizeof written);
-    reference_write(words, read->words, corners, read->corners, written, length - 1, &answer);
+    reference_write(words, read->words, corners, read->corners, written, length - 1, (uint32_t)read->pitch, &answer);
     expect(answer.number == 3 && answer.place == 1 && answer.bytes == 0
                && is_marked(written, 0, sizeof written),
            "a text buffer short by one is not refused");
-    reference_write(words, read->words, corners, read->corners, written, length, &answer);
+    reference_write(words, read->words, corners, read->corners, written, length, (uint32_t)read->pitch, &answer);
     expect(answer.number == 0 && answer.place == 0 && answer.bytes == length
                && memcmp(written, text, length) == 0 && is_marked(written, length, sizeof written),
            "writing what was read gives another text");
@@ -715,7 +724,7 @@ static void expect_short_refused(reader *reads, const uint8_t *bytes, size_t len
            "a refused reader writes");
 }
 
-/* A surface with faults is written, or refused with 1, 2 or 4 and nothing written. */
+/* A surface with faults is written, or refused with 17, 1, 2 or 4 and nothing written. */
 static void expect_surface_written(const struct generated_surface *s)
 {
     static uint8_t plain[GENERATE_TEXT_ROOM];
@@ -723,11 +732,12 @@ static void expect_surface_written(const struct generated_surface *s)
     struct reference_write_answer answer;
     size_t length = generate_sheet_text(s, plain);
     memset(text, MARK, sizeof text);
-    reference_write(s->words, s->word_count, s->corners, s->corner_count, text, sizeof text, &answer);
+    reference_write(s->words, s->word_count, s->corners, s->corner_count, text, sizeof text, s->pitch, &answer);
     if (answer.number == 0) {
         expect(answer.bytes == length && memcmp(text, plain, length) == 0, "a surface is written otherwise");
     } else {
-        expect(answer.number == 1 || answer.number == 2 || answer.number == 4,
+        expect((answer.number == 17) == !reference_is_pitch(s->pitch), "the writer's 17 is not that of a wrong pitch");
+        expect(answer.number == 1 || answer.number == 2 || answer.number == 4 || answer.number == 17,
                "the writer gives a number that is not its own");
         expect(answer.bytes == 0, "a refused writer counts bytes");
     }
@@ -742,7 +752,8 @@ static void expect_sheet_text(struct generator *generator, const struct generate
     static uint16_t corners[REFERENCE_MOST_CORNERS];
     struct reference_read_answer read;
     size_t length = generate_sheet_text(s, text);
-    if (generate_below(generator, 2) == 0) {
+    int damaged = generate_below(generator, 2) == 0;
+    if (damaged) {
         length = generate_text_damage(generator, text, length);
     }
     memset(words, MARK, sizeof words);
@@ -750,6 +761,10 @@ static void expect_sheet_text(struct generator *generator, const struct generate
     reference_read(text, length, words, REFERENCE_MOST_WORDS, corners, REFERENCE_MOST_CORNERS, &read);
     expect(is_marked(words, read.words * sizeof words[0], sizeof words), "words past their end");
     expect(is_marked(corners, read.corners * sizeof corners[0], sizeof corners), "corners past their end");
+    expect(read.number == 0 ? reference_is_pitch((uint32_t)read.pitch) : read.pitch == 0, "a text has no pitch, or a refusal has one");
+    expect(read.number != 0 || damaged || read.pitch == s->pitch, "a text is read at another pitch");
+    tallies[TALLY_COARSE_READ] += read.number == 0 && read.pitch != 1;
+    tallies[TALLY_COARSE_WRONG_LINE] += read.number == 10 && s->pitch != 1 && read.place > 1;
     if (read.number == 0) {
         expect_written_again(text, length, words, corners, &read);
         expect_short_refused(reference_read, text, length, &read);
@@ -872,27 +887,38 @@ static int scaled(uint32_t word, __int128 *value)
     return 1;
 }
 
-/* "The rest is the value less the whole number; it is always exactly a
-   binary32 number, at most one half in size." "a tie going to the even one". */
-static void expect_parts(__int128 value, int32_t whole, uint32_t rest)
+/* "The rest is then at most half a pitch, is still exact". "a tie to the even multiple". */
+static void expect_parts(__int128 value, int32_t whole, uint32_t rest, int32_t pitch)
 {
-    const __int128 one = (__int128)1 << 60;
+    const __int128 step = (__int128)pitch << 60;
     __int128 left;
-    expect(scaled(rest, &left) && value == whole * one + left, "a value is not its whole number and rest");
-    expect(2 * left <= one && -2 * left <= one, "a rest is more than a half");
-    expect((2 * left != one && -2 * left != one) || whole % 2 == 0, "a tie goes to the odd one");
-    expect(whole >= -32767 && whole <= 32767, "a whole number is too far");
+    expect(whole % pitch == 0, "a coordinate goes to no multiple of the pitch");
+    expect(scaled(rest, &left) && value == whole / pitch * step + left, "a value is not its multiple and rest");
+    expect(2 * left <= step && -2 * left <= step, "a rest is more than half a pitch");
+    int tie = 2 * left == step || -2 * left == step;
+    expect(!tie || whole / pitch % 2 == 0, "a tie goes to the odd multiple");
+    tallies[TALLY_COARSE_TIES] += tie && pitch != 1;
+    expect(whole >= -32767 && whole <= 32767, "a multiple is too far");
     expect(left != 0 || rest == 0, "the rest of an exact word is not 0");
 }
 
-static void expect_coordinate(uint32_t word)
+/* Whether a value lies beyond the middle behind the farthest multiple, or on it where the tie goes outwards. */
+static int lies_off(__int128 value, int32_t pitch)
 {
-    const __int128 one = (__int128)1 << 60;
+    int32_t farthest = reference_greatest((uint32_t)pitch);
+    __int128 twice = 2 * (value < 0 ? -value : value);
+    __int128 middle = (__int128)(2 * farthest + pitch) << 60;
+    return twice > middle || (twice == middle && farthest / pitch % 2 != 0);
+}
+
+static void expect_coordinate(uint32_t word, uint32_t pitch)
+{
     uint32_t field = (word >> 23) & 0xff;
     int32_t whole;
     uint32_t rest;
     __int128 value;
-    int number = reference_coordinate(word, &whole, &rest);
+    int number = reference_coordinate(word, &whole, &rest, pitch);
+    tallies[TALLY_COARSE_FAR] += number == 8 && pitch != 1;
     expect((number == 7) == (field == 255), "not finite is told wrongly");
     if (number == 7) {
         expect(whole == 0 && rest == 0, "a word that is not finite has parts");
@@ -901,30 +927,45 @@ static void expect_coordinate(uint32_t word)
     } else if (!scaled(word, &value)) {
         expect(number == 0 && whole == 0 && rest == word, "a tiny word is not its own rest");
     } else if (number == 8) {
-        expect((2 * value >= 65535 * one || -2 * value >= 65535 * one) && rest == word,
-               "a word is called too far that is not");
+        expect(lies_off(value, (int32_t)pitch) && rest == word, "a word is called too far that is not");
     } else {
-        expect_parts(value, whole, rest);
+        expect_parts(value, whole, rest, (int32_t)pitch);
     }
 }
 
 /* "0.5 gives 0 rest 0.5; 1.5 gives 2 rest -0.5; -1.5 gives -2 rest 0.5;
-   32767.498046875 gives 32,767; 32767.5 is too far. Infinity is not finite." */
+   32767.498046875 gives 32,767; 32767.5 is too far. Infinity is not finite."
+   Then the coarse pitches: 5 and 15 at 10, 2.5 and 7.5 at 5, 1 and 3 at 2 are
+   ties; 12 and 13 at 5; next to a tie; the last that is kept and the first
+   that is not, at each pitch; what has no digits above the point; and numbers
+   that are no pitch. */
 static void expect_coordinate_examples(void)
 {
     static const struct {
         uint32_t word;
+        uint32_t pitch;
         int number;
         int32_t whole;
         uint32_t rest;
-    } rows[8] = {
-        {0x3f000000, 0, 0, 0x3f000000}, {0x3fc00000, 0, 2, 0xbf000000}, {0xbfc00000, 0, -2, 0x3f000000},
-        {0x46fffeff, 0, 32767, 0x3eff0000}, {0x46ffff00, 8, 0, 0x46ffff00}, {0x7f800000, 7, 0, 0},
-        {0x00000000, 0, 0, 0}, {0x80000000, 0, 0, 0}};
-    for (size_t r = 0; r < 8; r++) {
+    } rows[] = {
+        {0x3f000000, 1, 0, 0, 0x3f000000}, {0x3fc00000, 1, 0, 2, 0xbf000000}, {0xbfc00000, 1, 0, -2, 0x3f000000},
+        {0x46fffeff, 1, 0, 32767, 0x3eff0000}, {0x46ffff00, 1, 8, 0, 0x46ffff00}, {0x7f800000, 1, 7, 0, 0},
+        {0x00000000, 1, 0, 0, 0}, {0x80000000, 1, 0, 0, 0},
+        {0x40a00000, 10, 0, 0, 0x40a00000}, {0x41700000, 10, 0, 20, 0xc0a00000}, {0xc1700000, 10, 0, -20, 0x40a00000},
+        {0x40200000, 5, 0, 0, 0x40200000}, {0x40f00000, 5, 0, 10, 0xc0200000}, {0xc0f00000, 5, 0, -10, 0x40200000},
+        {0x3f800000, 2, 0, 0, 0x3f800000}, {0x40400000, 2, 0, 4, 0xbf800000}, {0xc0400000, 2, 0, -4, 0x3f800000},
+        {0x41400000, 5, 0, 10, 0x40000000}, {0x41500000, 5, 0, 15, 0xc0000000},
+        {0x40efffff, 5, 0, 5, 0x401ffffe}, {0x40f00001, 5, 0, 10, 0xc01ffffe},
+        {0x46fffc00, 2, 0, 32766, 0}, {0x46fffdff, 2, 0, 32766, 0x3f7f8000}, {0x46fffe00, 2, 8, 0, 0x46fffe00},
+        {0x46fffeff, 5, 0, 32765, 0x401fe000}, {0x46ffff00, 5, 8, 0, 0x46ffff00},
+        {0x46fffa00, 10, 0, 32760, 0x40a00000}, {0x46fffa01, 10, 8, 0, 0x46fffa01}, {0xc6fffa01, 10, 8, 0, 0xc6fffa01},
+        {0x00000005, 10, 0, 0, 0x00000005}, {0x80000000, 10, 0, 0, 0}, {0x4b000000, 10, 8, 0, 0x4b000000}, {0xff800000, 2, 7, 0, 0},
+        {0x40a00000, 0, 17, 0, 0}, {0x40a00000, 3, 17, 0, 0}, {0x40a00000, 4, 17, 0, 0}, {0x40a00000, 20, 17, 0, 0},
+        {0x7fc00000, 0xffffffff, 17, 0, 0}};
+    for (size_t r = 0; r < sizeof rows / sizeof rows[0]; r++) {
         int32_t whole;
         uint32_t rest;
-        int number = reference_coordinate(rows[r].word, &whole, &rest);
+        int number = reference_coordinate(rows[r].word, &whole, &rest, rows[r].pitch);
         expect(number == rows[r].number && whole == rows[r].whole && rest == rows[r].rest,
                "an example of a coordinate comes out otherwise");
     }
@@ -998,58 +1039,69 @@ static const struct reckoned by_hand[] = {
      1, {4, 2, 0, 1, 3, 5, 6}, {7}, {0}, {4}, {0}, 0, {0}},
 };
 
-static void take_reckoned(const struct reckoned *r, struct generated_surface *s)
+/* The pitches, and for each how far a coordinate may be moved that stays at its multiple. */
+static const struct {
+    int32_t pitch;
+    int32_t within;
+} pitches[4] = {{1, 0}, {2, 0}, {5, 2}, {10, 4}};
+
+/* The surface in pitches in place of plate units, its points moved off their multiples where they come back. */
+static void take_reckoned(const struct reckoned *r, size_t p, struct generated_surface *s)
 {
+    s->pitch = (uint32_t)pitches[p].pitch;
     s->word_count = 3 * r->points;
     for (size_t w = 0; w < s->word_count; w++) {
-        s->words[w] = sheet_word(r->at[w]);
+        s->words[w] = sheet_word(r->at[w] * pitches[p].pitch + (w % 2 == 0 ? pitches[p].within : -pitches[p].within));
     }
     s->corner_count = 3 * r->triangles;
     memcpy(s->corners, r->corners, sizeof r->corners);
     generate_lend_exactly(s);
 }
 
-static void expect_reckoned(const struct reckoned *r)
+/* Runs grow with the pitch, and weights with its square; all else is the same at every pitch. */
+static void expect_reckoned(const struct reckoned *r, size_t p)
 {
     static struct generated_surface surface;
     uint16_t pieces[REFERENCE_MOST_TRIANGLES];
     struct reference_patch_answer answer;
     size_t before = faults;
     size_t at = 0;
-    take_reckoned(r, &surface);
+    int64_t pitch = pitches[p].pitch;
+    take_reckoned(r, p, &surface);
     patch_lent(&surface, &answer);
     reference_pieces(surface.corners, surface.corner_count, pieces);
     expect(memcmp(pieces, r->pieces, r->triangles * sizeof pieces[0]) == 0, "other pieces than by hand");
     expect(answer.number == 0 && answer.loops == r->loops && answer.corners == r->laid, "another answer than by hand");
     for (size_t loop = 0; loop < r->loops; loop++) {
-        expect(reference_run(lent.grid, r->rings + at, r->lengths[loop]) == r->runs[loop], "another run than by hand");
+        expect(reference_run(lent.grid, r->rings + at, r->lengths[loop]) == pitch * r->runs[loop], "another run than by hand");
+        expect(lent.weights[loop] == (uint64_t)(pitch * pitch) * r->weights[loop], "another weight than by hand");
         at += r->lengths[loop];
     }
     expect(answer.vertices == at && memcmp(lent.rings, r->rings, at * sizeof lent.rings[0]) == 0
                && memcmp(lent.lengths, r->lengths, r->loops * sizeof lent.lengths[0]) == 0,
            "other rings than by hand");
     expect(memcmp(lent.states, r->states, r->loops * sizeof lent.states[0]) == 0, "other states than by hand");
-    expect(memcmp(lent.weights, r->weights, r->loops * sizeof lent.weights[0]) == 0, "other weights than by hand");
     expect(memcmp(lent.patches, r->patches, r->laid * sizeof lent.patches[0]) == 0, "another patch than by hand");
     if (faults > before) {
-        printf("this was: %s\n", r->name);
+        printf("this was: %s, at pitch %d\n", r->name, (int)pitch);
     }
 }
 
 /* Rings of any length closed in by frames of any length: the frame lies far out, or the ring's points do. The frame's first edge is
    listed second, so it is loop 1. */
-static void expect_closed_in(size_t length, size_t edges, int frame_far, size_t ring_state, size_t frame_state)
+static void expect_closed_in(size_t length, size_t edges, int frame_far, size_t ring_state, size_t frame_state, size_t pitch)
 {
     static struct generated_surface surface;
     uint16_t points[300];
     struct reference_patch_answer answer;
+    surface.pitch = (uint32_t)pitch;
     surface.corner_count = 0;
     surface.word_count = 3 * (length + edges);
     for (size_t p = 0; p < length + edges; p++) {
         int far = (p >= length) == frame_far;
         points[p] = (uint16_t)p;
-        surface.words[3 * p] = sheet_word(far ? (p % 2 == 0 ? 30000 : -30000) : (int32_t)(p % 3));
-        surface.words[3 * p + 1] = sheet_word((int32_t)(p % 5));
+        surface.words[3 * p] = sheet_word(far ? (p % 2 == 0 ? 30000 : -30000) : (int32_t)(p % 3 * pitch));
+        surface.words[3 * p + 1] = sheet_word((int32_t)(p % 5 * pitch));
         surface.words[3 * p + 2] = sheet_word(0);
     }
     sheet_add_collar(&surface, points, length, points + length, edges);
@@ -1062,12 +1114,12 @@ static void expect_closed_in(size_t length, size_t edges, int frame_far, size_t 
 }
 
 /* A set for the plate with a hole, rings 0,1,2 and 4,3,5, and what it gets. */
-static void expect_plate_verdict(uint16_t rim, uint16_t hole, const uint16_t *corners, size_t count, size_t number, size_t place)
+static void expect_plate_verdict(size_t p, uint16_t rim, uint16_t hole, const uint16_t *corners, size_t count, size_t number, size_t place)
 {
     static struct generated_surface surface;
     static struct generated_set set;
     struct reference_answer answer;
-    take_reckoned(&by_hand[1], &surface);
+    take_reckoned(&by_hand[1], p, &surface);
     set.state_count = 2;
     set.states[0] = rim;
     set.states[1] = hole;
@@ -1078,40 +1130,45 @@ static void expect_plate_verdict(uint16_t rim, uint16_t hole, const uint16_t *co
            "a set for the plate gets another verdict than by hand");
 }
 
-static void expect_plate_verdicts(void)
+static void expect_plate_verdicts(size_t p)
 {
     static const uint16_t right[3] = {5, 3, 4}, turned[3] = {4, 3, 5}, both[6] = {0, 2, 1, 4, 5, 3}, after[6] = {4, 5, 3, 0, 2, 1};
     static const uint16_t others[7] = {0, 1, 2, 3, 5, 9, 65535};
-    expect_plate_verdict(4, 1, right, 3, 0, 0);
+    expect_plate_verdict(p, 4, 1, right, 3, 0, 0);
     for (size_t o = 0; o < 7; o++) {
-        expect_plate_verdict(others[o], 1, right, 3, 11, 0);
-        expect_plate_verdict(others[o], 1, both, 6, 11, 0);
+        expect_plate_verdict(p, others[o], 1, right, 3, 11, 0);
+        expect_plate_verdict(p, others[o], 1, both, 6, 11, 0);
         if (others[o] != 1) {
-            expect_plate_verdict(4, others[o], right, 3, 11, 1);
+            expect_plate_verdict(p, 4, others[o], right, 3, 11, 1);
         }
     }
-    expect_plate_verdict(4, 4, right, 3, 11, 1);
-    expect_plate_verdict(4, 4, right, 0, 11, 1);
-    expect_plate_verdict(4, 1, right, 0, 12, 1);
-    expect_plate_verdict(4, 1, turned, 3, 12, 1);
-    expect_plate_verdict(4, 1, both, 6, 12, 1);
-    expect_plate_verdict(4, 1, after, 6, 15, 3);
+    expect_plate_verdict(p, 4, 4, right, 3, 11, 1);
+    expect_plate_verdict(p, 4, 4, right, 0, 11, 1);
+    expect_plate_verdict(p, 4, 1, right, 0, 12, 1);
+    expect_plate_verdict(p, 4, 1, turned, 3, 12, 1);
+    expect_plate_verdict(p, 4, 1, both, 6, 12, 1);
+    expect_plate_verdict(p, 4, 1, after, 6, 15, 3);
 }
 
 static void expect_by_hand(void)
 {
     for (size_t r = 0; r < sizeof by_hand / sizeof by_hand[0]; r++) {
-        expect_reckoned(&by_hand[r]);
+        for (size_t p = 0; p < 4; p++) {
+            expect_reckoned(&by_hand[r], p);
+        }
     }
     for (size_t n = 3; n <= REFERENCE_LONGEST_LOOP + 2; n++) {
         size_t patched = n > REFERENCE_LONGEST_LOOP ? 2 : 1;
-        expect_closed_in(n, 3, 1, patched, 4);
-        expect_closed_in(n, n, 1, patched, 4);
-        expect_closed_in(n, 100, 1, patched, 4);
-        expect_closed_in(3, n, 0, 4, patched);
-        expect_closed_in(100, n, 0, 4, patched);
+        size_t pitch = (size_t)pitches[n % 4].pitch;
+        expect_closed_in(n, 3, 1, patched, 4, 1);
+        expect_closed_in(n, n, 1, patched, 4, pitch);
+        expect_closed_in(n, 100, 1, patched, 4, pitch);
+        expect_closed_in(3, n, 0, 4, patched, pitch);
+        expect_closed_in(100, n, 0, 4, patched, 1);
     }
-    expect_plate_verdicts();
+    for (size_t p = 0; p < 4; p++) {
+        expect_plate_verdicts(p);
+    }
 }
 
 /* ---- Files of facets ---- */
@@ -1370,10 +1427,66 @@ static void expect_file(struct generator *generator)
     tallies[taken.answer.number == 1 ? TALLY_MANY_POINTS : taken.answer.number == 2 ? TALLY_MANY_FACETS : TALLY_MISFITS] += 1;
 }
 
+/* ---- Pitch lines by hand ---- */
+
+#define NO_SHEET "points=0\ntriangles=0\n"
+
+/* Texts with what was reckoned of them by hand: number, place and pitch. */
+static const struct {
+    const char *text;
+    size_t number, place, pitch;
+} heads[] = {
+    {NO_SHEET, 0, 0, 1}, {"pitch=2\n" NO_SHEET, 0, 0, 2}, {"pitch=5\n" NO_SHEET, 0, 0, 5}, {"pitch=10\n" NO_SHEET, 0, 0, 10},
+    {"pitch=1\n" NO_SHEET, 10, 1, 0}, {"pitch=3\n" NO_SHEET, 10, 1, 0}, {"pitch=0\n" NO_SHEET, 10, 1, 0},
+    {"pitch=02\n" NO_SHEET, 10, 1, 0}, {"pitch=010\n" NO_SHEET, 10, 1, 0}, {"pitch=20\n" NO_SHEET, 10, 1, 0},
+    {"pitch=100\n" NO_SHEET, 10, 1, 0}, {"pitch=\n" NO_SHEET, 10, 1, 0}, {"pitch\n" NO_SHEET, 10, 1, 0}, {"pitch=+2\n" NO_SHEET, 10, 1, 0},
+    {"pitch=2 \n" NO_SHEET, 10, 1, 0}, {"pitch=2\r\n" NO_SHEET, 10, 1, 0}, {" pitch=2\n" NO_SHEET, 10, 1, 0},
+    {"Pitch=2\n" NO_SHEET, 10, 1, 0}, {"pitch=2,5\n" NO_SHEET, 10, 1, 0}, {"pitch=2" NO_SHEET, 10, 1, 0}, {"pitch=2", 10, 1, 0},
+    {"pitch=1", 10, 1, 0}, {"pitch=2\n", 10, 2, 0}, {"pitch=10\n", 10, 2, 0}, {"pitch=2\npitch=2\n" NO_SHEET, 10, 2, 0},
+    {"pitch=2\npitch=5\n" NO_SHEET, 10, 2, 0}, {"pitch=2\n\n" NO_SHEET, 10, 2, 0}, {"points=0\npitch=2\ntriangles=0\n", 10, 2, 0},
+    {"points=0\ntriangles=0\npitch=2\n", 10, 3, 0}, {"pitch=2\ntriangles=0\n", 10, 2, 0}, {"pitch=5\npoints=0\n", 10, 3, 0},
+    {"pitch=5\npoints=1\n", 10, 3, 0}, {"pitch=5\n" NO_SHEET "x", 10, 4, 0}, {"pitch=5\npoints=0\ntriangles=1\nt=0,0,x\n", 10, 4, 0},
+    {"pitch=5\npoints=0\ntriangles=1\nt=0,0,0\n", 4, 0, 0}, {"pitch=2\npoints=0\ntriangles=0", 10, 3, 0}};
+
+/* As many points and triangles as there may be, corners of four digits, at every pitch: the text, and a byte too few for it. */
+static void expect_longest_texts(void)
+{
+    static const size_t lengths[4] = {47131, 47139, 47139, 47140};
+    static struct generated_surface s;
+    static uint8_t text[REFERENCE_LONGEST_TEXT];
+    struct reference_write_answer answer;
+    s.word_count = REFERENCE_MOST_WORDS;
+    s.corner_count = REFERENCE_MOST_CORNERS;
+    for (size_t c = 0; c < s.corner_count; c++) {
+        s.corners[c] = (uint16_t)(1000 + c % 24);
+    }
+    for (size_t p = 0; p < 4; p++) {
+        reference_write(s.words, s.word_count, s.corners, s.corner_count, text, lengths[p] - 1, (uint32_t)pitches[p].pitch, &answer);
+        expect(answer.number == 3 && answer.place == 1 && answer.bytes == 0, "a byte too few for the longest text is not refused");
+        reference_write(s.words, s.word_count, s.corners, s.corner_count, text, lengths[p], (uint32_t)pitches[p].pitch, &answer);
+        expect(answer.number == 0 && answer.bytes == lengths[p], "the longest text is not as long as it is due");
+    }
+}
+
+static void expect_heads_by_hand(void)
+{
+    uint32_t words[3];
+    uint16_t corners[3];
+    for (size_t h = 0; h < sizeof heads / sizeof heads[0]; h++) {
+        struct reference_read_answer read;
+        reference_read((const uint8_t *)heads[h].text, strlen(heads[h].text), words, 3, corners, 3, &read);
+        expect(read.number == heads[h].number && read.place == heads[h].place && read.pitch == heads[h].pitch, heads[h].text);
+        if (read.number == 0) {
+            expect_written_again((const uint8_t *)heads[h].text, strlen(heads[h].text), words, corners, &read);
+        }
+    }
+    expect_longest_texts();
+}
+
 /* ---- Full sheets, and small ones with one hole ---- */
 
-/* Each of these sheets has so many loops of states 1 to 4. Where a torus is pierced, one of the holes is the rim. */
-static void expect_sheets(uint64_t seed)
+/* Each of these sheets has so many loops of states 1 to 4, at every pitch. Where a torus is pierced, one of the holes is the rim. */
+static void expect_sheets(uint64_t seed, uint32_t pitch)
 {
     static const size_t counts[][4] = {
         {0, 0, 0, 0}, {203, 0, 0, 1}, {0, 1, 0, 1}, {0, 0, 0, 1022}, {0, 0, 0, 1}, {0, 0, 0, 1},
@@ -1388,14 +1501,18 @@ static void expect_sheets(uint64_t seed)
     const char *name;
     size_t sheet = 0;
     generate_start(&generator, seed);
-    for (; (name = sheet_make(&generator, sheet, &surface)) != NULL; sheet++) {
+    for (; (name = sheet_make(&generator, sheet, &surface, pitch)) != NULL; sheet++) {
         size_t met[4] = {0};
+        size_t weightless = 0;
         patch_lent(&surface, &answer);
         for (size_t loop = 0; loop < answer.loops; loop++) {
             met[lent.states[loop] - 1] += 1;
+            weightless += lent.states[loop] == 1 && lent.weights[loop] == 0;
         }
+        expect(answer.number == 0 && weightless == 0, "a sheet is refused, or has a hole that its pitch made flat");
         if (sheet >= sizeof counts / sizeof counts[0] || memcmp(met, counts[sheet], sizeof met) != 0) {
-            printf("the sheet %s has %zu, %zu, %zu, %zu loops of states 1 to 4\n", name, met[0], met[1], met[2], met[3]);
+            printf("the sheet %s at pitch %u has %zu, %zu, %zu, %zu loops of states 1 to 4\n", name, (unsigned)pitch, met[0], met[1],
+                   met[2], met[3]);
             faults += 1;
         }
     }
@@ -1436,7 +1553,8 @@ static void self_check(struct generator *generator)
     expect_damaged_set_text(generator, &set);
     expect_file(generator);
     for (size_t w = 0; w < 20; w++) {
-        expect_coordinate(generate_word(generator));
+        uint32_t pitch = (uint32_t)pitches[w % 4].pitch;
+        expect_coordinate(generate_word(generator, pitch), pitch);
     }
 }
 
@@ -1450,11 +1568,9 @@ static size_t count_missing(void)
     for (size_t t = 0; t < TALLIES; t++) {
         missing += tallies[t] == 0;
     }
-    for (size_t number = 0; number < 9; number++) {
-        missing += patch_numbers[number] == 0;
-    }
-    for (size_t number = 0; number < 16; number++) {
-        missing += number != 10 && check_numbers[number] == 0;
+    for (size_t number = 0; number <= HIGHEST; number++) {
+        missing += (number <= 8 || number == 17) && patch_numbers[number] == 0;
+        missing += number != 10 && number != 16 && check_numbers[number] == 0;
     }
     if (missing > 0) {
         printf("%zu of these were never met\n", missing);
@@ -1469,7 +1585,10 @@ int self_run(size_t count, uint64_t seed)
     expect_coordinate_examples();
     expect_by_hand();
     expect_files_by_hand();
-    expect_sheets(seed);
+    expect_heads_by_hand();
+    for (size_t p = 0; p < 4; p++) {
+        expect_sheets(seed, (uint32_t)pitches[p].pitch);
+    }
     for (size_t n = 0; n < count; n++) {
         self_seed = seed + n;
         generate_start(&generator, self_seed);
@@ -1478,12 +1597,12 @@ int self_run(size_t count, uint64_t seed)
     for (size_t t = 0; t < TALLIES; t++) {
         printf("%s: %zu\n", tally_names[t], tallies[t]);
     }
-    printf("patcher's numbers 0 to 8:");
-    for (size_t number = 0; number < 9; number++) {
+    printf("patcher's numbers 0 to 17:");
+    for (size_t number = 0; number <= HIGHEST; number++) {
         printf(" %zu", patch_numbers[number]);
     }
-    printf("\nchecker's numbers 0 to 15:");
-    for (size_t number = 0; number < 16; number++) {
+    printf("\nchecker's numbers 0 to 17:");
+    for (size_t number = 0; number <= HIGHEST; number++) {
         printf(" %zu", check_numbers[number]);
     }
     printf("\n");

@@ -106,27 +106,30 @@ static int has_edge(const struct generated_surface *surface, const uint16_t *rin
 static void place_far(struct generated_surface *surface, const uint16_t *frame, size_t edges)
 {
     for (size_t f = 0; f < edges; f++) {
-        int32_t end = f % 2 == 0 ? REFERENCE_GREATEST_COORDINATE : -REFERENCE_GREATEST_COORDINATE;
+        int32_t end = f % 2 == 0 ? reference_greatest(surface->pitch) : -reference_greatest(surface->pitch);
         place_point(surface, frame[f], end, end, end);
     }
 }
 
 void sheet_make_cones(struct generator *generator, struct generated_surface *surface)
 {
-    static const size_t sizes[4] = {0, 2, 500, REFERENCE_GREATEST_COORDINATE};
     uint16_t stock[128];
     uint16_t frame[CUT_EDGES];
     size_t cones = 2 + generate_below(generator, 4);
     size_t points = 64 + generate_below(generator, 65);
+    uint32_t pitch = generate_pitch(generator);
+    size_t greatest = (size_t)reference_greatest(pitch);
+    const size_t sizes[4] = {0, 2 * pitch, 500, greatest};
     size_t size = sizes[generate_below(generator, 4)];
     for (size_t p = 0; p < points; p++) {
         stock[p] = (uint16_t)p;
     }
+    surface->pitch = pitch;
     surface->corner_count = 0;
     place_points(generator, surface, points + CUT_EDGES * cones, size);
     for (size_t cone = 0; cone < cones; cone++) {
         size_t length = 4 + generate_below(generator, REFERENCE_LONGEST_LOOP - 3);
-        size_t edges = size < REFERENCE_GREATEST_COORDINATE ? 3 : 4 + length / 3;
+        size_t edges = size < greatest ? 3 : 4 + length / 3;
         for (size_t tries = 0; tries == 0 || (tries < 5 && has_edge(surface, stock, length)); tries++) {
             draw(generator, stock, points, length);
         }
@@ -187,13 +190,14 @@ static void make_row(struct generated_surface *surface, size_t sheet)
     }
 }
 
-/* The points of a hole: anywhere in a small cube somewhere on the plate. */
+/* The points of a hole: anywhere in a small cube somewhere on the plate. It is as small at every pitch, since a hole of many edges must
+   not run further than its rim, and wide enough for the coarsest one. */
 static void place_hole(struct generator *generator, struct generated_surface *surface,
                        const uint16_t *ring, size_t length)
 {
     int32_t middle[3];
     for (size_t axis = 0; axis < 3; axis++) {
-        middle[axis] = within(generator, REFERENCE_GREATEST_COORDINATE - 500);
+        middle[axis] = within(generator, (size_t)reference_greatest(surface->pitch) - 500);
     }
     for (size_t r = 0; r < length; r++) {
         int32_t at[3];
@@ -208,11 +212,12 @@ static void place_hole(struct generator *generator, struct generated_surface *su
    curve that bends towards it. The nearer the place is to the end, the deeper its patch is listed. */
 static void place_fan(struct generated_surface *surface, const uint16_t *ring, size_t length, size_t apex)
 {
+    int32_t pitch = (int32_t)surface->pitch;
     for (size_t r = 0; r < length; r++) {
         int32_t x = (int32_t)((r + length - apex) % length);
-        place_point(surface, ring[r], x, 1000 + (x - 32) * (x - 32), 0);
+        place_point(surface, ring[r], pitch * x, pitch * (1000 + (x - 32) * (x - 32)), 0);
     }
-    place_point(surface, ring[apex], 32, 0, 0);
+    place_point(surface, ring[apex], pitch * 32, 0, 0);
 }
 
 /* Single triangles over chance diagonals of a hole, which bar them; each is an island of its own. */
@@ -288,13 +293,14 @@ static void make_plate(struct generator *generator, struct generated_surface *su
     }
 }
 
-void sheet_make_pair(struct generator *generator, struct generated_surface *surface, size_t first, size_t second, int shut)
+void sheet_make_pair(struct generator *generator, struct generated_surface *surface, size_t first, size_t second, int shut, uint32_t pitch)
 {
     uint16_t ring[REFERENCE_LONGEST_LOOP + 1];
     uint16_t frame[3] = {0, 1, 2};
     size_t points = 3;
+    surface->pitch = pitch;
     surface->corner_count = 0;
-    place_points(generator, surface, REFERENCE_MOST_POINTS, REFERENCE_GREATEST_COORDINATE);
+    place_points(generator, surface, REFERENCE_MOST_POINTS, (size_t)reference_greatest(pitch));
     for (size_t hole = 0; hole < 2; hole++) {
         size_t length = hole == 0 ? first : second;
         open_hole(surface, ring, length, frame, &points);
@@ -348,7 +354,7 @@ static void make_cut_cone(struct generator *generator, struct generated_surface 
 #define FULL_SHEETS 19
 #define SMALLEST 4
 
-const char *sheet_make(struct generator *generator, size_t sheet, struct generated_surface *surface)
+const char *sheet_make(struct generator *generator, size_t sheet, struct generated_surface *surface, uint32_t pitch)
 {
     static const char *const names[] = {"closed", "small holes", "large holes", "triangles at two hubs",
                                         "fan", "strip", "rims that share a point",
@@ -365,11 +371,12 @@ const char *sheet_make(struct generator *generator, size_t sheet, struct generat
     if (sheet >= sizeof names / sizeof names[0]) {
         return 0;
     }
+    surface->pitch = pitch;
     if (sheet >= FULL_SHEETS) {
         size_t length = SMALLEST + (sheet - FULL_SHEETS) / 2;
         int cone = (sheet - FULL_SHEETS) % 2 == 1;
         surface->corner_count = 0;
-        place_points(generator, surface, cone ? 2 * length : length + 3, REFERENCE_GREATEST_COORDINATE);
+        place_points(generator, surface, cone ? 2 * length : length + 3, (size_t)reference_greatest(pitch));
         if (cone) {
             make_cut_cone(generator, surface, length);
         } else {
@@ -379,7 +386,7 @@ const char *sheet_make(struct generator *generator, size_t sheet, struct generat
         return names[sheet];
     }
     surface->corner_count = 0;
-    place_points(generator, surface, REFERENCE_MOST_POINTS, REFERENCE_GREATEST_COORDINATE);
+    place_points(generator, surface, REFERENCE_MOST_POINTS, (size_t)reference_greatest(pitch));
     switch (sheet) {
     case 0: make_torus(surface, 1025); break;
     case 1: make_torus(surface, 5); break;

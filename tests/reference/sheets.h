@@ -18,17 +18,17 @@ void sheet_add_collar(struct generated_surface *surface, const uint16_t *ring, s
                       const uint16_t *frame, size_t edges);
 
 /* Cones with feet of 4 to 64 edges over a common stock of points, so that a
-   patch of one bars diagonals of the next; buffers exact. Most have their tip
-   cut off, and most of the cuts run so far that they are rims and the feet
-   are holes; the others are islands. */
+   patch of one bars diagonals of the next; at any pitch, buffers exact. Most
+   have their tip cut off, and most of the cuts run so far that they are rims
+   and the feet are holes; the others are islands. */
 void sheet_make_cones(struct generator *generator, struct generated_surface *surface);
 
 /* A plate with two holes of these lengths, up to one edge more than the longest that is patched; where they are to be shut, no allowed
-   cover is left to them; buffers exact. */
-void sheet_make_pair(struct generator *generator, struct generated_surface *surface, size_t first, size_t second, int shut);
+   cover is left to them; at that pitch, buffers exact. */
+void sheet_make_pair(struct generator *generator, struct generated_surface *surface, size_t first, size_t second, int shut, uint32_t pitch);
 
-/* The sheet of that number: first full ones, then small ones with one hole; its points anywhere on the plate, buffers
-   exact; gives its name, or 0 where there is no sheet of that number. */
-const char *sheet_make(struct generator *generator, size_t sheet, struct generated_surface *surface);
+/* The sheet of that number at that pitch: first full ones, then small ones with one hole; its points anywhere on the plate, on whole
+   numbers, which a coarse pitch moves; buffers exact; gives its name, or 0 where there is no sheet of that number. */
+const char *sheet_make(struct generator *generator, size_t sheet, struct generated_surface *surface, uint32_t pitch);
 
 #endif

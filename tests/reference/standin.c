@@ -14,18 +14,18 @@
 
 /* ---- The functions over numbers ---- */
 
-uint32_t wazelpunt_coordinate(uint32_t word, int32_t *whole, uint32_t *rest)
+uint32_t wazelpunt_coordinate(uint32_t word, int32_t *whole, uint32_t *rest, uint32_t pitch)
 {
-    return (uint32_t)reference_coordinate(word, whole, rest);
+    return (uint32_t)reference_coordinate(word, whole, rest, pitch);
 }
 
 uint32_t wazelpunt_survey(const uint32_t *words, size_t words_count, const uint16_t *corners, size_t corners_count,
                           int32_t *grid, size_t grid_length, uint16_t *rings, size_t rings_length, uint16_t *lengths,
-                          size_t lengths_length, size_t *place, size_t *loops, size_t *vertices)
+                          size_t lengths_length, size_t *place, size_t *loops, size_t *vertices, uint32_t pitch)
 {
     struct reference_answer answer;
     reference_survey(words, words_count, corners, corners_count, grid, grid_length, rings, rings_length, lengths, lengths_length,
-                     &answer);
+                     pitch, &answer);
     *place = answer.place;
     *loops = answer.loops;
     *vertices = answer.vertices;
@@ -36,11 +36,11 @@ uint32_t wazelpunt_patch(const uint32_t *words, size_t words_count, const uint16
                          int32_t *grid, size_t grid_length, uint16_t *rings, size_t rings_length, uint16_t *lengths,
                          size_t lengths_length, uint16_t *states, size_t states_length, uint64_t *weights,
                          size_t weights_length, uint16_t *patches, size_t patches_length, size_t *place, size_t *loops,
-                         size_t *vertices, size_t *laid)
+                         size_t *vertices, size_t *laid, uint32_t pitch)
 {
     struct reference_patch_answer answer;
     reference_patch(words, words_count, corners, corners_count, grid, grid_length, rings, rings_length, lengths, lengths_length,
-                    states, states_length, weights, weights_length, patches, patches_length, &answer);
+                    states, states_length, weights, weights_length, patches, patches_length, pitch, &answer);
     *place = answer.place;
     *loops = answer.loops;
     *vertices = answer.vertices;
@@ -51,11 +51,11 @@ uint32_t wazelpunt_patch(const uint32_t *words, size_t words_count, const uint16
 uint32_t wazelpunt_judge(const uint32_t *words, size_t words_count, const uint16_t *corners, size_t corners_count,
                          const uint16_t *states, size_t states_count, const uint16_t *set, size_t set_count, int32_t *grid,
                          size_t grid_length, uint16_t *rings, size_t rings_length, uint16_t *lengths, size_t lengths_length,
-                         size_t *place, size_t *loops, size_t *vertices)
+                         size_t *place, size_t *loops, size_t *vertices, uint32_t pitch)
 {
     struct reference_answer answer;
     reference_check(words, words_count, corners, corners_count, states, states_count, set, set_count, grid, grid_length,
-                    rings, rings_length, lengths, lengths_length, &answer);
+                    rings, rings_length, lengths, lengths_length, pitch, &answer);
     *place = answer.place;
     *loops = answer.loops;
     *vertices = answer.vertices;
@@ -63,13 +63,14 @@ uint32_t wazelpunt_judge(const uint32_t *words, size_t words_count, const uint16
 }
 
 uint32_t wazelpunt_read(const uint8_t *text, size_t text_length, uint32_t *words, size_t words_length, uint16_t *corners,
-                        size_t corners_length, size_t *place, size_t *words_read, size_t *corners_read)
+                        size_t corners_length, size_t *place, size_t *words_read, size_t *corners_read, uint32_t *pitch)
 {
     struct reference_read_answer answer;
     reference_read(text, text_length, words, words_length, corners, corners_length, &answer);
     *place = answer.place;
     *words_read = answer.words;
     *corners_read = answer.corners;
+    *pitch = (uint32_t)answer.pitch;
     return (uint32_t)answer.number;
 }
 
@@ -95,10 +96,10 @@ size_t wazelpunt_facet(const uint8_t *file, size_t file_length, size_t *at, floa
 }
 
 uint32_t wazelpunt_write(const uint32_t *words, size_t words_count, const uint16_t *corners, size_t corners_count,
-                         uint8_t *text, size_t text_length, size_t *place, size_t *bytes)
+                         uint8_t *text, size_t text_length, size_t *place, size_t *bytes, uint32_t pitch)
 {
     struct reference_write_answer answer;
-    reference_write(words, words_count, corners, corners_count, text, text_length, &answer);
+    reference_write(words, words_count, corners, corners_count, text, text_length, pitch, &answer);
     *place = answer.place;
     *bytes = answer.bytes;
     return (uint32_t)answer.number;
@@ -209,7 +210,7 @@ uint32_t wazelpunt_list_text(const uint8_t *text, size_t text_length, uint8_t *o
         reference_patch(desk.words, sheet.words, desk.corners, sheet.corners, desk.grid, REFERENCE_MOST_WORDS,
                         desk.rings, REFERENCE_MOST_CORNERS, desk.lengths, REFERENCE_MOST_TRIANGLES,
                         desk.states, REFERENCE_MOST_TRIANGLES, desk.weights, REFERENCE_MOST_TRIANGLES,
-                        desk.patches, REFERENCE_MOST_PATCH_CORNERS, &patched);
+                        desk.patches, REFERENCE_MOST_PATCH_CORNERS, (uint32_t)sheet.pitch, &patched);
     }
     print_answer(patched.number, patched.place);
     if (patched.number == 0) {
@@ -246,7 +247,7 @@ static struct reference_answer judge(const uint8_t *sheet_text, size_t sheet_len
     struct reference_answer verdict;
     reference_check(desk.words, sheet.words, desk.corners, sheet.corners, desk.set_states, set.states, desk.set_corners, set.corners,
                     desk.grid, REFERENCE_MOST_WORDS, desk.rings, REFERENCE_MOST_CORNERS, desk.lengths, REFERENCE_MOST_TRIANGLES,
-                    &verdict);
+                    (uint32_t)sheet.pitch, &verdict);
     return verdict;
 }
 
@@ -269,7 +270,7 @@ static uint32_t print_sheet(const struct reference_read_answer *sheet, uint8_t *
         return end(out, bytes);
     }
     struct reference_write_answer written;
-    reference_write(desk.words, sheet->words, desk.corners, sheet->corners, out, out_length, &written);
+    reference_write(desk.words, sheet->words, desk.corners, sheet->corners, out, out_length, (uint32_t)sheet->pitch, &written);
     *bytes = written.bytes;
     return (uint32_t)written.number;
 }

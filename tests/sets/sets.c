@@ -1,6 +1,6 @@
 /* Compares wazelpunt_judge with the plain reference: the answer, and every byte of the three lent buffers with what lies before and
    behind them. It takes the scope's examples with what is said of them, as islands and as holes, faults by one and by several, every
-   short set for small loops, holes and rims of every length, full sheets, and made surfaces with made sets.
+   short set for small loops, holes and rims of every length, full sheets, and made surfaces with made sets, at every pitch.
    sets COUNT SEED: that many made sets, from that seed on. */
 #include <inttypes.h>
 #include <stdint.h>
@@ -14,7 +14,8 @@
 #include "../reference/sheets.h"
 #include "wazelpunt.h"
 
-#define HIGHEST 15
+#define HIGHEST 17
+#define PITCHES 4
 
 /* a set as it is handed over */
 struct set {
@@ -26,6 +27,9 @@ struct set {
 
 static struct lent_survey before, ours, theirs;
 static struct reference_answer said, due;
+
+/* the pitches, and how far a coordinate may be moved at each that stays at its multiple */
+static const int32_t pitches[PITCHES] = {1, 2, 5, 10}, within[PITCHES] = {0, 0, 2, 4};
 static size_t cases, wrong;
 
 /* ---- Comparing ---- */
@@ -50,8 +54,8 @@ static int agree(const struct generated_surface *s, struct set t) {
     const size_t *lent = s->lent;
     cases++;
     ours = theirs = before;
-    said.number = wazelpunt_judge(s->words, s->word_count, s->corners, s->corner_count, t.states, t.state_count, t.corners, t.corner_count, ours.grid + GUARD, lent[0], ours.rings + GUARD, lent[1], ours.lengths + GUARD, lent[2], &said.place, &said.loops, &said.vertices);
-    reference_check(s->words, s->word_count, s->corners, s->corner_count, t.states, t.state_count, t.corners, t.corner_count, theirs.grid + GUARD, lent[0], theirs.rings + GUARD, lent[1], theirs.lengths + GUARD, lent[2], &due);
+    said.number = wazelpunt_judge(s->words, s->word_count, s->corners, s->corner_count, t.states, t.state_count, t.corners, t.corner_count, ours.grid + GUARD, lent[0], ours.rings + GUARD, lent[1], ours.lengths + GUARD, lent[2], &said.place, &said.loops, &said.vertices, s->pitch);
+    reference_check(s->words, s->word_count, s->corners, s->corner_count, t.states, t.state_count, t.corners, t.corner_count, theirs.grid + GUARD, lent[0], theirs.rings + GUARD, lent[1], theirs.lengths + GUARD, lent[2], s->pitch, &due);
     return same_answer() && same_buffers();
 }
 
@@ -62,7 +66,7 @@ static void count_wrong(const char *name) {
 /* The set is to get that number and place; a refusal leaves the buffers as they were and both counts 0. */
 static void expect(const char *name, const struct generated_surface *s, struct set t, size_t number, size_t place) {
     int right = agree(s, t) && said.number == number && said.place == place;
-    if (number >= 1 && number <= 9) right = right && said.loops == 0 && said.vertices == 0 && memcmp(&ours, &before, sizeof ours) == 0;
+    if ((number >= 1 && number <= 9) || number == 17) right = right && said.loops == 0 && said.vertices == 0 && memcmp(&ours, &before, sizeof ours) == 0;
     if (!right) count_wrong(name);
 }
 
@@ -225,37 +229,45 @@ static const struct example examples[] = {
     {"a corner after two loops and an open one", THREE_CONES, 3, {1, 1, 3}, 13, {0, 3, 1, 1, 3, 2, 4, 7, 5, 5, 7, 6, 1}, 15, 12},
 };
 
+/* Coordinates that are told in pitches, moved off their multiples where they come back. */
+static void place_in_pitches(uint32_t *words, const int16_t *at, size_t count, size_t p) {
+    for (size_t w = 0; w < count; w++) words[w] = sheet_word(at[w] * pitches[p] + (w % 2 == 0 ? within[p] : -within[p]));
+}
+
 /* Closes a ring in by a frame of so many points, the first of that number, which lie at the ends of the plate in turn. */
 static void close_in(struct generated_surface *s, const uint16_t *ring, size_t length, size_t first, size_t edges) {
     uint16_t frame[REFERENCE_LONGEST_LOOP + 2];
     for (size_t f = 0; f < edges; f++) {
         frame[f] = (uint16_t)(first + f);
-        for (size_t axis = 0; axis < 3; axis++) s->words[3 * frame[f] + axis] = sheet_word(f % 2 == 0 ? 32767 : -32767);
+        for (size_t axis = 0; axis < 3; axis++) s->words[3 * frame[f] + axis] = sheet_word(f % 2 == 0 ? reference_greatest(s->pitch) : -reference_greatest(s->pitch));
     }
     sheet_add_collar(s, ring, length, frame, edges);
     s->word_count = 3 * (first + edges);
     generate_lend_exactly(s);
 }
 
-static void take_shape(const struct shape *shape, struct generated_surface *s) {
+static void take_shape(const struct shape *shape, struct generated_surface *s, size_t p) {
     const uint16_t *ring = shape->ring;
+    s->pitch = (uint32_t)pitches[p];
     s->word_count = 3 * shape->points;
     s->corner_count = 0;
-    for (size_t w = 0; w < s->word_count; w++) s->words[w] = sheet_word(shape->at[w]);
+    place_in_pitches(s->words, shape->at, s->word_count, p);
     for (size_t r = 0; r < shape->rings; ring += shape->lengths[r++]) close_in(s, ring, shape->lengths[r], shape->points + 3 * r, 3);
     for (size_t c = 0; c < shape->bar_count; c += 3) sheet_add_triangle(s, shape->bars[c], shape->bars[c + 1], shape->bars[c + 2]);
     generate_lend_exactly(s);
 }
 
-/* Every ring's state and a 4 for its frame; of states too many or too few there are as many too many or too few. */
-static void compare_examples(void) {
+/* Every ring's state and a 4 for its frame; of states too many or too few there are as many too many or too few. The cone that fills the
+   plate is one at pitch 1 alone. */
+static void compare_examples(size_t p) {
     static struct generated_surface surface;
     for (size_t i = 0; i < sizeof examples / sizeof examples[0]; i++) {
         const struct example *e = &examples[i];
+        if (e->shape == HUGE_CONE && p > 0) continue;
         size_t loops = 2 * shapes[e->shape].rings, place = e->number >= 11 && e->number <= 14 ? 2 * e->place : e->number == 9 ? loops : e->place;
         uint16_t states[9];
         for (size_t l = 0; l < 9; l++) states[l] = l % 2 == 0 && l / 2 < e->state_count ? e->states[l / 2] : 4;
-        take_shape(&shapes[e->shape], &surface);
+        take_shape(&shapes[e->shape], &surface, p);
         expect(e->name, &surface, (struct set){states, loops + e->state_count - shapes[e->shape].rings, e->corners, e->corner_count}, e->number, place);
     }
 }
@@ -370,12 +382,13 @@ static const struct land lands[] = {
     {"the rim by differences of both signs, the other declared the rim", SIGNS, 2, {4, 1}, 3, {0, 2, 1}, 11, 0},
 };
 
-static void compare_lands(void) {
+static void compare_lands(size_t p) {
     static struct generated_surface surface;
     for (size_t i = 0; i < sizeof lands / sizeof lands[0]; i++) {
         const struct land *l = &lands[i];
         surface.word_count = 3 * l->points;
-        for (size_t w = 0; w < surface.word_count; w++) surface.words[w] = sheet_word(l->at[w]);
+        surface.pitch = (uint32_t)pitches[p];
+        place_in_pitches(surface.words, l->at, surface.word_count, p);
         surface.corner_count = l->corner_count;
         memcpy(surface.corners, l->corners, l->corner_count * sizeof *l->corners);
         generate_lend_exactly(&surface);
@@ -387,8 +400,8 @@ static void compare_lands(void) {
 static void compare_long_lists(void) {
     static struct generated_surface nothing, hole;
     static uint16_t states[65536 + 3], corners[65536 + 6] = {0, 3, 2, 0, 2, 1};
-    take_shape(&shapes[NOTHING], &nothing);
-    take_shape(&shapes[EVEN_CONE], &hole);
+    take_shape(&shapes[NOTHING], &nothing, 1);
+    take_shape(&shapes[EVEN_CONE], &hole, 3);
     states[0] = 1;
     states[1] = 4;
     expect("65,536 states for nothing", &nothing, (struct set){states, 65536, corners, 0}, 9, 0);
@@ -409,6 +422,19 @@ static void refuses(const struct generated_surface *s, size_t number, size_t pla
     expect("a refusal with a right set", s, (struct set){states, 3, good, 3}, number, place);
     expect("a refusal with a wrong set", s, (struct set){states, 4, bad, 6}, number, place);
     expect("a refusal with an empty set", s, (struct set){states, 0, good, 0}, number, place);
+}
+
+/* Numbers that are no pitch come before all else. */
+static void refuse_pitches(struct generated_surface *s, uint32_t pitch) {
+    static const uint32_t no_pitches[] = {0, 3, 4, 9, 11, 20, 257, 65538, 0x8000000a, 0xffffffff};
+    s->word_count = 31;
+    s->corner_count = 29;
+    memset(s->lent, 0, sizeof s->lent);
+    for (size_t n = 0; n < sizeof no_pitches / sizeof *no_pitches; n++) {
+        s->pitch = no_pitches[n];
+        refuses(s, 17, 0);
+    }
+    s->pitch = pitch;
 }
 
 static void refuse_counts(struct generated_surface *s) {
@@ -454,17 +480,19 @@ static void refuse_coordinates(struct generated_surface *s) {
 
 /* A surface with every fault there is, and a set likewise, which are mended one after the other: each answer comes before the next.
    At last the surface has the rim 4,5,6, its hole 8,7,9, and the island 0,1,3. */
-static void compare_refusals(void) {
+static void compare_refusals(size_t p) {
     static struct generated_surface s;
     static const uint16_t corners[30] = {4, 5, 7, 5, 8, 7, 5, 6, 8, 6, 9, 8, 6, 4, 9, 4, 7, 9, 0, 1, 2, 0, 2, 10, 3, 2, 3, 0, 1, 3};
     static const uint16_t states[4][4] = {{0, 4, 1, 4}, {4, 4, 1, 4}, {4, 1, 1, 4}, {4, 1, 4, 4}}, set[10] = {8, 7, 9, 8, 9, 7};
+    static const uint32_t kept[PITCHES] = {0x46fffeff, 0x46fffdff, 0x46fffeff, 0x46fffa00};
     for (size_t w = 0; w < 12; w++) s.words[w] = sheet_word((int32_t)w);
-    for (size_t w = 0; w < 18; w++) s.words[12 + w] = sheet_word(plate_at[w]);
+    place_in_pitches(s.words + 12, plate_at, 18, p);
     memcpy(s.corners, corners, sizeof corners);
     s.words[9] = 0x7f800000;
     s.words[10] = 0xffc00000;
     s.words[1] = 0x46ffff00;
     s.words[2] = 0xc6ffff00;
+    refuse_pitches(&s, (uint32_t)pitches[p]);
     refuse_counts(&s);
     refuse_buffers(&s);
     refuse_triangles(&s);
@@ -477,6 +505,12 @@ static void compare_refusals(void) {
     expect("mended to 11 at the island", &s, (struct set){states[2], 3, set + 3, 4}, 11, 2);
     expect("mended to 15", &s, (struct set){states[3], 3, set + 3, 4}, 15, 3);
     expect("mended", &s, (struct set){states[3], 3, set + 3, 3}, 0, 0);
+    /* the last that the pitch keeps, and the first that it does not */
+    s.words[2] = kept[p];
+    expect("the last that is kept", &s, (struct set){states[3], 3, set + 3, 3}, 0, 0);
+    s.words[2] = 0x80000000 | (kept[p] + 1);
+    refuses(&s, 8, 2);
+    s.words[2] = 0;
 }
 
 /* ---- Several faults ---- */
@@ -488,14 +522,15 @@ static void compare_refusals(void) {
 /* what a loop of at most 64 edges that is no rim and has an allowed cover may not be declared */
 static const uint16_t wrong_states[WRONG_STATES] = {0, 2, 3, 4, 65535};
 
-/* A piece has the ring 0 to 4, and its diagonal 1-3 is barred. Its covers by 0 weigh 129, by 2 and by 4 255; the barred ones 121 and
-   151. Its rim is 5 to 7. */
-static void add_piece(struct generated_surface *s, size_t piece) {
+/* A piece has the ring 0 to 4, and its diagonal 1-3 is barred. Its covers by 0 weigh 129 squares of the pitch, by 2 and by 4 255; the
+   barred ones 121 and 151. Its rim is 5 to 7. */
+static void add_piece(struct generated_surface *s, size_t piece, size_t p) {
     static const int16_t at[15] = {0, 0, 0, 10, 0, 0, 12, 8, 0, 5, 3, 0, 0, 9, 0};
     size_t first = PIECE_POINTS * piece;
     uint16_t ring[5];
     for (size_t r = 0; r < 5; r++) ring[r] = (uint16_t)(first + r);
-    for (size_t w = 0; w < 15; w++) s->words[3 * first + w] = sheet_word(at[w]);
+    s->pitch = (uint32_t)pitches[p];
+    place_in_pitches(s->words + 3 * first, at, 15, p);
     close_in(s, ring, 5, first + 5, 3);
     sheet_add_triangle(s, first + 1, first + 3, first + 8);
     sheet_add_triangle(s, first + 1, first + 8, first + 3);
@@ -515,11 +550,11 @@ static void add_part(struct generated_set *t, size_t fault, size_t piece, uint16
 
 /* Every choice of faults for three pieces, without and with a corner left, for each wrong state: the first loop that has a fault
    decides, and 15 comes last. */
-static void compare_faults(void) {
+static void compare_faults(size_t p) {
     static struct generated_surface surface;
     static struct generated_set set;
     surface.corner_count = 0;
-    for (size_t piece = 0; piece < PIECES; piece++) add_piece(&surface, piece);
+    for (size_t piece = 0; piece < PIECES; piece++) add_piece(&surface, piece, p);
     for (size_t choice = 0; choice < 2 * 216 * WRONG_STATES; choice++) {
         const size_t faults[PIECES] = {choice % 6, choice / 6 % 6, choice / 36 % 6};
         size_t first = 0, left = choice / 216 % 2;
@@ -550,9 +585,9 @@ static void got_all(size_t all, size_t passed, size_t barred, size_t heavy) {
 }
 
 /* Every six of the corners 0 to 4, for the ring 0,1,2,3. A cover stands in two orders, each triangle begun at three corners. */
-static void compare_sixes(size_t shape, size_t passed, size_t barred, size_t heavy) {
+static void compare_sixes(size_t shape, size_t p, size_t passed, size_t barred, size_t heavy) {
     static struct generated_surface surface;
-    take_shape(&shapes[shape], &surface);
+    take_shape(&shapes[shape], &surface, p);
     for (size_t list = 0; list < 15625; list++) {
         uint16_t corners[6];
         size_t digits = list;
@@ -563,7 +598,7 @@ static void compare_sixes(size_t shape, size_t passed, size_t barred, size_t hea
 }
 
 /* Every three of the twenty triangles on five vertices, for the ring of a piece. A cover stands in six orders. */
-static void compare_threes(void) {
+static void compare_threes(size_t p) {
     static struct generated_surface surface;
     uint16_t triangles[20][3], corners[9];
     size_t count = 0;
@@ -572,7 +607,7 @@ static void compare_threes(void) {
             for (uint16_t c = (uint16_t)(a + 1); c < 5; c++)
                 if (b != c) memcpy(triangles[count++], (uint16_t[3]){a, b, c}, sizeof triangles[0]);
     surface.corner_count = 0;
-    add_piece(&surface, 0);
+    add_piece(&surface, 0, p);
     for (size_t list = 0; list < 8000; list++) {
         const size_t three[3] = {list % 20, list / 20 % 20, list / 400};
         for (size_t t = 0; t < 3; t++) memcpy(corners + 3 * t, triangles[three[t]], sizeof triangles[0]);
@@ -600,6 +635,7 @@ static void make_hole(struct generated_surface *s, size_t n, int island) {
     uint16_t ring[REFERENCE_LONGEST_LOOP + 1];
     const uint16_t apart[3] = {(uint16_t)(n + 3), (uint16_t)(n + 4), (uint16_t)(n + 5)};
     for (size_t r = 0; r < n; r++) ring[r] = (uint16_t)r;
+    s->pitch = (uint32_t)pitches[n % PITCHES];
     s->corner_count = 0;
     memset(s->words, 0, sizeof s->words);
     if (island) sheet_add_cone(s, ring, n, (uint16_t)n);
@@ -730,7 +766,7 @@ static void take_own(const struct generated_surface *s, struct generated_set *t)
     static uint16_t rings[REFERENCE_MOST_CORNERS], lengths[REFERENCE_MOST_TRIANGLES];
     static uint64_t weights[REFERENCE_MOST_TRIANGLES];
     size_t place, vertices;
-    wazelpunt_patch(s->words, s->word_count, s->corners, s->corner_count, grid, s->lent[0], rings, s->lent[1], lengths, s->lent[2], t->states, s->lent[3], weights, s->lent[4], t->corners, s->lent[5], &place, &loops, &vertices, &t->corner_count);
+    wazelpunt_patch(s->words, s->word_count, s->corners, s->corner_count, grid, s->lent[0], rings, s->lent[1], lengths, s->lent[2], t->states, s->lent[3], weights, s->lent[4], t->corners, s->lent[5], &place, &loops, &vertices, &t->corner_count, s->pitch);
     t->state_count = loops;
     for (size_t l = 0; l < loops; l++) begins[l + 1] = begins[l] + (t->states[l] == 1 ? 3 * (lengths[l] - 2u) : 0);
 }
@@ -781,7 +817,7 @@ static size_t compare_sheets(uint64_t seed) {
     const char *name;
     size_t sheets = 0;
     generate_start(&generator, seed);
-    for (; (name = sheet_make(&generator, sheets, &surface)) != 0; sheets++) compare_sheet(name, &generator, &surface);
+    for (; (name = sheet_make(&generator, sheets, &surface, (uint32_t)pitches[sheets % PITCHES])) != 0; sheets++) compare_sheet(name, &generator, &surface);
     return sheets;
 }
 
@@ -793,7 +829,7 @@ static void compare_pairs(uint64_t seed) {
     size_t many = sizeof lengths / sizeof *lengths;
     generate_start(&generator, seed);
     for (size_t pair = 0; pair < 2 * many * many; pair++) {
-        sheet_make_pair(&generator, &surface, lengths[pair / 2 / many], lengths[pair / 2 % many], pair % 2 == 1);
+        sheet_make_pair(&generator, &surface, lengths[pair / 2 / many], lengths[pair / 2 % many], pair % 2 == 1, (uint32_t)pitches[(pair / 2 + pair / 2 / many) % PITCHES]);
         compare_sheet("two holes", &generator, &surface);
     }
 }
@@ -802,8 +838,9 @@ static void compare_pairs(uint64_t seed) {
 
 #define STATES 6
 
-/* by answers; by the states that were found right; and, each by the state it had, the rims and the other loops that were not */
-static size_t by_answer[HIGHEST + 1], at_first[HIGHEST + 1], patched[REFERENCE_LONGEST_LOOP + 1], right[STATES], rims_wrong[STATES], others_wrong[STATES];
+/* by answers; by pitches those too heavy; by the states that were found right; and, each by the state it had, the rims and the other loops
+   that were not */
+static size_t by_answer[HIGHEST + 1], heavy[PITCHES], at_first[HIGHEST + 1], patched[REFERENCE_LONGEST_LOOP + 1], right[STATES], rims_wrong[STATES], others_wrong[STATES];
 
 /* Counts a loop that got 11: by its state, the last standing for all that are not given, and whether it is a rim. */
 static void meet_wrong_state(const struct generated_surface *s, const struct generated_set *t) {
@@ -813,9 +850,10 @@ static void meet_wrong_state(const struct generated_surface *s, const struct gen
     (rims[due.place] ? rims_wrong : others_wrong)[state]++;
 }
 
-/* Counts the answer, whether a verdict is of the first loop, by their states the loops that are found right, and by their lengths those
-   that are found patched. */
+/* Counts the answer, at which pitch a cover was too heavy, whether a verdict is of the first loop, by their states the loops that are found
+   right, and by their lengths those that are found patched. */
 static void meet(const struct generated_surface *s, const struct generated_set *t) {
+    for (size_t p = 0; p < PITCHES; p++) heavy[p] += due.number == 14 && s->pitch == (uint32_t)pitches[p];
     size_t found = due.number >= 11 && due.number <= 14 ? due.place : due.loops;
     by_answer[due.number]++;
     at_first[due.number] += due.place == 0;
@@ -826,10 +864,11 @@ static void meet(const struct generated_surface *s, const struct generated_set *
     if (due.number == 11) meet_wrong_state(s, t);
 }
 
-/* Whether every answer was met, 11 to 14 at the first loop and at later ones, every state right and wrong, on rims and on others, and loops
-   of every length that are found patched. */
+/* Whether every answer was met, 14 at every pitch, 11 to 14 at the first loop and at later ones, every state right and wrong, on rims and
+   on others, and loops of every length that are found patched. */
 static void met_all(void) {
-    size_t missing = (by_answer[0] == 0) + (by_answer[15] == 0);
+    size_t missing = (by_answer[0] == 0) + (by_answer[15] == 0) + (by_answer[17] == 0);
+    for (size_t p = 0; p < PITCHES; p++) missing += heavy[p] == 0;
     for (size_t n = 1; n <= 9; n++) missing += by_answer[n] == 0;
     for (size_t n = 1; n <= 4; n++) missing += right[n] == 0;
     for (size_t n = 0; n < STATES; n++) missing += (n != 4 && rims_wrong[n] == 0) + (n != 1 && others_wrong[n] == 0);
@@ -861,15 +900,17 @@ int main(int count, char **arguments) {
     struct generator generator;
     generate_start(&generator, seed);
     fill(&before, sizeof before, &generator);
-    compare_examples();
-    compare_lands();
     compare_long_lists();
-    compare_refusals();
-    compare_faults();
-    compare_sixes(STRIP, 1, 1, 0);
-    compare_sixes(CONE, 1, 0, 1);
-    compare_sixes(EVEN_CONE, 2, 0, 0);
-    compare_threes();
+    for (size_t p = 0; p < PITCHES; p++) {
+        compare_examples(p);
+        compare_lands(p);
+        compare_refusals(p);
+        compare_faults(p);
+    }
+    compare_sixes(STRIP, 3, 1, 1, 0);
+    compare_sixes(CONE, 0, 1, 0, 1);
+    compare_sixes(EVEN_CONE, 2, 2, 0, 0);
+    compare_threes(1);
     compare_lengths(seed);
     compare_pairs(seed);
     size_t sheets = compare_sheets(seed), named = cases;
@@ -877,7 +918,9 @@ int main(int count, char **arguments) {
     if (count < 2) met_all();
     printf("sets: %zu examples, %zu sheets, %zu sets of a known answer or all short, %zu made from seed %" PRIu64 ", %zu wrong; made by answer:", sizeof examples / sizeof examples[0] + sizeof lands / sizeof lands[0], sheets, named, many, seed, wrong);
     for (int n = 0; n <= HIGHEST; n++)
-        if (n != 10) printf(" %d: %zu", n, by_answer[n]);
+        if (n != 10 && n != 16) printf(" %d: %zu", n, by_answer[n]);
+    printf("; 14 by pitch:");
+    for (size_t p = 0; p < PITCHES; p++) printf(" %" PRId32 ": %zu", pitches[p], heavy[p]);
     printf("; at the first loop:");
     for (int n = 11; n <= 14; n++) printf(" %d: %zu", n, at_first[n]);
     printf("; 11 by state, at rims:");

@@ -3,7 +3,7 @@
    stl made COUNT SEED: named files with what is due for them, files at each limit, sizes of every kind, small files cut at every byte and
    with every byte changed, and that many made files of each kind, sound and damaged, from that seed on.
    stl files FILE...: files FOLDER/SHEET.TOOL.stl that a tool made from examples/SHEET.sheet. Each has to list as FOLDER/SHEET.listing says,
-   and its loops have to be those of the sheet: as many, with the same lengths, states and weights, and at the same points. */
+   and its loops have to be those of the sheet at every pitch: as many, with the same lengths, states and weights, at the same points. */
 #define _GNU_SOURCE
 #include <inttypes.h>
 #include <stdint.h>
@@ -105,6 +105,11 @@ static void add_facet(struct file *file, const uint32_t *words, struct generator
 
 static struct reference_read_answer said, due;
 
+/* Of the reader's answer; a file has no pitch. */
+static int same_answer(void) {
+    return said.number == due.number && said.place == due.place && said.words == due.words && said.corners == due.corners;
+}
+
 static int read_agrees(const uint8_t *bytes, size_t length, size_t words, size_t corners) {
     cases++;
     ours = theirs = before;
@@ -113,7 +118,7 @@ static int read_agrees(const uint8_t *bytes, size_t length, size_t words, size_t
     reference_read_stl(bytes, length, theirs.words + GUARD, words, theirs.corners + GUARD, corners, &due);
     read_met[due.number]++;
     if (due.number == WAZELPUNT_BUFFER) short_met[due.place]++;
-    if (memcmp(&said, &due, sizeof said) != 0) return 0;
+    if (!same_answer()) return 0;
     if (due.number != 0 && !(said.words == 0 && said.corners == 0 && memcmp(&ours, &before, sizeof ours) == 0)) return 0;
     return memcmp(&ours, &theirs, sizeof ours) == 0;
 }
@@ -122,7 +127,7 @@ static int read_agrees(const uint8_t *bytes, size_t length, size_t words, size_t
 
 static struct reference_write_answer printed;
 
-/* What is printed is the text of the sheet that was read, or the answer's line; the text is read as that sheet again. */
+/* What is printed is the text of the sheet that was read, or the answer's line; the text is read as that sheet again, at pitch 1. */
 static int import_agrees(const uint8_t *bytes, size_t length, size_t room) {
     struct reference_write_answer written = {0, 0, 0};
     cases++;
@@ -137,7 +142,8 @@ static int import_agrees(const uint8_t *bytes, size_t length, size_t room) {
     reference_read_stl(bytes, length, theirs.words + GUARD, REFERENCE_MOST_WORDS, theirs.corners + GUARD, REFERENCE_MOST_CORNERS, &due);
     import_met[due.number]++;
     if (due.number == 0) {
-        reference_write(theirs.words + GUARD, due.words, theirs.corners + GUARD, due.corners, their_page.text + GUARD, room, &written);
+        reference_write(theirs.words + GUARD, due.words, theirs.corners + GUARD, due.corners, their_page.text + GUARD, room, 1,
+                        &written);
     } else {
         char line[WAZELPUNT_ANSWER_BYTES];
         written.bytes = (size_t)snprintf(line, sizeof line, "answer=%zu,%zu\n", due.number, due.place);
@@ -145,11 +151,12 @@ static int import_agrees(const uint8_t *bytes, size_t length, size_t room) {
     }
     if (memcmp(&printed, &written, sizeof printed) != 0 || memcmp(&our_page, &their_page, sizeof our_page) != 0) return 0;
     if (due.number != 0) return 1;
+    uint32_t pitch = 77;
     read_again++;
     ours = before;
     said.number = wazelpunt_read(our_page.text + GUARD, printed.bytes, ours.words + GUARD, due.words, ours.corners + GUARD, due.corners,
-                                 &said.place, &said.words, &said.corners);
-    return memcmp(&said, &due, sizeof said) == 0 && memcmp(&ours, &theirs, sizeof ours) == 0;
+                                 &said.place, &said.words, &said.corners, &pitch);
+    return same_answer() && pitch == 1 && memcmp(&ours, &theirs, sizeof ours) == 0;
 }
 
 /* ---- Facets ---- */
@@ -321,8 +328,9 @@ static void run_limits(struct generator *g) {
     }
     make_row(&file, most, points, g);
     expect("1,024 facets with 1,024 points", &file, 0);
-    /* every point is named, also those of less than four digits: so the text is as long as can be, and shorter than a sheet's may be */
-    if (file.length != WAZELPUNT_STL_BYTES || printed.bytes != WAZELPUNT_SHEET_BYTES - (3 * 10 + 2 * 90 + 900))
+    /* every point is named, also those of less than four digits, and no pitch: so the text is as long as can be, and shorter than a sheet's
+       may be */
+    if (file.length != WAZELPUNT_STL_BYTES || printed.bytes != WAZELPUNT_SHEET_BYTES - strlen("pitch=10\n") - (3 * 10 + 2 * 90 + 900))
         count_wrong("the longest file", file.length, printed.bytes);
     expect_lent("exact buffers", &file, 3 * points, 3 * most, 0, 0);
     expect_lent("words short by one at the limit", &file, 3 * points - 1, 3 * most, 3, 1);
@@ -519,7 +527,7 @@ static void run_facets(struct generator *g) {
 static uint32_t odd_word(struct generator *g) {
     static const uint32_t words[] = {0, MINUS_ZERO, LEAST, MINUS_ZERO + LEAST, ONE, TWO, QUIET, OTHER, LOUD, LESS, FAR, FAR | MINUS_ZERO};
     size_t kinds = sizeof words / sizeof *words, kind = generate_below(g, 2 * kinds);
-    return kind < kinds ? words[kind] : kind % 2 ? generate_word(g) : ONE;
+    return kind < kinds ? words[kind] : kind % 2 ? generate_word(g, 1) : ONE;
 }
 
 /* Facets over a few points, or over points of a few words, which often agree in two of them. */
@@ -583,11 +591,11 @@ struct loops {
     uint32_t number;
 };
 
-static void patch(struct loops *l) {
+static void patch(struct loops *l, uint32_t pitch) {
     static int32_t grid[WAZELPUNT_WORDS];
     l->number = wazelpunt_patch(l->words, l->word_count, l->corners, l->corner_count, grid, WAZELPUNT_WORDS, l->rings, WAZELPUNT_CORNERS,
                                 l->lengths, WAZELPUNT_TRIANGLES, l->states, WAZELPUNT_TRIANGLES, l->weights, WAZELPUNT_TRIANGLES,
-                                l->patches, WAZELPUNT_SET_CORNERS, &l->place, &l->loops, &l->vertices, &l->laid);
+                                l->patches, WAZELPUNT_SET_CORNERS, &l->place, &l->loops, &l->vertices, &l->laid, pitch);
 }
 
 /* Whether the points that two lists name, one after the other, have the same words, negative zero read as zero. */
@@ -628,6 +636,8 @@ static size_t list_file(const uint8_t *bytes, size_t length, uint8_t *listing) {
 }
 
 static void run_file(const char *path) {
+    static const uint32_t pitches[4] = {1, 2, 5, 10};
+    uint32_t pitch;
     static uint8_t bytes[GENERATE_STL_ROOM], text[WAZELPUNT_SHEET_BYTES];
     static uint8_t listing[WAZELPUNT_LISTING_BYTES], listing_due[WAZELPUNT_LISTING_BYTES];
     static struct loops sheet, file;
@@ -649,14 +659,16 @@ static void run_file(const char *path) {
     }
 
     uint32_t read = wazelpunt_read(text, text_length, sheet.words, WAZELPUNT_WORDS, sheet.corners, WAZELPUNT_CORNERS, &place,
-                                   &sheet.word_count, &sheet.corner_count);
+                                   &sheet.word_count, &sheet.corner_count, &pitch);
     uint32_t number = wazelpunt_read_stl(bytes, length, file.words, WAZELPUNT_WORDS, file.corners, WAZELPUNT_CORNERS, &place,
                                          &file.word_count, &file.corner_count);
-    patch(&sheet);
-    patch(&file);
-    if (read != 0 || number != 0 || !same_loops(&sheet, &file)) {
-        printf("%s: ", path);
-        count_wrong("other loops", number, file.number);
+    for (size_t p = 0; p < sizeof pitches / sizeof *pitches; p++) {
+        patch(&sheet, pitches[p]);
+        patch(&file, pitches[p]);
+        if (read != 0 || number != 0 || pitch != 1 || !same_loops(&sheet, &file)) {
+            printf("%s at pitch %" PRIu32 ": ", path, pitches[p]);
+            count_wrong("other loops", number, file.number);
+        }
     }
 }
 

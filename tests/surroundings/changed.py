@@ -6,7 +6,8 @@ from calls import HOME, read, sheets_of, write
 from facets import FACET, FRONT
 from objects import parsed
 
-BEGINNINGS = [b'\xef\xbb\xbf', b'\xff\xfe', b'\xfe\xff', b'\x1f\x8b', b'solid ', b'OFF\n', b'ply\n', b'# \n', b'v ', b'\n']
+BEGINNINGS = [b'\xef\xbb\xbf', b'\xff\xfe', b'\xfe\xff', b'\x1f\x8b', b'solid ', b'OFF\n', b'ply\n', b'# \n', b'v ', b'\n',
+              b'pitch=5\n', b'pitch=1\n', b'pitch=']
 NUMBERS = [b'0', b'1', b'4', b'9', b'1023', b'1024', b'1025', b'3072', b'3073', b'65536', b'18446744073709551616', b'-1', b'01']
 WORDS = [b'7f800000', b'7fc00001', b'ff800000', b'47000000', b'c7000000', b'7f7fffff', b'00000001', b'46fffeff', b'80000000']
 ENDS = [b'\n', b't=0,1,2\n', b's=1\n', b'x' * 100, bytes(100), b'p=00000000,00000000,00000000\n']
@@ -79,7 +80,7 @@ def changed_facets(random_, data):
         rest = data[at + FACET:] if count < facets else data[at:at + FACET] + data[at:]
         return data[:80] + count.to_bytes(4, 'little') + data[FRONT:at] + rest
     if kind == 3:
-        return random_.choice(BEGINNINGS + [b'points=']).ljust(80) + data[80:random_.choice([len(data), at])]
+        return random_.choice(BEGINNINGS + [b'points=', b'pitch=']).ljust(80) + data[80:random_.choice([len(data), at])]
     if kind == 4:
         return data[:80] + random_.choice([0, facets - 1, facets << 24, 1 << 31]).to_bytes(4, 'little') + data[FRONT:]
     return changed_bytes(random_, data)

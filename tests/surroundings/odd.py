@@ -20,7 +20,8 @@ SUMMARY = b'wazelpunt: plate.sheet: 2 loops: 1 rim; 1 closed with 1 triangle\n'
 PRINTING = [('list', '-q', 'plate.sheet'), ('list', 'plate.sheet'), ('list', '--json', 'plate.sheet'), ('check', 'plate.sheet'),
             ('check', '--json', 'plate.sheet'), ('rewrite', 'plate.sheet'), ('draw', '-q', 'plate.sheet'), ('example',),
             ('example', 'patches'), ('--help',), ('help', 'check'), ('--version',), ('list', 'refused.sheet'), ('list', 'box.stl'),
-            ('import', '-q', 'box.stl'), ('import', 'cut.stl')]
+            ('import', '-q', 'box.stl'), ('import', 'cut.stl'), ('list', '--pitch', '5', 'box.stl'),
+            ('import', '--pitch=10', '-q', 'box.stl')]
 
 
 def try_full(place):

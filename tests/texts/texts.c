@@ -1,8 +1,8 @@
 /* Compares wazelpunt_read, wazelpunt_write and wazelpunt_read_set with the plain reference: the answer, and every byte of the lent
-   buffers with what lies before and behind them. It takes a corpus of named texts with what is said of them; a small sheet and a small
-   set cut at every byte, and with every byte changed to each of 256 values; a first line of 1 GiB; the longest text; and made sheets,
-   sets and texts, sound and damaged, into buffers that are exact, longer or shorter. What is accepted is written again and has to be the
-   same text, and what is written is read again and has to be the same sheet.
+   buffers with what lies before and behind them. It takes a corpus of named texts with what is said of them, with and without a line for
+   the pitch; small sheets and a small set cut at every byte, and with every byte changed to each of 256 values; a first line of 1 GiB; the
+   longest texts; and made sheets, sets and texts, sound and damaged, into buffers that are exact, longer or shorter. What is accepted is
+   written again and has to be the same text, and what is written is read again and has to be the same sheet.
    texts COUNT SEED: that many made cases of each kind, from that seed on. */
 #define _GNU_SOURCE
 #include <inttypes.h>
@@ -17,7 +17,8 @@
 #include "../reference/reference.h"
 #include "wazelpunt.h"
 
-#define HIGHEST 10
+#define HIGHEST 17
+#define PITCHES 4
 
 /* what is lent, each between guards */
 struct lent {
@@ -30,7 +31,8 @@ struct lent {
 static struct lent before, ours, theirs;
 static size_t cases, wrong;
 static size_t read_met[HIGHEST + 1], set_met[HIGHEST + 1], write_met[HIGHEST + 1];
-static size_t accepted, written_again;
+static size_t accepted, written_again, accepted_coarse;
+static const uint32_t pitches[PITCHES] = {1, 2, 5, 10};
 
 static void count_wrong(const char *name, size_t number, size_t place) {
     if (wrong++ < 10) printf("%s: answered %zu, %zu\n", name, number, place);
@@ -49,16 +51,20 @@ static int sheet_untouched(void) {
 }
 
 static int read_agrees(const uint8_t *text, size_t length, size_t words, size_t corners) {
+    struct {
+        uint32_t before, pitch, after;
+    } head = {0x5a5a5a5a, 77, 0xa5a5a5a5};
     cases++;
     memcpy(ours.words, before.words, sizeof ours.words);
     memcpy(ours.corners, before.corners, sizeof ours.corners);
     memcpy(theirs.words, before.words, sizeof ours.words);
     memcpy(theirs.corners, before.corners, sizeof ours.corners);
-    read_said.number = wazelpunt_read(text, length, ours.words + GUARD, words, ours.corners + GUARD, corners, &read_said.place, &read_said.words, &read_said.corners);
+    read_said.number = wazelpunt_read(text, length, ours.words + GUARD, words, ours.corners + GUARD, corners, &read_said.place, &read_said.words, &read_said.corners, &head.pitch);
+    read_said.pitch = head.pitch;
     reference_read(text, length, theirs.words + GUARD, words, theirs.corners + GUARD, corners, &read_due);
     if (read_due.number <= HIGHEST) read_met[read_due.number]++;
-    if (memcmp(&read_said, &read_due, sizeof read_said) != 0) return 0;
-    if (read_due.number != 0 && !(read_said.words == 0 && read_said.corners == 0 && sheet_untouched())) return 0;
+    if (memcmp(&read_said, &read_due, sizeof read_said) != 0 || head.before != 0x5a5a5a5a || head.after != 0xa5a5a5a5) return 0;
+    if (read_due.number != 0 && !(read_said.words == 0 && read_said.corners == 0 && read_said.pitch == 0 && sheet_untouched())) return 0;
     return same_sheet_buffers();
 }
 
@@ -66,7 +72,7 @@ static int read_agrees(const uint8_t *text, size_t length, size_t words, size_t 
 static int writes_back(const uint8_t *text, size_t length) {
     static uint8_t again[REFERENCE_LONGEST_TEXT];
     size_t place, bytes;
-    uint32_t number = wazelpunt_write(ours.words + GUARD, read_said.words, ours.corners + GUARD, read_said.corners, again, sizeof again, &place, &bytes);
+    uint32_t number = wazelpunt_write(ours.words + GUARD, read_said.words, ours.corners + GUARD, read_said.corners, again, sizeof again, &place, &bytes, (uint32_t)read_said.pitch);
     written_again++;
     return number == 0 && bytes == length && memcmp(again, text, length) == 0;
 }
@@ -75,6 +81,7 @@ static void read_one(const char *name, const uint8_t *text, size_t length, size_
     int right = read_agrees(text, length, words, corners);
     if (right && read_said.number == 0) {
         accepted++;
+        accepted_coarse += read_said.pitch != 1;
         right = writes_back(text, length);
     }
     if (!right) count_wrong(name, read_said.number, read_said.place);
@@ -124,13 +131,13 @@ static void write_one(const char *name, const struct generated_surface *s, size_
     cases++;
     memcpy(ours.text, before.text, sizeof ours.text);
     memcpy(theirs.text, before.text, sizeof ours.text);
-    write_said.number = wazelpunt_write(s->words, s->word_count, s->corners, s->corner_count, ours.text + GUARD, room, &write_said.place, &write_said.bytes);
-    reference_write(s->words, s->word_count, s->corners, s->corner_count, theirs.text + GUARD, room, &write_due);
+    write_said.number = wazelpunt_write(s->words, s->word_count, s->corners, s->corner_count, ours.text + GUARD, room, &write_said.place, &write_said.bytes, s->pitch);
+    reference_write(s->words, s->word_count, s->corners, s->corner_count, theirs.text + GUARD, room, s->pitch, &write_due);
     if (write_due.number <= HIGHEST) write_met[write_due.number]++;
     int right = memcmp(&write_said, &write_due, sizeof write_said) == 0 && memcmp(ours.text, theirs.text, sizeof ours.text) == 0;
     if (right && write_said.number != 0) right = write_said.bytes == 0 && memcmp(ours.text, before.text, sizeof ours.text) == 0;
     if (right && write_said.number == 0) {
-        right = read_agrees(ours.text + GUARD, write_said.bytes, s->word_count, s->corner_count) && read_said.number == 0 && read_said.words == s->word_count && read_said.corners == s->corner_count
+        right = read_agrees(ours.text + GUARD, write_said.bytes, s->word_count, s->corner_count) && read_said.number == 0 && read_said.pitch == s->pitch && read_said.words == s->word_count && read_said.corners == s->corner_count
             && memcmp(ours.words + GUARD, s->words, s->word_count * sizeof *s->words) == 0 && memcmp(ours.corners + GUARD, s->corners, s->corner_count * sizeof *s->corners) == 0;
     }
     if (!right) count_wrong(name, write_said.number, write_said.place);
@@ -142,10 +149,11 @@ struct text {
     const char *name;
     const char *bytes;
     size_t length;
-    size_t number, place;
+    size_t number, place, pitch;
 };
 
-#define TEXT(name, bytes, number, place) {name, bytes, sizeof(bytes) - 1, number, place}
+#define HEADED(name, bytes, number, place, pitch) {name, bytes, sizeof(bytes) - 1, number, place, pitch}
+#define TEXT(name, bytes, number, place) HEADED(name, bytes, number, place, (number) == 0)
 
 #define P0 "p=00000000,00000000,00000000\n"
 #define P1 "p=3f800000,00000000,00000000\n"
@@ -235,6 +243,62 @@ static const struct text sheets[] = {
     TEXT("another key", "point=0\ntriangles=0\n", 10, 1),
     TEXT("a key of the other kind", "points=1\nt=0,0,0\ntriangles=0\n", 10, 2),
     TEXT("a comment", "# a sheet\n" SHEET, 10, 1),
+
+    HEADED("pitch 2", "pitch=2\n" SHEET, 0, 0, 2),
+    HEADED("pitch 5", "pitch=5\n" SHEET, 0, 0, 5),
+    HEADED("pitch 10", "pitch=10\n" SHEET, 0, 0, 10),
+    HEADED("nothing at all at pitch 10", "pitch=10\npoints=0\ntriangles=0\n", 0, 0, 10),
+    TEXT("pitch 1 has no line", "pitch=1\n" SHEET, 10, 1),
+    TEXT("pitch 0", "pitch=0\n" SHEET, 10, 1),
+    TEXT("pitch 3", "pitch=3\n" SHEET, 10, 1),
+    TEXT("pitch 20", "pitch=20\n" SHEET, 10, 1),
+    TEXT("pitch 50", "pitch=50\n" SHEET, 10, 1),
+    TEXT("pitch 100", "pitch=100\n" SHEET, 10, 1),
+    TEXT("a pitch with a leading zero", "pitch=02\n" SHEET, 10, 1),
+    TEXT("pitch 10 with a leading zero", "pitch=010\n" SHEET, 10, 1),
+    TEXT("+2 for a pitch", "pitch=+2\n" SHEET, 10, 1),
+    TEXT("-2 for a pitch", "pitch=-2\n" SHEET, 10, 1),
+    TEXT("a pitch that is no whole number", "pitch=2.0\n" SHEET, 10, 1),
+    TEXT("two pitches on a line", "pitch=2,5\n" SHEET, 10, 1),
+    TEXT("a hexadecimal pitch", "pitch=a\n" SHEET, 10, 1),
+    TEXT("a pitch that wraps round in 8 bits", "pitch=258\n" SHEET, 10, 1),
+    TEXT("a pitch that wraps round in 32 bits", "pitch=4294967298\n" SHEET, 10, 1),
+    TEXT("a pitch that wraps round in 64 bits", "pitch=18446744073709551618\n" SHEET, 10, 1),
+    TEXT("no digit in a pitch", "pitch=\n" SHEET, 10, 1),
+    TEXT("a pitch without its sign", "pitch2\n" SHEET, 10, 1),
+    TEXT("a space before a pitch", "pitch= 2\n" SHEET, 10, 1),
+    TEXT("a space after a pitch", "pitch=2 \n" SHEET, 10, 1),
+    TEXT("CR LF after a pitch", "pitch=2\r\n" SHEET, 10, 1),
+    TEXT("NUL after a pitch", "pitch=2\0\n" SHEET, 10, 1),
+    TEXT("a pitch in upper case", "PITCH=2\n" SHEET, 10, 1),
+    TEXT("a byte order mark before a pitch", "\xef\xbb\xbfpitch=2\n" SHEET, 10, 1),
+    TEXT("an empty line before a pitch", "\npitch=2\n" SHEET, 10, 1),
+    TEXT("a pitch without its line feed", "pitch=2" SHEET, 10, 1),
+    TEXT("a pitch without its line feed alone", "pitch=2", 10, 1),
+    TEXT("half of pitch 10", "pitch=1", 10, 1),
+    TEXT("pitch 10 without its line feed", "pitch=10", 10, 1),
+    TEXT("the key of a pitch alone", "pitch=", 10, 1),
+    TEXT("a pitch alone", "pitch=2\n", 10, 2),
+    TEXT("pitch 10 alone", "pitch=10\n", 10, 2),
+    TEXT("a pitch twice", "pitch=2\npitch=2\n" SHEET, 10, 2),
+    TEXT("two pitches", "pitch=5\npitch=10\n" SHEET, 10, 2),
+    TEXT("pitch 1 after a pitch", "pitch=5\npitch=1\n" SHEET, 10, 2),
+    TEXT("an empty line after a pitch", "pitch=5\n\n" SHEET, 10, 2),
+    TEXT("a pitch after the count of points", "points=3\npitch=2\n" P0 P1 P2 "triangles=1\nt=0,1,2\n", 10, 2),
+    TEXT("a pitch among the points", "points=3\n" P0 "pitch=2\n" P1 P2 "triangles=1\nt=0,1,2\n", 10, 3),
+    TEXT("a pitch between the parts", POINTS "pitch=2\ntriangles=1\nt=0,1,2\n", 10, 5),
+    TEXT("a pitch after the end", SHEET "pitch=2\n", 10, 7),
+    TEXT("a pitch before and after", "pitch=2\n" SHEET "pitch=2\n", 10, 8),
+    TEXT("after a pitch, a leading zero in a count", "pitch=2\npoints=03\n" P0 P1 P2 "triangles=1\nt=0,1,2\n", 10, 2),
+    TEXT("after a pitch, the triangles first", "pitch=2\ntriangles=1\nt=0,1,2\n" POINTS, 10, 2),
+    TEXT("after a pitch, CR LF on a point", "pitch=10\npoints=1\np=00000000,00000000,00000000\r\ntriangles=0\n", 10, 3),
+    TEXT("after a pitch, one triangle too many", "pitch=5\n" POINTS "triangles=1025\n", 10, 6),
+    TEXT("after a pitch, a corner of 1024", "pitch=5\n" POINTS "triangles=1\nt=0,1,1024\n", 10, 7),
+    TEXT("after a pitch, a last line without its line feed", "pitch=5\n" POINTS "triangles=1\nt=0,1,2", 10, 7),
+    TEXT("after a pitch, fewer triangles than counted", "pitch=5\n" POINTS "triangles=2\nt=0,1,2\n", 10, 8),
+    TEXT("after a pitch, a byte after the end", "pitch=5\n" SHEET "x", 10, 8),
+    TEXT("after a pitch, a corner that names no point", "pitch=5\n" POINTS "triangles=1\nt=0,1,3\n", 4, 2),
+    TEXT("after a pitch, 10 before 4", "pitch=2\n" POINTS "triangles=2\nt=0,1,9\nt=0,1,x\n", 10, 8),
 };
 
 #define SET "states=2\ns=1\ns=3\ntriangles=1\nt=0,2,1\n"
@@ -262,11 +326,27 @@ static const struct text sets[] = {
     TEXT("CR LF in a set", "states=1\ns=1\r\ntriangles=0\n", 10, 2),
     TEXT("a byte after a set", SET "x", 10, 6),
     TEXT("a set twice", SET SET, 10, 6),
+    TEXT("a set has no pitch", "pitch=2\n" SET, 10, 1),
+    TEXT("a pitch within a set", "states=0\npitch=2\ntriangles=0\n", 10, 2),
 };
 
 static void run_corpus(void) {
-    for (size_t i = 0; i < sizeof sheets / sizeof *sheets; i++) expect_read(sheets[i].name, (const uint8_t *)sheets[i].bytes, sheets[i].length, sheets[i].number, sheets[i].place);
+    for (size_t i = 0; i < sizeof sheets / sizeof *sheets; i++) {
+        expect_read(sheets[i].name, (const uint8_t *)sheets[i].bytes, sheets[i].length, sheets[i].number, sheets[i].place);
+        if (read_said.pitch != sheets[i].pitch) count_wrong(sheets[i].name, read_said.number, read_said.pitch);
+    }
     for (size_t i = 0; i < sizeof sets / sizeof *sets; i++) expect_set(sets[i].name, (const uint8_t *)sets[i].bytes, sets[i].length, sets[i].number, sets[i].place);
+}
+
+/* Every number in a pitch's line: three are taken. */
+static void run_pitches(void) {
+    char text[64];
+    for (unsigned number = 0; number <= 1100; number++) {
+        int taken = number == 2 || number == 5 || number == 10;
+        int length = snprintf(text, sizeof text, "pitch=%u\npoints=0\ntriangles=0\n", number);
+        expect_read("a number for a pitch", (const uint8_t *)text, (size_t)length, taken ? 0 : 10, taken ? 0 : 1);
+        if (read_said.pitch != (taken ? number : 0)) count_wrong("a number for a pitch", read_said.number, read_said.pitch);
+    }
 }
 
 /* ---- A small text cut and changed ---- */
@@ -287,10 +367,11 @@ static void cut(const char *text, expect_text *expect) {
     }
 }
 
-static void change(const char *text, compare_text *compare) {
+/* Each of its first bytes to each of 256 values. */
+static void change(const char *text, size_t first, compare_text *compare) {
     static uint8_t changed[256];
     size_t length = strlen(text);
-    for (size_t n = 0; n < length; n++) {
+    for (size_t n = 0; n < first; n++) {
         for (size_t b = 0; b < 256; b++) {
             memcpy(changed, text, length);
             changed[n] = (uint8_t)b;
@@ -301,7 +382,7 @@ static void change(const char *text, compare_text *compare) {
 
 /* ---- Long texts ---- */
 
-static void run_endless(const char *start, uint8_t filler, int set) {
+static void run_endless(const char *start, uint8_t filler, int set, size_t line) {
     size_t length = (size_t)1 << 30;
     uint8_t *text = mmap(0, length, PROT_READ | PROT_WRITE, MAP_PRIVATE | MAP_ANONYMOUS | MAP_NORESERVE, -1, 0);
     if (text == MAP_FAILED) {
@@ -310,21 +391,70 @@ static void run_endless(const char *start, uint8_t filler, int set) {
     }
     memcpy(text, start, strlen(start));
     if (filler) memset(text + strlen(start), filler, 1 << 20);
-    (set ? expect_set : expect_read)("a first line of 1 GiB", text, length, 10, 1);
+    (set ? expect_set : expect_read)("a line of 1 GiB", text, length, 10, line);
     munmap(text, length);
 }
 
-/* 1,024 points, and 1,024 triangles whose corners all have four digits. */
-static void run_longest(void) {
+/* 1,024 points, and 1,024 triangles whose corners all have four digits, at each pitch: written into exact room and into a byte less, and
+   read into exact rooms, a byte longer and a byte shorter. */
+static void run_longest(size_t p) {
+    static const size_t lengths[PITCHES] = {47131, 47139, 47139, REFERENCE_LONGEST_TEXT};
     static struct generated_surface s;
+    static uint8_t text[REFERENCE_LONGEST_TEXT + 1];
+    size_t length = lengths[p], lines = 1 + 2 * 1025 - (p == 0);
+    s.pitch = pitches[p];
     s.word_count = REFERENCE_MOST_WORDS;
     s.corner_count = REFERENCE_MOST_CORNERS;
     for (size_t i = 0; i < s.word_count; i++) s.words[i] = (uint32_t)(i * 2654435761u);
     for (size_t i = 0; i < s.corner_count; i++) s.corners[i] = (uint16_t)(1000 + i % 24);
-    write_one("the longest text", &s, REFERENCE_LONGEST_TEXT);
-    if (write_said.number != 0 || write_said.bytes != REFERENCE_LONGEST_TEXT) count_wrong("the longest text", write_said.number, write_said.bytes);
-    write_one("a byte too short for the longest text", &s, REFERENCE_LONGEST_TEXT - 1);
+    write_one("a byte too short for the longest text", &s, length - 1);
     if (write_said.number != 3 || write_said.place != 1) count_wrong("a byte too short for the longest text", write_said.number, write_said.place);
+    write_one("the longest text", &s, length);
+    if (write_said.number != 0 || write_said.bytes != length) count_wrong("the longest text", write_said.number, write_said.bytes);
+    memcpy(text, ours.text + GUARD, length);
+    text[length] = '\n';
+    expect_read("the longest text read", text, length, 0, 0);
+    expect_read("the longest text and a byte", text, length + 1, 10, lines + 1);
+    expect_read("the longest text without its end", text, length - 1, 10, lines);
+    read_one("the longest text into words short by one", text, length, REFERENCE_MOST_WORDS - 1, REFERENCE_MOST_CORNERS - 1);
+    if (read_said.number != 3 || read_said.place != 1) count_wrong("words short by one", read_said.number, read_said.place);
+    read_one("the longest text into corners short by one", text, length, REFERENCE_MOST_WORDS, REFERENCE_MOST_CORNERS - 1);
+    if (read_said.number != 3 || read_said.place != 2) count_wrong("corners short by one", read_said.number, read_said.place);
+}
+
+static void expect_written(const char *name, const struct generated_surface *s, size_t room, size_t number, size_t place) {
+    write_one(name, s, room);
+    if (write_said.number != number || write_said.place != place) count_wrong(name, write_said.number, write_said.place);
+}
+
+/* A sheet with every fault that the writer refuses, which are mended one after the other: a number that is no pitch comes first. Its text
+   has 87 bytes, and a line of the pitch besides. */
+static void run_refused(void) {
+    static const uint32_t no_pitches[] = {0, 3, 4, 9, 11, 20, 257, 65538, 0x8000000a, 0xffffffff};
+    static struct generated_surface s;
+    for (size_t p = 0; p < PITCHES; p++) {
+        size_t length = 87 + (p == 0 ? 0 : p == 3 ? 9 : 8);
+        s.word_count = 7;
+        s.corner_count = 5;
+        s.corners[1] = 1;
+        s.corners[2] = 2;
+        s.corners[4] = 2;
+        for (size_t n = 0; n < sizeof no_pitches / sizeof *no_pitches; n++) {
+            s.pitch = no_pitches[n];
+            expect_written("17 before all else", &s, 0, 17, 0);
+            expect_written("17 with room for a text", &s, GENERATE_TEXT_ROOM, 17, 0);
+        }
+        s.pitch = pitches[p];
+        expect_written("then 1", &s, 0, 1, 0);
+        s.word_count = 6;
+        expect_written("then 2", &s, 0, 2, 0);
+        s.corner_count = 3;
+        expect_written("then 3", &s, length - 1, 3, 1);
+        expect_written("then 4", &s, length, 4, 2);
+        s.corners[2] = 0;
+        expect_written("then the text", &s, length, 0, 0);
+        if (write_said.bytes != length) count_wrong("the length of a text", write_said.number, write_said.bytes);
+    }
 }
 
 /* ---- Made texts ---- */
@@ -366,8 +496,8 @@ static void run_made_set(struct generator *g) {
 
 /* Every answer that a function can give was met. */
 static int all_met(void) {
-    static const size_t reads[] = {0, 3, 4, 10}, sets_read[] = {0, 3, 10}, writes[] = {0, 1, 2, 3, 4};
-    int all = 1;
+    static const size_t reads[] = {0, 3, 4, 10}, sets_read[] = {0, 3, 10}, writes[] = {0, 1, 2, 3, 4, 17};
+    int all = accepted_coarse > 20;
     for (size_t i = 0; i < sizeof reads / sizeof *reads; i++) all = all && read_met[reads[i]] > 0;
     for (size_t i = 0; i < sizeof sets_read / sizeof *sets_read; i++) all = all && set_met[sets_read[i]] > 0;
     for (size_t i = 0; i < sizeof writes / sizeof *writes; i++) all = all && write_met[writes[i]] > 0;
@@ -381,20 +511,30 @@ int main(int argc, char **argv) {
     generate_start(&g, seed);
     fill(&before, sizeof before, &g);
     run_corpus();
+    run_pitches();
     cut(SHEET, expect_read);
+    cut("pitch=2\n" SHEET, expect_read);
+    cut("pitch=10\n" SHEET, expect_read);
     cut(SET, expect_set);
-    change(SHEET, compare_sheet);
-    change(SET, compare_set);
-    run_endless("points=", 0, 0);
-    run_endless("points=", '1', 0);
-    run_endless("", 'p', 0);
-    run_endless("states=", '0', 1);
-    run_longest();
+    change(SHEET, strlen(SHEET), compare_sheet);
+    change("pitch=2\n" SHEET, 20, compare_sheet);
+    change("pitch=5\n" SHEET, 8, compare_sheet);
+    change("pitch=10\n" SHEET, 9, compare_sheet);
+    change(SET, strlen(SET), compare_set);
+    run_endless("points=", 0, 0, 1);
+    run_endless("points=", '1', 0, 1);
+    run_endless("", 'p', 0, 1);
+    run_endless("pitch=", '1', 0, 1);
+    run_endless("pitch=2", 0, 0, 1);
+    run_endless("pitch=2\n", 'p', 0, 2);
+    run_endless("states=", '0', 1, 1);
+    for (size_t p = 0; p < PITCHES; p++) run_longest(p);
+    run_refused();
     for (size_t i = 0; i < count; i++) {
         run_made_sheet(&g);
         run_made_set(&g);
     }
-    if (!all_met()) count_wrong("an answer was never met", 0, 0);
-    printf("texts: seed %" PRIu64 ", %zu cases, %zu accepted and written again, %zu wrong\n", seed, cases, accepted, wrong);
+    if (!all_met()) count_wrong("an answer was never met, or few texts with a pitch", 0, 0);
+    printf("texts: seed %" PRIu64 ", %zu cases, %zu accepted and written again, %zu of them with a pitch, %zu wrong\n", seed, cases, accepted, accepted_coarse, wrong);
     return wrong != 0 || accepted == 0 || accepted != written_again;
 }

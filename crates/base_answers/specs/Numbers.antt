@@ -3,7 +3,7 @@ use Prim.Native.Nat.{ℕ}
 use mathlib.Core.Bool.{Bool, true, false}
 use Rattle.base_answers.specs.declared.Answer.{Answer}
 use Rattle.base_answers.specs.declared.Answer.the-variants.{Done, Words, Corners, Buffer, Unnamed, Twice, Repeated, NotFinite, TooFar, States, Line}
-use Rattle.base_answers.specs.declared.Answer.the-variants.{Misdeclared, Uncovered, Barred, Heavy, LeftOver, Misfit}
+use Rattle.base_answers.specs.declared.Answer.the-variants.{Misdeclared, Uncovered, Barred, Heavy, LeftOver, Misfit, NoPitch}
 
 abbrev pub numberOf : Answer → ℕ
 numberOf Done = 0
@@ -23,6 +23,7 @@ numberOf (Barred r) = 13
 numberOf (Heavy r) = 14
 numberOf (LeftOver c) = 15
 numberOf Misfit = 16
+numberOf NoPitch = 17
 
 abbrev pub placeOf : Answer → ℕ
 placeOf Done = 0
@@ -42,6 +43,7 @@ placeOf (Barred r) = r
 placeOf (Heavy r) = r
 placeOf (LeftOver c) = c
 placeOf Misfit = 0
+placeOf NoPitch = 0
 
 -- a refusal leaves all buffers as they were and has zero in every count; a verdict does not
 abbrev pub refusing : Answer → Bool
@@ -62,3 +64,4 @@ refusing (Barred r) = false
 refusing (Heavy r) = false
 refusing (LeftOver c) = false
 refusing Misfit = true
+refusing NoPitch = true

@@ -2,7 +2,7 @@
 ghost use mathlib.Core.Path.{_≡_};
 ghost use Rattle.base_answers.specs.Numbers.{numberOf, placeOf, refusing};
 
-// What an entry point says: done or passed, one of the refusals 1 to 10 and 16, or one of the verdicts 11 to 15.
+// What an entry point says: done or passed, one of the refusals 1 to 10, 16 and 17, or one of the verdicts 11 to 15.
 pub enum Answer {
     Done,
     Words,
@@ -21,6 +21,7 @@ pub enum Answer {
     Heavy(usize),
     LeftOver(usize),
     Misfit,
+    NoPitch,
 }
 
 impl Answer {
@@ -46,6 +47,7 @@ impl Answer {
             Answer::Heavy(_) => 14,
             Answer::LeftOver(_) => 15,
             Answer::Misfit => 16,
+            Answer::NoPitch => 17,
         }
     }
 
@@ -71,6 +73,7 @@ impl Answer {
             Answer::Heavy(_) => false,
             Answer::LeftOver(_) => false,
             Answer::Misfit => true,
+            Answer::NoPitch => true,
         }
     }
 
@@ -96,6 +99,7 @@ impl Answer {
             Answer::Heavy(ring) => ring,
             Answer::LeftOver(corner) => corner,
             Answer::Misfit => 0,
+            Answer::NoPitch => 0,
         }
     }
 }

@@ -1,2 +1,3 @@
 pub mod Counts
 pub mod Lent
+pub mod Pitches

@@ -1,9 +1,10 @@
-// The workshop's measures: how much a surface, a patch set, the grid and a loop may hold, and the states of a loop.
+// The workshop's measures: how much a surface, a patch set, the grid and a loop may hold, the pitches of the grid, and the states of a loop.
 ghost use mathlib.Core.Path.{_≡_};
 ghost use Prim.Native.Nat.{_/_};
 ghost use lib.Dec.{eqb, leb, ltb};
 ghost use lib.IntN.{natAbs};
 ghost use Rattle.base_types.specs.Counts.{threes};
+ghost use Rattle.base_types.specs.Pitches.{pitchOf, Names};
 
 // A surface's counts. Each point has three words and each triangle three corners.
 pub struct Surface {
@@ -20,8 +21,8 @@ impl Surface {
 
     pub const CORNERS: usize = 3 * Self::TRIANGLES;
 
-    // The bytes of the longest sheet text: two counts of four digits, 29 bytes a point and 17 a triangle.
-    pub const TEXT: usize = 12 + 29 * Self::POINTS + 15 + 17 * Self::TRIANGLES;
+    // The bytes of the longest sheet text: a pitch of two digits, two counts of four, 29 bytes a point and 17 a triangle.
+    pub const TEXT: usize = 9 + 12 + 29 * Self::POINTS + 15 + 17 * Self::TRIANGLES;
 
     // The bytes of the longest file of facets: 80 of a header, 4 of the count and 50 a triangle.
     pub const FILE: usize = 84 + 50 * Self::TRIANGLES;
@@ -131,19 +132,66 @@ impl PatchSet {
     }
 }
 
-// The grid on which the whole numbers lie, one in every `pitch`.
+// How far apart the lines of the grid are, in plate units: one of four.
+pub enum Pitch {
+    One,
+    Two,
+    Five,
+    Ten,
+}
+
+// The pitch that a number names, or that it names none.
+pub enum Named {
+    Is(Pitch),
+    Nothing,
+}
+
+impl Pitch {
+    // The pitch of that many plate units.
+    pub fn of(number: u32) -> Named
+        ensures { λ r. ⌜ Names number r ⌝ }
+    {
+        if number == 1 {
+            return Named::Is(Pitch::One);
+        }
+        if number == 2 {
+            return Named::Is(Pitch::Two);
+        }
+        if number == 5 {
+            return Named::Is(Pitch::Five);
+        }
+        if number == 10 {
+            return Named::Is(Pitch::Ten);
+        }
+        Named::Nothing
+    }
+
+    // How many plate units it has.
+    pub fn units(self) -> u32
+        ensures { λ r. ⌜ r ≡ pitchOf self ⌝ }
+    {
+        match self {
+            Pitch::One => 1,
+            Pitch::Two => 2,
+            Pitch::Five => 5,
+            Pitch::Ten => 10,
+        }
+    }
+}
+
+// The grid, on which every multiple of its pitch lies.
 pub struct Grid {
-    pub pitch: u32,
+    pub pitch: Pitch,
 }
 
 impl Grid {
     pub const GREATEST: u32 = 32767;
 
-    // The grid of all whole numbers.
-    pub fn fine() -> Grid
-        ensures { λ r. ⌜ r .pitch ≡ 1 ⌝ }
+    // The grid of that pitch.
+    pub fn of(pitch: Pitch) -> Grid
+        ensures { λ r. ⌜ r .pitch ≡ pitch ⌝ }
     {
-        Grid { pitch: 1 }
+        Grid { pitch }
     }
 
     // The whole number is no further from 0 than the grid reaches, on either side, whatever its pitch.

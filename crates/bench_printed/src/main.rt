@@ -5,7 +5,11 @@ ghost use lib.ListN.{length};
 use libc::STDOUT_FILENO;
 
 fn main() {
-    coordinates();
+    coordinates(1);
+    coordinates(2);
+    coordinates(5);
+    coordinates(10);
+    coordinate(0x3f00_0000, 3);
     surfaces();
 }
 
@@ -37,21 +41,22 @@ const WORDS: [u32; 24] = [
     0xff80_0001,
 ];
 
-fn coordinates() {
+fn coordinates(pitch: u32) {
     let words = WORDS;
     let mut i = 0;
     while i < 24 {
-        coordinate(words[i]);
+        coordinate(words[i], pitch);
         i += 1;
     }
 }
 
-// The line of one coordinate: its word, the number of its answer, the whole number, and the bits of the float beside it.
-fn coordinate(word: u32) {
+// The line of one coordinate: its word and the pitch, the number of its answer, the whole number, and the bits of the float beside it.
+fn coordinate(word: u32, pitch: u32) {
     let mut whole: i32 = 0;
     let mut float: u32 = 0;
-    let number = wazelpunt::wazelpunt_coordinate(word, &mut whole, &mut float);
+    let number = wazelpunt::wazelpunt_coordinate(word, &mut whole, &mut float, pitch);
     print_word(word);
+    print_after(b" at ", pitch as u64);
     io::write_all(STDOUT_FILENO, b": ");
     io::print_decimal(STDOUT_FILENO, number as u64);
     io::write_all(STDOUT_FILENO, b", ");
@@ -154,6 +159,7 @@ fn surface(words: &[u32], corners: &[u16]) {
         &mut loops,
         &mut vertices,
         &mut laid,
+        1,
     );
     print_answer(number, place, loops, vertices, laid);
     print_loop(states[0], weights[0]);

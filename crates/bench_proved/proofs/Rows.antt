@@ -9,11 +9,12 @@ use lib.Dec.{lit≤, lit<}
 use lib.IntN.{ℤ, pos, natAbs}
 use lib.ListN.{length}
 use lib.Ieee.{ofBits, fits}
+use Rattle.base_types.specs.Pitches.{isPitch}
 use Rattle.grid_coordinate.specs.Units.{units}
 use Rattle.grid_coordinate.specs.Places.{whole}
 use Rattle.surface_rules.specs.Smallest.{least}
 use Rattle.surface_rules.specs.Edges.{following, goes, twin, isOpen, repeats, twice}
-use Rattle.surface_rules.specs.Refusals.{unnamed, notFinite, tooFar, countRefusal, bufferRefusal, cornerRefusal, wordRefusal, contentRefusal, refusal}
+use Rattle.surface_rules.specs.Refusals.{unnamed, notFinite, tooFar, pitchRefusal, countRefusal, bufferRefusal, cornerRefusal, wordRefusal, contentRefusal, refusal}
 use Rattle.survey_grid.specs.Grid.{wholeOf}
 use Rattle.loop_rules.specs.Next.{step, turn, next}
 use Rattle.loop_rules.specs.Loops.{around, cycle, leads, startsAt, grow, growAll, loopsOf, loopsBelow, loops}
@@ -65,7 +66,7 @@ crossed-rims grid =
     subst (λ (k : List Bool). Course grid crossed [] k (ringList crossed) (rim ∷ rim ∷ [])) (sym (ap₂ (λ (x y : Bool). x ∷ y ∷ []) (first grid) (second grid))) (refl, (refl, tt))
 
 pub table : Table
-unfolding numbersBelow many unite smallestBy smallestOf pieceOf stride strideOf runAt pieceAt outruns isRim ofBits fits units whole wholeOf refusal countRefusal contentRefusal bufferRefusal cornerRefusal wordRefusal unnamed twice repeats notFinite tooFar
+unfolding numbersBelow many unite smallestBy smallestOf pieceOf stride strideOf runAt pieceAt outruns isRim ofBits fits units whole wholeOf isPitch refusal pitchRefusal countRefusal contentRefusal bufferRefusal cornerRefusal wordRefusal unnamed twice repeats notFinite tooFar
     loops loopsBelow loopsOf growAll grow startsAt leads cycle around isOpen next turn step twin goes following least weightOf pointOf follows diagonal edge between barred
 table = record {
   half = (record { number = tt; nearest = refl; within = lit≤ tt }, record { some = nonzero _ (lit< tt); fitting = tt; number = tt; exact = refl });
@@ -73,8 +74,17 @@ table = record {
   half-down = (record { number = tt; nearest = refl; within = lit≤ tt }, record { some = nonzero _ (lit< tt); fitting = tt; number = tt; exact = refl });
   last = (record { number = tt; nearest = refl; within = lit≤ tt }, record { some = nonzero _ (lit< tt); fitting = tt; number = tt; exact = refl });
   past = (tt, lit< tt, refl);
+  two-down = (record { number = tt; nearest = refl; within = lit≤ tt }, record { some = nonzero _ (lit< tt); fitting = tt; number = tt; exact = refl });
+  two-up = (record { number = tt; nearest = refl; within = lit≤ tt }, record { some = nonzero _ (lit< tt); fitting = tt; number = tt; exact = refl });
+  five-down = (record { number = tt; nearest = refl; within = lit≤ tt }, record { some = nonzero _ (lit< tt); fitting = tt; number = tt; exact = refl });
+  five-up = (record { number = tt; nearest = refl; within = lit≤ tt }, record { some = nonzero _ (lit< tt); fitting = tt; number = tt; exact = refl });
+  ten-up = (record { number = tt; nearest = refl; within = lit≤ tt }, record { some = nonzero _ (lit< tt); fitting = tt; number = tt; exact = refl });
+  two-past = (tt, lit< tt, refl);
+  ten-last = (record { number = tt; nearest = refl; within = lit≤ tt }, record { some = nonzero _ (lit< tt); fitting = tt; number = tt; exact = refl });
+  ten-past = (tt, lit< tt, refl);
   no-triangles = refl;
   repeated = refl;
+  no-pitch = refl;
   bow-tie = refl;
   strip-cycle = refl;
   strip-rings = refl;

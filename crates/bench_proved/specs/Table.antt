@@ -1,4 +1,5 @@
--- The starred examples of the bench, and the one of two equal weights, a row each, in the scope's order; and what pieces and rims are in them.
+-- The starred examples of the bench, and the one of two equal weights, a row each, in the scope's order; what pieces and rims are in them; and
+-- coordinates at coarser pitches.
 -- What a row says of points begins at the words of their sheet, the bits of binary32 numbers.
 use mathlib.Core.Path.{_≡_}
 use mathlib.Core.Bool.{true, false}
@@ -7,7 +8,7 @@ use Prim.Native.Nat.{ℕ}
 use lib.IntN.{ℤ, pos, negsuc}
 use lib.Ieee.{binary32, ofBits}
 use Rattle.base_answers.specs.declared.Answer.{Answer}
-use Rattle.base_answers.specs.declared.Answer.the-variants.{Done, Repeated, Misdeclared, Barred, Heavy}
+use Rattle.base_answers.specs.declared.Answer.the-variants.{Done, Repeated, Misdeclared, Barred, Heavy, NoPitch}
 use Rattle.grid_coordinate.specs.Places.{Places}
 use Rattle.grid_coordinate.specs.declared.Coordinate.the-variants.{Shifted, TooFar}
 use Rattle.surface_rules.specs.Refusals.{refusal}
@@ -63,7 +64,7 @@ plateWords =
     ∷ []
 
 abbrev pub plateGrid : List ℤ
-plateGrid = gridOf plateWords
+plateGrid = gridOf 1 plateWords
 
 -- (0,0,0),(4,0,0),(0,9,0),(4,4,0),(9,9,0)
 abbrev pub wideWords : List ℕ
@@ -76,7 +77,7 @@ wideWords =
     ∷ []
 
 abbrev pub wideStrip : List ℤ
-wideStrip = gridOf wideWords
+wideStrip = gridOf 1 wideWords
 
 -- (0,0,0),(4,0,0),(0,4,0),(4,4,0),(0,4,4)
 abbrev pub evenWords : List ℕ
@@ -89,7 +90,7 @@ evenWords =
     ∷ []
 
 abbrev pub evenStrip : List ℤ
-evenStrip = gridOf evenWords
+evenStrip = gridOf 1 evenWords
 
 -- (0,0,0),(10,0,0),(10,10,0),(0,10,4)
 abbrev pub liftedWords : List ℕ
@@ -101,14 +102,14 @@ liftedWords =
     ∷ []
 
 abbrev pub lifted : List ℤ
-lifted = gridOf liftedWords
+lifted = gridOf 1 liftedWords
 
 -- the same, and (4,4,9)
 abbrev pub liftedTopWords : List ℕ
 liftedTopWords = liftedWords ++ (0x40800000 ∷ 0x40800000 ∷ 0x41100000 ∷ [])
 
 abbrev pub liftedTop : List ℤ
-liftedTop = gridOf liftedTopWords
+liftedTop = gridOf 1 liftedTopWords
 
 -- (0,0,0),(10,0,0),(3,3,0),(0,10,0),(4,4,9)
 abbrev pub dentedTopWords : List ℕ
@@ -121,7 +122,7 @@ dentedTopWords =
     ∷ []
 
 abbrev pub dentedTop : List ℤ
-dentedTop = gridOf dentedTopWords
+dentedTop = gridOf 1 dentedTopWords
 
 -- a loop of four and one of three, by their rings
 abbrev pub square : List ℕ
@@ -180,10 +181,24 @@ pub record Table : Type 0 where
   pub last : Places 1 (ofBits binary32 0x46fffeff) (Shifted (pos 32767) (ofBits binary32 0x3eff0000))
   -- 32767.5 is too far
   pub past : Places 1 (ofBits binary32 0x46ffff00) (TooFar (ofBits binary32 0x46ffff00))
+  -- the same at the other pitches: a tie goes to the even multiple. At 2, 1 gives 0 rest 1, and 3 gives 4 rest -1
+  pub two-down : Places 2 (ofBits binary32 0x3f800000) (Shifted (pos 0) (ofBits binary32 0x3f800000))
+  pub two-up : Places 2 (ofBits binary32 0x40400000) (Shifted (pos 4) (ofBits binary32 0xbf800000))
+  -- at 5, 2.5 gives 0 rest 2.5, and -7.5 gives -10 rest 2.5
+  pub five-down : Places 5 (ofBits binary32 0x40200000) (Shifted (pos 0) (ofBits binary32 0x40200000))
+  pub five-up : Places 5 (ofBits binary32 0xc0f00000) (Shifted (negsuc 9) (ofBits binary32 0x40200000))
+  -- at 10, 15 gives 20 rest -5
+  pub ten-up : Places 10 (ofBits binary32 0x41700000) (Shifted (pos 20) (ofBits binary32 0xc0a00000))
+  -- 32767 is too far at 2; 32765 gives 32,760 at 10, and the float after it is too far
+  pub two-past : Places 2 (ofBits binary32 0x46fffe00) (TooFar (ofBits binary32 0x46fffe00))
+  pub ten-last : Places 10 (ofBits binary32 0x46fffa00) (Shifted (pos 32760) (ofBits binary32 0x40a00000))
+  pub ten-past : Places 10 (ofBits binary32 0x46fffa01) (TooFar (ofBits binary32 0x46fffa01))
   -- no triangles: no loops
   pub no-triangles : ringList [] ≡ []
   -- (0,1,2),(0,1,3): refusal 6 at 3, by the whole table of refusals, no buffer being too short
-  pub repeated : refusal liftedWords repeating [] [] ≡ Repeated 3
+  pub repeated : refusal 1 liftedWords repeating [] [] ≡ Repeated 3
+  -- a pitch of 3 is refused before all that
+  pub no-pitch : refusal 3 liftedWords repeating [] [] ≡ NoPitch
   -- (0,1,2),(0,3,4): rings 0,1,2 and 0,3,4
   pub bow-tie : ringList bowTie ≡ (0 ∷ 1 ∷ 2 ∷ []) ∷ (0 ∷ 3 ∷ 4 ∷ []) ∷ []
   -- in two pieces, since they share a vertex and no edge
@@ -192,14 +207,14 @@ pub record Table : Type 0 where
   pub strip-cycle : ring pinchedStrip (cycle pinchedStrip 0) ≡ 0 ∷ 1 ∷ 3 ∷ 0 ∷ 4 ∷ 2 ∷ []
   pub strip-rings : ringList pinchedStrip ≡ (0 ∷ 1 ∷ 3 ∷ []) ∷ (0 ∷ 4 ∷ 2 ∷ []) ∷ []
   -- with either points the sheet is not refused
-  pub strip-taken-in : refusal wideWords pinchedStrip [] [] ≡ Done
-  pub even-taken-in : refusal evenWords pinchedStrip [] [] ≡ Done
+  pub strip-taken-in : refusal 1 wideWords pinchedStrip [] [] ≡ Done
+  pub even-taken-in : refusal 1 evenWords pinchedStrip [] [] ≡ Done
   -- in one piece: runs of 16 and 36, so the second is the rim and the first is patched; of two runs of 16 the first is
   pub strip-course : Leaves wideStrip pinchedStrip (1 ∷ 4 ∷ []) (16 ∷ 0 ∷ []) (0 ∷ 3 ∷ 1 ∷ [])
   pub strip-rims : rimList wideStrip pinchedStrip ≡ false ∷ true ∷ []
   pub even-rims : rimList evenStrip pinchedStrip ≡ true ∷ false ∷ []
   -- (0,1,2),(0,2,3): diagonal 0-2 barred; patch (0,3,1),(1,3,2), weight 280, and (0,3,2),(0,2,1) has the barred diagonal: it gets 13
-  pub folded-taken-in : refusal liftedWords folded [] [] ≡ Done
+  pub folded-taken-in : refusal 1 liftedWords folded [] [] ≡ Done
   pub folded-rings : ringList folded ≡ square ∷ []
   pub folded-bar : barred folded [] square 0 2 ≡ true
   pub folded-taken : ToTake folded lifted square overOne
@@ -210,7 +225,7 @@ pub record Table : Type 0 where
   pub folded-judged : Gets lifted folded (1 ∷ []) (0 ∷ 3 ∷ 2 ∷ 0 ∷ 2 ∷ 1 ∷ []) (Misdeclared 0)
   -- the cone with a dent: patch (0,3,2),(0,2,1), weight 60; (0,3,1),(1,3,2) weighs 140 and gets 14;
   -- (3,2,0),(2,1,0) passes
-  pub cone-taken-in : refusal dentedTopWords cone [] [] ≡ Done
+  pub cone-taken-in : refusal 1 dentedTopWords cone [] [] ≡ Done
   pub cone-rings : ringList cone ≡ square ∷ []
   pub cone-taken : ToTake cone dentedTop square overTwo
   pub cone-course : Leaves dentedTop cone (4 ∷ []) (0 ∷ []) []
@@ -221,7 +236,7 @@ pub record Table : Type 0 where
   pub cone-judged : Gets dentedTop cone (1 ∷ []) (3 ∷ 2 ∷ 0 ∷ 2 ∷ 1 ∷ 0 ∷ []) (Misdeclared 0)
   pub cone-passed : Gets dentedTop cone (4 ∷ []) [] Done
   -- the cone with the points of (0,1,2),(0,2,3): both covers weigh 280, so m = 1: (0,3,1),(1,3,2)
-  pub equal-taken-in : refusal liftedTopWords cone [] [] ≡ Done
+  pub equal-taken-in : refusal 1 liftedTopWords cone [] [] ≡ Done
   pub equal-one : weightHere liftedTop square overOne ≡ 280
   pub equal-two : weightHere liftedTop square overTwo ≡ 280
   pub equal-taken : ToTake cone liftedTop square overOne
@@ -234,7 +249,7 @@ pub record Table : Type 0 where
   -- and each is the rim of its piece
   pub crossed-course : (grid : List ℤ) → Leaves grid crossed (4 ∷ 4 ∷ []) (0 ∷ 0 ∷ []) []
   -- a plate with a hole: the greater loop is the rim, the other is patched, and 11 is given for 1 on the rim and for 4 on the hole
-  pub plate-taken-in : refusal plateWords plate [] [] ≡ Done
+  pub plate-taken-in : refusal 1 plateWords plate [] [] ≡ Done
   pub plate-rings : ringList plate ≡ (0 ∷ 1 ∷ 2 ∷ []) ∷ (4 ∷ 3 ∷ 5 ∷ []) ∷ []
   pub plate-rims : rimList plateGrid plate ≡ true ∷ false ∷ []
   pub plate-course : Leaves plateGrid plate (4 ∷ 1 ∷ []) (0 ∷ 100 ∷ []) (4 ∷ 5 ∷ 3 ∷ [])

@@ -1,12 +1,14 @@
 // The checks of a surface whose counts fit: the lent buffers, the corners and the words, in the scope's order.
 ghost use Rattle.base_types.specs.Lent.{was, left};
+ghost use Rattle.base_types.specs.Pitches.{pitchOf};
 ghost use Rattle.surface_twins.specs.Workings.Turns.{Room};
 ghost use Rattle.check_surface.specs.Workings.Checks.{Fitted, Checked, CornersChecked};
 use base_answers::Answer;
+use base_types::Pitch;
 use base_types::Surface;
 use surface_rules::Found;
 
-// Refusals 3 to 8, once 1 and 2 were not given, with a table of turns that is long enough for this surface. Where none is given the table
+// Refusals 3 to 8 at that pitch, once 1 and 2 were not given, with a table of turns that is long enough for this surface. Where none is given the table
 // is filled.
 pub fn check(
     words: &[u32],
@@ -14,9 +16,10 @@ pub fn check(
     lent: &[usize],
     needs: &[usize],
     turns: &mut [u16],
+    pitch: Pitch,
 ) -> Answer
     requires { ⌜ Fitted (now words) (now corners) (now turns) ⌝ }
-    ensures { λ r. ⌜ Checked (was words) (was corners) (was lent) (was needs) r (left turns) ⌝ }
+    ensures { λ r. ⌜ Checked (pitchOf pitch) (was words) (was corners) (was lent) (was needs) r (left turns) ⌝ }
 {
     let buffers = check_shape::check_buffers(lent, needs);
     if buffers.refuses() {
@@ -27,7 +30,7 @@ pub fn check(
     if woven.refuses() {
         return woven;
     }
-    check_words::check_words(words)
+    check_words::check_words(words, pitch)
 }
 
 // Refusals 4, 5 and 6. The pairing stops at a triangle that names a point twice as well as at a half-edge that repeats an

@@ -4,24 +4,28 @@ ghost use mathlib.Core.Bool.{not};
 ghost use Prim.Native.Nat.{_<_};
 ghost use lib.ListN.{length};
 ghost use Rattle.base_types.specs.Lent.{was};
+ghost use Rattle.base_types.specs.Pitches.{pitchOf};
+ghost use Rattle.base_types.specs.declared.Pitch.{Pitch};
 ghost use Rattle.surface_rules.specs.Smallest.{least, any};
+ghost use Rattle.grid_place.specs.Workings.Ends.{endOf};
 ghost use Rattle.surface_rules.specs.Refusals.{notFinite, tooFar, offGrid, wordRefusal};
 use base_answers::Answer;
+use base_types::Pitch;
 use grid_coordinate::Coordinate;
 use surface_rules::Found;
 
-// Refusals 7 and 8: whether every coordinate is on the grid. Where all are, one pass over the words tells it.
-pub fn check_words(words: &[u32]) -> Answer
-    ensures { λ r. ⌜ r ≡ wordRefusal (was words) ⌝ }
+// Refusals 7 and 8: whether every coordinate is on the grid of that pitch. Where all are, one pass over the words tells it.
+pub fn check_words(words: &[u32], pitch: Pitch) -> Answer
+    ensures { λ r. ⌜ r ≡ wordRefusal (pitchOf pitch) (was words) ⌝ }
 {
-    if all_on_grid(words) {
+    if all_on_grid(words, pitch) {
         return Answer::Done;
     }
     let found = first_not_finite(words);
     if let Found::At(i) = found {
         return Answer::NotFinite(i);
     }
-    let far = first_too_far(words);
+    let far = first_too_far(words, pitch);
     match far {
         Found::At(i) => Answer::TooFar(i),
         Found::Nothing => Answer::Done,
@@ -47,7 +51,7 @@ fn is_not_finite(words: &[u32], i: usize) -> bool
     requires { ⌜ i < length (now words) ⌝ }
     ensures { λ r. ⌜ r ≡ notFinite (was words) i ⌝ }
 {
-    let place = grid_coordinate::place(words[i]);
+    let place = grid_place::place(words[i], Pitch::One);
     match place {
         Coordinate::Exact(_) => false,
         Coordinate::Shifted(_, _) => false,
@@ -57,12 +61,12 @@ fn is_not_finite(words: &[u32], i: usize) -> bool
 }
 
 // The first word that is too far.
-fn first_too_far(words: &[u32]) -> Found
-    ensures { λ r. ⌜ r ≡ least (tooFar (was words)) (length (was words)) ⌝ }
+fn first_too_far(words: &[u32], pitch: Pitch) -> Found
+    ensures { λ r. ⌜ r ≡ least (tooFar (pitchOf pitch) (was words)) (length (was words)) ⌝ }
 {
     let mut i = 0;
     while i < words.len() {
-        if is_too_far(words, i) {
+        if is_too_far(words, i, pitch) {
             return Found::At(i);
         }
         i += 1;
@@ -71,11 +75,11 @@ fn first_too_far(words: &[u32]) -> Found
 }
 
 // Whether word i is too far.
-fn is_too_far(words: &[u32], i: usize) -> bool
+fn is_too_far(words: &[u32], i: usize, pitch: Pitch) -> bool
     requires { ⌜ i < length (now words) ⌝ }
-    ensures { λ r. ⌜ r ≡ tooFar (was words) i ⌝ }
+    ensures { λ r. ⌜ r ≡ tooFar (pitchOf pitch) (was words) i ⌝ }
 {
-    let place = grid_coordinate::place(words[i]);
+    let place = grid_place::place(words[i], pitch);
     match place {
         Coordinate::Exact(_) => false,
         Coordinate::Shifted(_, _) => false,
@@ -85,22 +89,23 @@ fn is_too_far(words: &[u32], i: usize) -> bool
 }
 
 // Whether every word is on the grid: a pass with no way out, so that several words are taken at a time.
-fn all_on_grid(words: &[u32]) -> bool
-    ensures { λ r. ⌜ r ≡ not (any (least (offGrid (was words)) (length (was words)))) ⌝ }
+fn all_on_grid(words: &[u32], pitch: Pitch) -> bool
+    ensures { λ r. ⌜ r ≡ not (any (least (offGrid (pitchOf pitch) (was words)) (length (was words)))) ⌝ }
 {
+    let end = grid_place::end_of(pitch);
     let mut all = true;
     let mut i = 0;
     while i < words.len() {
-        all = all & !is_off_grid(words, i);
+        all = all & !is_off_grid(words, i, end);
         i += 1;
     }
     all
 }
 
-// Whether word i is not on the grid.
-fn is_off_grid(words: &[u32], i: usize) -> bool
+// Whether word i is not on the grid of a pitch that ends there.
+fn is_off_grid(words: &[u32], i: usize, end: u32) -> bool
     requires { ⌜ i < length (now words) ⌝ }
-    ensures { λ r. ⌜ r ≡ offGrid (was words) i ⌝ }
+    ensures { λ r. ⌜ ((p : Pitch) → end ≡ endOf p → r ≡ offGrid (pitchOf p) (was words) i) ⌝ }
 {
-    grid_coordinate::is_off(words[i])
+    grid_place::is_off(words[i], end)
 }

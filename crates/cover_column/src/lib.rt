@@ -97,9 +97,9 @@ fn by_way(
     let z = zs[m];
     table[3 * quarter + at + i]
         + v
-        + cover_floats::size(table[at + i] - xs[i] + x)
-        + cover_floats::size(table[quarter + at + i] - ys[i] + y)
-        + cover_floats::size(table[2 * quarter + at + i] - zs[i] + z)
+        + grid_floats::size(table[at + i] - xs[i] + x)
+        + grid_floats::size(table[quarter + at + i] - ys[i] + y)
+        + grid_floats::size(table[2 * quarter + at + i] - zs[i] + z)
 }
 
 // Each place of the column below m takes the way by m where that is lighter. The machine takes two at a time: of an odd m it

@@ -15,9 +15,9 @@ fn triangle(table: &[f64], im: usize, ik: usize, mk: usize, quarter: usize) -> f
     requires { ⌜ TriangleRoom quarter (now table) im ik mk ⌝ }
     ensures { λ r. ⌜ r ≡ triangleOf quarter (was table) im ik mk ⌝ }
 {
-    cover_floats::size(table[im] - table[ik] + table[mk])
-        + cover_floats::size(table[quarter + im] - table[quarter + ik] + table[quarter + mk])
-        + cover_floats::size(
+    grid_floats::size(table[im] - table[ik] + table[mk])
+        + grid_floats::size(table[quarter + im] - table[quarter + ik] + table[quarter + mk])
+        + grid_floats::size(
             table[2 * quarter + im] - table[2 * quarter + ik] + table[2 * quarter + mk],
         )
 }

@@ -9,7 +9,7 @@ use Rattle.base_answers.specs.Numbers.{refusing}
 use Rattle.base_answers.specs.declared.Answer.{Answer}
 use Rattle.base_answers.specs.declared.Answer.the-variants.{Done, Buffer, Unnamed, States}
 use Rattle.surface_rules.specs.Smallest.{least}
-use Rattle.surface_rules.specs.Refusals.{thenCheck, bufferRefusal, unnamedRefusal, refusal}
+use Rattle.surface_rules.specs.Refusals.{thenCheck, countRefusal, bufferRefusal, unnamedRefusal, refusal}
 use Rattle.surface_rules.specs.Buffers.{over}
 use Rattle.surface_rules.specs.Threes.{Three, flat}
 use Rattle.loop_rules.specs.Loops.{loops}
@@ -20,76 +20,76 @@ use Rattle.fill_fates.specs.Course.{ringList}
 use Rattle.judge_rules.proofs.Theorems.{verdict-told}
 use Rattle.patch_surface.specs.Outcome as patcher
 use Rattle.judge_surface.specs.Outcome.{JudgesCounted, JudgesIf, Judges}
-use Rattle.text_rules.specs.Text.{TextOf}
-use Rattle.text_sheet.specs.Sheet.{points, triangles, text}
+use Rattle.text_rules.specs.Text.{TextOf, both}
+use Rattle.text_sheet.specs.Sheet.{Sheet, sheet, pitchSaid, wordsSaid, cornersSaid, text}
 use Rattle.text_read.specs.Outcome as intake
-use Rattle.text_read_set.specs.Set as set
+use Rattle.text_read_set.specs.Set.{set}
 use Rattle.text_read_set.specs.Outcome as sets
 use Rattle.text_write.specs.Outcome.{writeRefusal, writes}
 use Rattle.program_rewrite.specs.Rewriting.{Rewrites}
 use Rattle.program_import.specs.Importing.{Imports}
 use Rattle.program_judge.specs.Hears.{HearsLine}
 use Rattle.program_list.specs.Lists.{Prints}
-use Rattle.demands.specs.Answers.{Check, wordCount, cornerCount, shortBuffer, unnamedCorner, stateCount, table, Answered, AnswersDemand}
-use Rattle.demands.proofs.Checks.{answerOf, answerBy, answered, last-of, counts-are, table-is, table-refuses, chosen, then-once}
+use Rattle.demands.specs.Answers.{Check, otherPitch, wordCount, cornerCount, shortBuffer, unnamedCorner, stateCount, table, Answered, AnswersDemand}
+use Rattle.demands.proofs.Checks.{answerOf, answerBy, answered, last-of, pitch-is, counts-are, table-is, table-refuses, chosen, then-once}
 use Rattle.demands.proofs.Files.{sizing, reading-file, importing-refused, importing}
 use Rattle.demands.proofs.Programs.{sheet-texts, set-texts, hearing-set-wrong, hearing, rewriting-refused, rewriting, printing}
 
 -- ---- the entry points
 
-surveying : (words corners : List ℕ) (b : survey.Buffers)
-    → Answered (table words corners (survey.lent b) (survey.needs words corners)) (λ a. survey.refused a b) (λ o. o .answer) (survey.surveyOf words corners b)
+surveying : (pitch : ℕ) (words corners : List ℕ) (b : survey.Buffers)
+    → Answered (table pitch words corners (survey.lent b) (survey.needs words corners)) (λ a. survey.refused a b) (λ o. o .answer) (survey.surveyOf pitch words corners b)
 unfolding survey.surveyOf
-surveying words corners b =
-    chosen (table words corners (survey.lent b) (survey.needs words corners)) (table-refuses words corners (survey.lent b) (survey.needs words corners))
-    (refusal words corners (survey.lent b) (survey.needs words corners)) (table-is words corners (survey.lent b) (survey.needs words corners))
-    (λ a. survey.refused a b) (λ o. o .answer) (survey.done words corners b) _ (λ a. refl) refl refl
+surveying pitch words corners b =
+    chosen (table pitch words corners (survey.lent b) (survey.needs words corners)) (table-refuses pitch words corners (survey.lent b) (survey.needs words corners))
+    (refusal pitch words corners (survey.lent b) (survey.needs words corners)) (table-is pitch words corners (survey.lent b) (survey.needs words corners))
+    (λ a. survey.refused a b) (λ o. o .answer) (survey.done pitch words corners b) _ (λ a. refl) refl refl
 
-module _ (words corners : List ℕ) (b : patcher.Buffers) (o : patcher.Outcome) (p : patcher.Patches words corners b o) where
+module _ (pitch : ℕ) (words corners : List ℕ) (b : patcher.Buffers) (o : patcher.Outcome) (p : patcher.Patches pitch words corners b o) where
   abbrev patchRefusal : Answer
-  patchRefusal = refusal words corners (patcher.lent b) (patcher.needs words corners)
+  patchRefusal = refusal pitch words corners (patcher.lent b) (patcher.needs words corners)
 
   abbrev patchTable : List Check
-  patchTable = table words corners (patcher.lent b) (patcher.needs words corners)
+  patchTable = table pitch words corners (patcher.lent b) (patcher.needs words corners)
 
   patch-is : patchRefusal ≡ answerOf patchTable
-  patch-is = table-is words corners (patcher.lent b) (patcher.needs words corners)
+  patch-is = table-is pitch words corners (patcher.lent b) (patcher.needs words corners)
 
   patch-refused : refusing (answerOf patchTable) ≡ true → o ≡ patcher.refused (answerOf patchTable) b
   patch-refused h =
-      let e : o ≡ patcher.refused patchRefusal b = subst (λ (t : Bool). patcher.PatchesIf t patchRefusal words corners b o) (ap refusing patch-is ∙ h) p in
+      let e : o ≡ patcher.refused patchRefusal b = subst (λ (t : Bool). patcher.PatchesIf t patchRefusal pitch words corners b o) (ap refusing patch-is ∙ h) p in
       e ∙ ap (λ (a : Answer). patcher.refused a b) patch-is
 
   patch-done : refusing (answerOf patchTable) ≡ false → refusing (o .answer) ≡ false
-  patch-done h = go (subst (λ (t : Bool). patcher.PatchesIf t patchRefusal words corners b o) (ap refusing patch-is ∙ h) p)
+  patch-done h = go (subst (λ (t : Bool). patcher.PatchesIf t patchRefusal pitch words corners b o) (ap refusing patch-is ∙ h) p)
     where
-      go : patcher.PatchesIf false patchRefusal words corners b o → refusing (o .answer) ≡ false
+      go : patcher.PatchesIf false patchRefusal pitch words corners b o → refusing (o .answer) ≡ false
       go (fates, course, e) = ap (λ (x : patcher.Outcome). refusing (x .answer)) e
 
   patching : Answered patchTable (λ a. patcher.refused a b) (λ x. x .answer) o
-  patching = answered patchTable (table-refuses words corners (patcher.lent b) (patcher.needs words corners)) (λ a. patcher.refused a b) (λ x. x .answer) o (λ a. refl) patch-refused patch-done
+  patching = answered patchTable (table-refuses pitch words corners (patcher.lent b) (patcher.needs words corners)) (λ a. patcher.refused a b) (λ x. x .answer) o (λ a. refl) patch-refused patch-done
 
-module _ (words corners states set : List ℕ) (b : survey.Buffers) (o : survey.Outcome) (j : Judges words corners states set b o) where
+module _ (pitch : ℕ) (words corners states set : List ℕ) (b : survey.Buffers) (o : survey.Outcome) (j : Judges pitch words corners states set b o) where
   abbrev judgeRefusal : Answer
-  judgeRefusal = refusal words corners (survey.lent b) (survey.needs words corners)
+  judgeRefusal = refusal pitch words corners (survey.lent b) (survey.needs words corners)
 
   abbrev same-many : Bool
   same-many = eqb (length (loops corners)) (length states)
 
   -- the outcome, where 1 to 8 refuse or not, and then where 9 does or not
-  judge-if : {t : Bool} → refusing judgeRefusal ≡ t → JudgesIf t judgeRefusal words corners states set b o
-  judge-if e = subst (λ (t : Bool). JudgesIf t judgeRefusal words corners states set b o) e j
+  judge-if : {t : Bool} → refusing judgeRefusal ≡ t → JudgesIf t judgeRefusal pitch words corners states set b o
+  judge-if e = subst (λ (t : Bool). JudgesIf t judgeRefusal pitch words corners states set b o) e j
 
-  judge-counted : {s : Bool} → refusing judgeRefusal ≡ false → same-many ≡ s → JudgesCounted s words corners states set b o
-  judge-counted e n = subst (λ (s : Bool). JudgesCounted s words corners states set b o) n (judge-if e)
+  judge-counted : {s : Bool} → refusing judgeRefusal ≡ false → same-many ≡ s → JudgesCounted s pitch words corners states set b o
+  judge-counted e n = subst (λ (s : Bool). JudgesCounted s pitch words corners states set b o) n (judge-if e)
 
-  judge-told : JudgesCounted true words corners states set b o → refusing (o .answer) ≡ false
-  judge-told (a, v, e) = ap (λ (x : survey.Outcome). refusing (x .answer)) e ∙ verdict-told (gridOf words) corners [] 0 0 (rimList (gridOf words) corners) (ringList corners) states set a v
+  judge-told : JudgesCounted true pitch words corners states set b o → refusing (o .answer) ≡ false
+  judge-told (a, v, e) = ap (λ (x : survey.Outcome). refusing (x .answer)) e ∙ verdict-told (gridOf pitch words) corners [] 0 0 (rimList (gridOf pitch words) corners) (ringList corners) states set a v
 
-  judging : Answered (table words corners (survey.lent b) (survey.needs words corners) ++ (stateCount corners states ∷ [])) (λ a. survey.refused a b) (λ x. x .answer) o
+  judging : Answered (table pitch words corners (survey.lent b) (survey.needs words corners) ++ (stateCount corners states ∷ [])) (λ a. survey.refused a b) (λ x. x .answer) o
   judging =
-      then-once (table words corners (survey.lent b) (survey.needs words corners)) (table-refuses words corners (survey.lent b) (survey.needs words corners))
-      judgeRefusal (table-is words corners (survey.lent b) (survey.needs words corners)) same-many (States (length (loops corners))) refl
+      then-once (table pitch words corners (survey.lent b) (survey.needs words corners)) (table-refuses pitch words corners (survey.lent b) (survey.needs words corners))
+      judgeRefusal (table-is pitch words corners (survey.lent b) (survey.needs words corners)) same-many (States (length (loops corners))) refl
       (λ a. survey.refused a b) (λ x. x .answer) o (λ a. refl) judge-if (λ e n. judge-counted e n) (λ e n. judge-told (judge-counted e n))
 
 -- ---- texts
@@ -99,26 +99,29 @@ read-is : (lent needs words corners : List ℕ) → thenCheck (bufferRefusal len
 unfolding bufferRefusal
 read-is lent needs words corners = ap (thenCheck (answerBy (shortBuffer lent needs))) (last-of Unnamed (λ i. refl) (least (unnamedCorner words corners .finds) (length corners)))
 
-reading : (bytes words corners : List ℕ) (o : intake.ReadOutcome) → intake.Reads bytes words corners o → (ps ts : List Three) → TextOf points triangles bytes ps ts
-    → Answered (shortBuffer (length words ∷ length corners ∷ []) (length (flat ps) ∷ length (flat ts) ∷ []) ∷ unnamedCorner (flat ps) (flat ts) ∷ []) (λ a. intake.notRead a words corners) (λ p. p .answer) o
+reading : (bytes words corners : List ℕ) (o : intake.ReadOutcome) → intake.Reads bytes words corners o → (s : Sheet) → TextOf sheet bytes s
+    → Answered (shortBuffer (length words ∷ length corners ∷ []) (length (wordsSaid s) ∷ length (cornersSaid s) ∷ []) ∷ unnamedCorner (wordsSaid s) (cornersSaid s) ∷ []) (λ a. intake.notRead a words corners) (λ p. p .answer) o
 unfolding intake.deliver
-reading bytes words corners o r ps ts t =
+reading bytes words corners o r s t =
     let lent : List ℕ = length words ∷ length corners ∷ [] in
-    let needs : List ℕ = length (flat ps) ∷ length (flat ts) ∷ [] in
-    chosen (shortBuffer lent needs ∷ unnamedCorner (flat ps) (flat ts) ∷ []) (λ i. refl, (λ i. refl, tt)) (thenCheck (bufferRefusal lent needs) (unnamedRefusal (flat ts) (length (flat ps) / 3))) (read-is lent needs (flat ps) (flat ts)) (λ a. intake.notRead a words corners) (λ p. p .answer)
-    (record { answer = Done; word-count = length (flat ps); corner-count = length (flat ts); words = over (flat ps) words; corners = over (flat ts) corners }) o (λ a. refl) refl (r .of-text ps ts t)
+    let needs : List ℕ = length (wordsSaid s) ∷ length (cornersSaid s) ∷ [] in
+    chosen (shortBuffer lent needs ∷ unnamedCorner (wordsSaid s) (cornersSaid s) ∷ []) (λ i. refl, (λ i. refl, tt)) (thenCheck (bufferRefusal lent needs) (unnamedRefusal (cornersSaid s) (length (wordsSaid s) / 3)))
+    (read-is lent needs (wordsSaid s) (cornersSaid s)) (λ a. intake.notRead a words corners) (λ p. p .answer)
+    (record { answer = Done; pitch = pitchSaid s; word-count = length (wordsSaid s); corner-count = length (cornersSaid s); words = over (wordsSaid s) words; corners = over (cornersSaid s) corners }) o (λ a. refl) refl (r .of-text s t)
 
-writing : (words corners buffer : List ℕ)
-    → Answered (wordCount words ∷ cornerCount corners ∷ shortBuffer (length buffer ∷ []) (length (text words corners) ∷ []) ∷ unnamedCorner words corners ∷ []) (λ a. record { answer = a; count = 0; bytes = buffer }) (λ p. p .answer) (writes words corners buffer)
+writing : (pitch : ℕ) (words corners buffer : List ℕ)
+    → Answered (otherPitch pitch ∷ wordCount words ∷ cornerCount corners ∷ shortBuffer (length buffer ∷ []) (length (text pitch words corners) ∷ []) ∷ unnamedCorner words corners ∷ []) (λ a. record { answer = a; count = 0; bytes = buffer }) (λ p. p .answer) (writes pitch words corners buffer)
 unfolding writes writeRefusal
-writing words corners buffer =
+writing pitch words corners buffer =
     let lent : List ℕ = length buffer ∷ [] in
-    let needs : List ℕ = length (text words corners) ∷ [] in
-    chosen (wordCount words ∷ cornerCount corners ∷ shortBuffer lent needs ∷ unnamedCorner words corners ∷ []) (λ i. refl, (λ i. refl, (λ i. refl, (λ i. refl, tt)))) (writeRefusal words corners buffer)
-    (counts-are words corners (thenCheck (bufferRefusal lent needs) (unnamedRefusal corners (length words / 3))) ∙ ap (λ (x : Answer). thenCheck (answerBy (wordCount words)) (thenCheck (answerBy (cornerCount corners)) x)) (read-is lent needs words corners))
-    (λ a. record { answer = a; count = 0; bytes = buffer }) (λ p. p .answer) (record { answer = Done; count = length (text words corners); bytes = over (text words corners) buffer }) (writes words corners buffer) (λ a. refl) refl refl
+    let needs : List ℕ = length (text pitch words corners) ∷ [] in
+    chosen (otherPitch pitch ∷ wordCount words ∷ cornerCount corners ∷ shortBuffer lent needs ∷ unnamedCorner words corners ∷ []) (λ i. refl, (λ i. refl, (λ i. refl, (λ i. refl, (λ i. refl, tt))))) (writeRefusal pitch words corners buffer)
+    (pitch-is pitch (thenCheck (countRefusal (length words) (length corners)) (thenCheck (bufferRefusal lent needs) (unnamedRefusal corners (length words / 3))))
+    ∙ ap (thenCheck (answerBy (otherPitch pitch)))
+    (counts-are words corners (thenCheck (bufferRefusal lent needs) (unnamedRefusal corners (length words / 3))) ∙ ap (λ (x : Answer). thenCheck (answerBy (wordCount words)) (thenCheck (answerBy (cornerCount corners)) x)) (read-is lent needs words corners)))
+    (λ a. record { answer = a; count = 0; bytes = buffer }) (λ p. p .answer) (record { answer = Done; count = length (text pitch words corners); bytes = over (text pitch words corners) buffer }) (writes pitch words corners buffer) (λ a. refl) refl refl
 
-reading-set : (bytes : List ℕ) (before : ℕ) (states corners : List ℕ) (o : sets.SetOutcome) → sets.ReadsSet bytes before states corners o → (ss : List ℕ) (ts : List Three) → TextOf set.states set.triangles bytes ss ts
+reading-set : (bytes : List ℕ) (before : ℕ) (states corners : List ℕ) (o : sets.SetOutcome) → sets.ReadsSet bytes before states corners o → (ss : List ℕ) (ts : List Three) → TextOf set bytes (both ss ts)
     → Answered (shortBuffer (length states ∷ length corners ∷ []) (length ss ∷ length (flat ts) ∷ []) ∷ []) (λ a. sets.notRead a states corners) (λ p. p .answer) o
 unfolding sets.deliver bufferRefusal
 reading-set bytes before states corners o r ss ts t =
@@ -142,8 +145,8 @@ answers-demand = record {
   sizing = sizing;
   reading-file = reading-file;
   listing-wrong = λ bytes b o l. l .of-fault;
-  listing = λ bytes b o l ps ts t. patching (flat ps) (flat ts) b o (l .of-text ps ts t);
-  hearing-wrong = λ sheet patches a h. h .of-fault;
+  listing = λ bytes b o l s t. patching (pitchSaid s) (wordsSaid s) (cornersSaid s) b o (l .of-text s t);
+  hearing-wrong = λ bytes patches a h. h .of-fault;
   hearing-set-wrong = hearing-set-wrong;
   hearing = hearing;
   rewriting-wrong = λ bytes out w. w .of-fault;
@@ -152,7 +155,7 @@ answers-demand = record {
   importing-refused = importing-refused;
   importing = importing;
   listing-printed = λ bytes. printing (Prints bytes);
-  hearing-printed = λ sheet patches. printing (HearsLine sheet patches);
+  hearing-printed = λ bytes patches. printing (HearsLine bytes patches);
   rewriting-printed = λ bytes. printing (Rewrites bytes);
   importing-printed = λ file. printing (Imports file);
 }

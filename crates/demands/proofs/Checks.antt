@@ -7,16 +7,17 @@ use Prim.Native.Nat.{ℕ}
 use lib.ListN.{length}
 use Rattle.base_answers.specs.Numbers.{refusing}
 use Rattle.base_answers.specs.declared.Answer.{Answer}
-use Rattle.base_answers.specs.declared.Answer.the-variants.{Done, Words, Corners, TooFar}
+use Rattle.base_answers.specs.declared.Answer.the-variants.{Done, Words, Corners, TooFar, NoPitch}
 use Rattle.base_types.specs.Counts.{threes}
+use Rattle.base_types.specs.Pitches.{isPitch}
 use Rattle.base_limits.specs.Limits as limits
 use Rattle.surface_rules.specs.declared.Found.{Found}
 use Rattle.surface_rules.specs.declared.Found.the-variants.{At, Nothing}
 use Rattle.surface_rules.specs.Smallest.{least}
-use Rattle.surface_rules.specs.Refusals.{tooFar, refuseAt, thenCheck, countRefusal, bufferRefusal, cornerRefusal, wordRefusal, contentRefusal, refusal}
+use Rattle.surface_rules.specs.Refusals.{tooFar, refuseAt, thenCheck, pitchRefusal, countRefusal, bufferRefusal, cornerRefusal, wordRefusal, contentRefusal, refusal}
 use Rattle.surface_rules.proofs.Laws.Smallest.{least-at, least-never, least-sound, least-first, never-least}
 use Rattle.surface_rules.proofs.Laws.Thens.{then-refused, then-next}
-use Rattle.demands.specs.Answers.{Check, Due, once, wordCount, cornerCount, shortBuffer, unnamedCorner, pointTwice, edgeRepeated, noNumber, farAway, table, Answered}
+use Rattle.demands.specs.Answers.{Check, Due, once, otherPitch, wordCount, cornerCount, shortBuffer, unnamedCorner, pointTwice, edgeRepeated, noNumber, farAway, table, Answered}
 
 -- ---- what a list of checks gives, as the entry points compute it
 
@@ -103,20 +104,27 @@ counts-are words corners b =
     let c : Bool = threes limits.corners (length corners) in
     then-then (cond w Done Words) (cond c Done Corners) b ∙ ap₂ (λ (x y : Answer). thenCheck x (thenCheck y b)) (once-is w Words) (once-is c Corners)
 
-pub table-is : (words corners lent needs : List ℕ) → refusal words corners lent needs ≡ answerOf (table words corners lent needs)
+-- 17 before the rest
+pub pitch-is : (pitch : ℕ) (b : Answer) → thenCheck (pitchRefusal pitch) b ≡ thenCheck (answerBy (otherPitch pitch)) b
+unfolding pitchRefusal
+pitch-is pitch b = ap (λ (x : Answer). thenCheck x b) (once-is (isPitch pitch) NoPitch)
+
+pub table-is : (pitch : ℕ) (words corners lent needs : List ℕ) → refusal pitch words corners lent needs ≡ answerOf (table pitch words corners lent needs)
 unfolding refusal contentRefusal bufferRefusal cornerRefusal wordRefusal
-table-is words corners lent needs =
+table-is pitch words corners lent needs =
     let u : Answer = answerBy (unnamedCorner words corners) in
     let t : Answer = answerBy (pointTwice corners) in
     let r : Answer = answerBy (edgeRepeated corners) in
     let n : Answer = answerBy (noNumber words) in
-    let f : Answer = answerBy (farAway words) in
-    counts-are words corners (contentRefusal words corners lent needs)
+    let f : Answer = answerBy (farAway pitch words) in
+    pitch-is pitch (thenCheck (countRefusal (length words) (length corners)) (contentRefusal pitch words corners lent needs))
+    ∙ ap (thenCheck (answerBy (otherPitch pitch)))
+    (counts-are words corners (contentRefusal pitch words corners lent needs)
     ∙ ap (λ (x : Answer). thenCheck (answerBy (wordCount words)) (thenCheck (answerBy (cornerCount corners)) (thenCheck (answerBy (shortBuffer lent needs)) x)))
-    (then-then u (thenCheck t r) (thenCheck n f) ∙ ap (thenCheck u) (then-then t r (thenCheck n f) ∙ ap (λ (x : Answer). thenCheck t (thenCheck r (thenCheck n x))) (last-of TooFar (λ i. refl) (least (tooFar words) (length words)))))
+    (then-then u (thenCheck t r) (thenCheck n f) ∙ ap (thenCheck u) (then-then t r (thenCheck n f) ∙ ap (λ (x : Answer). thenCheck t (thenCheck r (thenCheck n x))) (last-of TooFar (λ i. refl) (least (tooFar pitch words) (length words))))))
 
-pub table-refuses : (words corners lent needs : List ℕ) → Refuses (table words corners lent needs)
-table-refuses words corners lent needs = (λ i. refl, (λ i. refl, (λ i. refl, (λ i. refl, (λ i. refl, (λ i. refl, (λ i. refl, (λ i. refl, tt))))))))
+pub table-refuses : (pitch : ℕ) (words corners lent needs : List ℕ) → Refuses (table pitch words corners lent needs)
+table-refuses pitch words corners lent needs = (λ i. refl, (λ i. refl, (λ i. refl, (λ i. refl, (λ i. refl, (λ i. refl, (λ i. refl, (λ i. refl, (λ i. refl, tt)))))))))
 
 -- what is asked after other checks
 pub append-is : (k l : List Check) → answerOf (k ++ l) ≡ thenCheck (answerOf k) (answerOf l)

@@ -14,7 +14,7 @@ use Rattle.surface_rules.specs.Smallest.{least}
 use Rattle.surface_rules.specs.Threes.{threes, flat}
 use Rattle.surface_rules.proofs.Laws.Smallest.{never-least}
 use Rattle.text_rules.specs.Text.{TextOf}
-use Rattle.text_sheet.specs.Sheet.{points, triangles}
+use Rattle.text_sheet.specs.Sheet.{sheet, sheetOf}
 use Rattle.text_read.specs.Outcome.{notRead}
 use Rattle.stl_facets.specs.Facets.{facets}
 use Rattle.stl_rules.specs.File.{fits}
@@ -59,7 +59,7 @@ module _ (file : List ℕ) where
     reading-file =
         chosen (fileChecks file ++ (shortBuffer lent needed ∷ [])) (append-refuses (fileChecks file) (shortBuffer lent needed ∷ []) file-refuses (λ i. refl, tt)) (readRefusal file words corners) read-is
         (λ a. notRead a words corners) (λ p. p .answer)
-        (record { answer = Done; word-count = 3 * length (pointsIn file); corner-count = 3 * facets file; words = over (flat (pointsIn file)) words; corners = over (cornersIn file) corners })
+        (record { answer = Done; pitch = 1; word-count = 3 * length (pointsIn file); corner-count = 3 * facets file; words = over (flat (pointsIn file)) words; corners = over (cornersIn file) corners })
         (readsFile file words corners) (λ a. refl) refl refl
 
   module _ (out : List ℕ) (p : Imports file out) where
@@ -68,7 +68,7 @@ module _ (file : List ℕ) where
         let e : fileRefusal file ≡ a = file-is ∙ due-is (fileChecks file) file-refuses a d in
         p .of-refusal (ap refusing e ∙ due-refuses (fileChecks file) file-refuses a d) ∙ ap answerLine e
 
-    pub importing : Clear (wrongSize (length file) (facets file)) → Clear (manyFacets (facets file)) → Clear (manyPoints file) → TextOf points triangles out (pointsIn file) (threes (cornersIn file))
+    pub importing : Clear (wrongSize (length file) (facets file)) → Clear (manyFacets (facets file)) → Clear (manyPoints file) → TextOf sheet out (sheetOf 1 (pointsIn file) (threes (cornersIn file)))
     importing s f q =
         let a = never-least (wrongSize (length file) (facets file) .finds) 1 s in
         let b = never-least (manyFacets (facets file) .finds) 1 f in

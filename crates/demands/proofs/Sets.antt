@@ -100,11 +100,11 @@ module _ (corners : List ℕ) (sound : Sound corners) where
 
 -- ---- the checker
 
-module _ (words corners states set : List ℕ) (b : survey.Buffers) (o : survey.Outcome) where
+module _ (pitch : ℕ) (words corners states set : List ℕ) (b : survey.Buffers) (o : survey.Outcome) where
   abbrev table : Answer
-  table = refusal words corners (survey.lent b) (survey.needs words corners)
+  table = refusal pitch words corners (survey.lent b) (survey.needs words corners)
 
-  refused-demand : refusing table ≡ true → o ≡ survey.refused table b → CheckerDemand words corners states set b o
+  refused-demand : refusing table ≡ true → o ≡ survey.refused table b → CheckerDemand pitch words corners states set b o
   refused-demand r e = record {
     passed-only = λ d. absurd (true≢false (sym r ∙ ap refusing (sym (ap (λ (x : survey.Outcome). x .answer) e) ∙ d)));
     passed-always = λ f p. absurd (true≢false (sym r ∙ f));
@@ -113,9 +113,9 @@ module _ (words corners states set : List ℕ) (b : survey.Buffers) (o : survey.
 
   module _ (r : refusing table ≡ false) where
     sound : Sound corners
-    sound = passed-sound words corners (survey.lent b) (survey.needs words corners) (passed words corners (survey.lent b) (survey.needs words corners) r)
+    sound = passed-sound pitch words corners (survey.lent b) (survey.needs words corners) (passed pitch words corners (survey.lent b) (survey.needs words corners) r)
 
-    counted-demand : (t : Bool) → eqb (length (loops corners)) (length states) ≡ t → JudgesCounted t words corners states set b o → CheckerDemand words corners states set b o
+    counted-demand : (t : Bool) → eqb (length (loops corners)) (length states) ≡ t → JudgesCounted t pitch words corners states set b o → CheckerDemand pitch words corners states set b o
     counted-demand false n e =
         let no : (d : o .answer ≡ Done) → ⊥ = λ d. let z : numberOf (States (length (loops corners))) ≡ numberOf Done = ap numberOf (sym (ap (λ (x : survey.Outcome). x .answer) e) ∙ d) in omega arith in
         record {
@@ -125,48 +125,48 @@ module _ (words corners states set : List ℕ) (b : survey.Buffers) (o : survey.
         }
     counted-demand true n (a, v, e) =
         let said : o .answer ≡ a = ap (λ (x : survey.Outcome). x .answer) e in
-        let right : o .answer ≡ Done → AllRight (gridOf words) corners [] (rimList (gridOf words) corners) (ringList corners) states set = λ d.
-        passes-right (gridOf words) corners [] 0 0 (rimList (gridOf words) corners) (ringList corners) states set (subst (Verdict (gridOf words) corners [] 0 0 (rimList (gridOf words) corners) (ringList corners) states set) (sym said ∙ d) v) in
+        let right : o .answer ≡ Done → AllRight (gridOf pitch words) corners [] (rimList (gridOf pitch words) corners) (ringList corners) states set = λ d.
+        passes-right (gridOf pitch words) corners [] 0 0 (rimList (gridOf pitch words) corners) (ringList corners) states set (subst (Verdict (gridOf pitch words) corners [] 0 0 (rimList (gridOf pitch words) corners) (ringList corners) states set) (sym said ∙ d) v) in
         record {
-          passed-only = λ d. passable corners sound (gridOf words) states set (right d) (sym (eqb-true (length (loops corners)) (length states) n));
+          passed-only = λ d. passable corners sound (gridOf pitch words) states set (right d) (sym (eqb-true (length (loops corners)) (length states) n));
           passed-always = λ f p.
-              said ∙ verdict-once (gridOf words) corners [] 0 0 (rimList (gridOf words) corners) (ringList corners) states set a Done (rings-apart corners sound) v
-              (right-passes (gridOf words) corners [] 0 0 (rimList (gridOf words) corners) (ringList corners) states set (all-right corners sound (gridOf words) states set p));
-          closes = λ d. closes corners sound (gridOf words) states set (right d);
+              said ∙ verdict-once (gridOf pitch words) corners [] 0 0 (rimList (gridOf pitch words) corners) (ringList corners) states set a Done (rings-apart corners sound) v
+              (right-passes (gridOf pitch words) corners [] 0 0 (rimList (gridOf pitch words) corners) (ringList corners) states set (all-right corners sound (gridOf pitch words) states set p));
+          closes = λ d. closes corners sound (gridOf pitch words) states set (right d);
         }
 
-  pub checker-demand : Judges words corners states set b o → CheckerDemand words corners states set b o
+  pub checker-demand : Judges pitch words corners states set b o → CheckerDemand pitch words corners states set b o
   checker-demand = go (refusing table) refl
     where
-      go : (t : Bool) → refusing table ≡ t → JudgesIf t table words corners states set b o → CheckerDemand words corners states set b o
+      go : (t : Bool) → refusing table ≡ t → JudgesIf t table pitch words corners states set b o → CheckerDemand pitch words corners states set b o
       go true r j = refused-demand r j
       go false r j = counted-demand r (eqb (length (loops corners)) (length states)) refl j
 
 -- ---- the patcher
 
-module _ (words corners : List ℕ) (b : patcher.Buffers) (o : patcher.Outcome) where
+module _ (pitch : ℕ) (words corners : List ℕ) (b : patcher.Buffers) (o : patcher.Outcome) where
   abbrev refuses : Answer
-  refuses = refusal words corners (patcher.lent b) (patcher.needs words corners)
+  refuses = refusal pitch words corners (patcher.lent b) (patcher.needs words corners)
 
-  done-demand : refusing refuses ≡ false → (fates : List Fate) → Course (gridOf words) corners [] (rimList (gridOf words) corners) (ringList corners) fates → o ≡ patcher.done words corners fates b
-      → PatcherDemand words corners o
+  done-demand : refusing refuses ≡ false → (fates : List Fate) → Course (gridOf pitch words) corners [] (rimList (gridOf pitch words) corners) (ringList corners) fates → o ≡ patcher.done pitch words corners fates b
+      → PatcherDemand pitch words corners o
   done-demand r fates course e = record {
     fits = fit;
     passes = λ c p l j.
-        checker-demand words corners (statesLeft o) (setLeft o) c p j .passed-always
-        (passes words corners (survey.lent c) (survey.needs words corners) (record { counts = table .counts; buffers = l; corner = table .corner; word = table .word }))
-        (passable corners sound (gridOf words) (statesLeft o) (setLeft o) right (ap length states ∙ fated));
-    closes = closes corners sound (gridOf words) (statesLeft o) (setLeft o) right;
+        checker-demand pitch words corners (statesLeft o) (setLeft o) c p j .passed-always
+        (passes pitch words corners (survey.lent c) (survey.needs words corners) (record { pitched = table .pitched; counts = table .counts; buffers = l; corner = table .corner; word = table .word }))
+        (passable corners sound (gridOf pitch words) (statesLeft o) (setLeft o) right (ap length states ∙ fated));
+    closes = closes corners sound (gridOf pitch words) (statesLeft o) (setLeft o) right;
   }
     where
-      table : Passed words corners (patcher.lent b) (patcher.needs words corners)
-      table = passed words corners (patcher.lent b) (patcher.needs words corners) r
+      table : Passed pitch words corners (patcher.lent b) (patcher.needs words corners)
+      table = passed pitch words corners (patcher.lent b) (patcher.needs words corners) r
 
       sound : Sound corners
-      sound = passed-sound words corners (patcher.lent b) (patcher.needs words corners) table
+      sound = passed-sound pitch words corners (patcher.lent b) (patcher.needs words corners) table
 
       fated : length (statesOf fates) ≡ length (loops corners)
-      fated = states-length fates ∙ course-length (gridOf words) corners [] (rimList (gridOf words) corners) (ringList corners) fates course ∙ many corners sound
+      fated = states-length fates ∙ course-length (gridOf pitch words) corners [] (rimList (gridOf pitch words) corners) (ringList corners) fates course ∙ many corners sound
 
       states : statesLeft o ≡ statesOf fates
       states = ap statesLeft e ∙ start-of (statesOf fates) (b .states) (length (loops corners)) (sym fated)
@@ -174,19 +174,19 @@ module _ (words corners : List ℕ) (b : patcher.Buffers) (o : patcher.Outcome) 
       set : setLeft o ≡ laidBy (ringList corners) fates
       set = ap setLeft e ∙ start-of (laidBy (ringList corners) fates) (b .patches) (length (laidBy (ringList corners) fates)) refl
 
-      right : AllRight (gridOf words) corners [] (rimList (gridOf words) corners) (ringList corners) (statesLeft o) (setLeft o)
-      right = subst (λ (x : List ℕ). AllRight (gridOf words) corners [] (rimList (gridOf words) corners) (ringList corners) x (setLeft o)) (sym states)
-          (subst (λ (x : List ℕ). AllRight (gridOf words) corners [] (rimList (gridOf words) corners) (ringList corners) (statesOf fates) x) (sym set) (course-right (gridOf words) corners [] (rimList (gridOf words) corners) (ringList corners) fates course))
+      right : AllRight (gridOf pitch words) corners [] (rimList (gridOf pitch words) corners) (ringList corners) (statesLeft o) (setLeft o)
+      right = subst (λ (x : List ℕ). AllRight (gridOf pitch words) corners [] (rimList (gridOf pitch words) corners) (ringList corners) x (setLeft o)) (sym states)
+          (subst (λ (x : List ℕ). AllRight (gridOf pitch words) corners [] (rimList (gridOf pitch words) corners) (ringList corners) (statesOf fates) x) (sym set) (course-right (gridOf pitch words) corners [] (rimList (gridOf pitch words) corners) (ringList corners) fates course))
 
       fit : o .corners ≤ 3 * length corners
       fit =
           let a : o .corners ≡ length (laidBy (ringList corners) fates) = ap (λ (x : patcher.Outcome). x .corners) e in
-          let c : length (laidBy (ringList corners) fates) ≤ 3 * length (flatten (ringList corners)) = laid-length (gridOf words) corners [] (rimList (gridOf words) corners) (ringList corners) fates course in
+          let c : length (laidBy (ringList corners) fates) ≤ 3 * length (flatten (ringList corners)) = laid-length (gridOf pitch words) corners [] (rimList (gridOf pitch words) corners) (ringList corners) fates course in
           omega (arith, vertices-in-all corners sound, vertices-few corners sound)
 
-  pub patcher-demand : patcher.Patches words corners b o → refusing (o .answer) ≡ false → PatcherDemand words corners o
+  pub patcher-demand : patcher.Patches pitch words corners b o → refusing (o .answer) ≡ false → PatcherDemand pitch words corners o
   patcher-demand h n = go (refusing refuses) refl h
     where
-      go : (t : Bool) → refusing refuses ≡ t → patcher.PatchesIf t refuses words corners b o → PatcherDemand words corners o
+      go : (t : Bool) → refusing refuses ≡ t → patcher.PatchesIf t refuses pitch words corners b o → PatcherDemand pitch words corners o
       go true r e = absurd (true≢false (sym r ∙ ap refusing (sym (ap (λ (x : patcher.Outcome). x .answer) e)) ∙ n))
       go false r (fates, course, e) = done-demand r fates course e

@@ -38,11 +38,11 @@ pub demand-2-texts : TextsDemand
 demand-2-texts = texts-demand
 
 -- 3. The checker passes a set exactly when it is right loop by loop.
-pub demand-3-checker : (words corners states set : List ℕ) (b : survey.Buffers) (o : survey.Outcome) → Judges words corners states set b o → CheckerDemand words corners states set b o
+pub demand-3-checker : (pitch : ℕ) (words corners states set : List ℕ) (b : survey.Buffers) (o : survey.Outcome) → Judges pitch words corners states set b o → CheckerDemand pitch words corners states set b o
 demand-3-checker = checker-demand
 
 -- The patcher's own sets pass.
-pub demand-3-patcher : (words corners : List ℕ) (b : patcher.Buffers) (o : patcher.Outcome) → patcher.Patches words corners b o → refusing (o .answer) ≡ false → PatcherDemand words corners o
+pub demand-3-patcher : (pitch : ℕ) (words corners : List ℕ) (b : patcher.Buffers) (o : patcher.Outcome) → patcher.Patches pitch words corners b o → refusing (o .answer) ≡ false → PatcherDemand pitch words corners o
 demand-3-patcher = patcher-demand
 
 -- After it no directed edge occurs twice, and the only open edges are those of loops that were left.

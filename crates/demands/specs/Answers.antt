@@ -1,7 +1,7 @@
 -- Demand 1: "Every input gets an answer. Each entry point checks for itself; each refusal has a number and a place, is given exactly when"
 -- the table "says, and changes nothing in lent storage."
 use mathlib.Core.Path.{_≡_}
-use mathlib.Core.Bool.{Bool, true, false, not}
+use mathlib.Core.Bool.{Bool, true, false, not, cond}
 use mathlib.Core.Logic.{_⊎_}
 use mathlib.Core.List.{List, [], _∷_, _++_}
 use Prim.Native.Nat.{ℕ, _+_, _*_, _/_, _<_}
@@ -9,8 +9,9 @@ use lib.Dec.{eqb, leb}
 use lib.ListN.{length}
 use Rattle.base_answers.specs.Numbers.{refusing}
 use Rattle.base_answers.specs.declared.Answer.{Answer}
-use Rattle.base_answers.specs.declared.Answer.the-variants.{Words, Corners, Buffer, Unnamed, Twice, Repeated, NotFinite, TooFar, States, Line, Misfit}
+use Rattle.base_answers.specs.declared.Answer.the-variants.{Words, Corners, Buffer, Unnamed, Twice, Repeated, NotFinite, TooFar, States, Line, Misfit, NoPitch}
 use Rattle.base_types.specs.Counts as counts
+use Rattle.base_types.specs.Pitches.{isPitch}
 use Rattle.base_limits.specs.Limits as limits
 use Rattle.surface_rules.specs.Edges.{twice, repeats}
 use Rattle.surface_rules.specs.Refusals.{short, unnamed, notFinite, tooFar}
@@ -19,11 +20,11 @@ use Rattle.loop_rules.specs.Loops.{loops}
 use Rattle.survey_rules.specs.Outcome as survey
 use Rattle.patch_surface.specs.Outcome as patcher
 use Rattle.judge_surface.specs.Outcome.{Judges}
-use Rattle.text_rules.specs.Text.{Part, TextOf}
+use Rattle.text_rules.specs.Text.{Format, TextOf, both}
 use Rattle.text_rules.specs.Fault.{Fault}
-use Rattle.text_sheet.specs.Sheet.{points, triangles, text}
+use Rattle.text_sheet.specs.Sheet.{Sheet, sheet, sheetOf, pitchSaid, wordsSaid, cornersSaid, text}
 use Rattle.text_read.specs.Outcome as intake
-use Rattle.text_read_set.specs.Set as set
+use Rattle.text_read_set.specs.Set.{set}
 use Rattle.text_read_set.specs.Outcome as sets
 use Rattle.text_write.specs.Outcome.{writes}
 use Rattle.stl_facets.specs.Facets.{facets}
@@ -65,6 +66,10 @@ Due (c ∷ after) a = Finds c a ⊎ (Clear c × Due after a)
 abbrev pub once : Bool → Answer → Check
 once t a = record { places = 1; finds = λ i. t; gives = λ i. a }
 
+-- 17: "a pitch other than 1, 2, 5 or 10"
+abbrev pub otherPitch : ℕ → Check
+otherPitch pitch = once (not (isPitch pitch)) NoPitch
+
 -- 1 and 2: a count "isn't a multiple of 3, or" is too high
 abbrev pub wordCount : List ℕ → Check
 wordCount words = once (not (counts.threes limits.words (length words))) Words
@@ -96,8 +101,8 @@ edgeRepeated corners = record { places = length corners; finds = repeats corners
 abbrev pub noNumber : List ℕ → Check
 noNumber words = record { places = length words; finds = notFinite words; gives = NotFinite }
 
-abbrev pub farAway : List ℕ → Check
-farAway words = record { places = length words; finds = tooFar words; gives = TooFar }
+abbrev pub farAway : ℕ → List ℕ → Check
+farAway pitch words = record { places = length words; finds = tooFar pitch words; gives = TooFar }
 
 -- 9: "state count differs from loop count", and its place is the "loop count"
 abbrev pub stateCount : List ℕ → List ℕ → Check
@@ -126,24 +131,28 @@ abbrev pub fileChecks : List ℕ → List Check
 fileChecks file = sizeChecks (length file) (facets file) ++ (manyPoints file ∷ [])
 
 -- 4 to 8: what is asked of a sheet whose counts are right
-abbrev pub sheetChecks : List ℕ → List ℕ → List Check
-sheetChecks words corners = unnamedCorner words corners ∷ pointTwice corners ∷ edgeRepeated corners ∷ noNumber words ∷ farAway words ∷ []
+abbrev pub sheetChecks : ℕ → List ℕ → List ℕ → List Check
+sheetChecks pitch words corners = unnamedCorner words corners ∷ pointTwice corners ∷ edgeRepeated corners ∷ noNumber words ∷ farAway pitch words ∷ []
 
 -- 10 and 4 to 8: a wrong line "comes before 4"
-abbrev pub lineAndSheet : ℕ → List ℕ → List ℕ → List Check
-lineAndSheet line words corners = wrongLine line ∷ sheetChecks words corners
+abbrev pub lineAndSheet : ℕ → ℕ → List ℕ → List ℕ → List Check
+lineAndSheet line pitch words corners = wrongLine line ∷ sheetChecks pitch words corners
 
--- 1 to 8, for buffers of these lengths where these are needed
-abbrev pub table : List ℕ → List ℕ → List ℕ → List ℕ → List Check
-table words corners lent needs = wordCount words ∷ cornerCount corners ∷ shortBuffer lent needs ∷ sheetChecks words corners
+-- 17 "between 10 and 1", and 1 to 8, for buffers of these lengths where these are needed
+abbrev pub table : ℕ → List ℕ → List ℕ → List ℕ → List ℕ → List Check
+table pitch words corners lent needs = otherPitch pitch ∷ wordCount words ∷ cornerCount corners ∷ shortBuffer lent needs ∷ sheetChecks pitch words corners
 
 -- ---- what is demanded
 
+-- how many lines the text of a sheet has: "With a pitch line every later line number goes up by one"
+abbrev pub linesBefore : Sheet → ℕ
+linesBefore s = cond (eqb (pitchSaid s) 1) 0 1 + (length (s .body .firsts) + length (s .body .seconds) + 2)
+
 -- "Every input gets an answer": any bytes are a text that says something, or have a fault at a line; never both, and no two faults.
-pub record Decided {A B : Type 0} (P : Part A) (Q : Part B) : Type 0 where
-  pub text-or-fault : (bytes : List ℕ) → ((xs : List A) × (ys : List B) × TextOf P Q bytes xs ys) ⊎ ((line : ℕ) × Fault P Q bytes line)
-  pub not-both : (bytes : List ℕ) (xs : List A) (ys : List B) (line : ℕ) → TextOf P Q bytes xs ys → Fault P Q bytes line → ⊥
-  pub one-fault : (bytes : List ℕ) (line other : ℕ) → Fault P Q bytes line → Fault P Q bytes other → line ≡ other
+pub record Decided {S : Type 0} (F : Format S) : Type 0 where
+  pub text-or-fault : (bytes : List ℕ) → ((s : S) × TextOf F bytes s) ⊎ ((line : ℕ) × Fault F bytes line)
+  pub not-both : (bytes : List ℕ) (s : S) (line : ℕ) → TextOf F bytes s → Fault F bytes line → ⊥
+  pub one-fault : (bytes : List ℕ) (line other : ℕ) → Fault F bytes line → Fault F bytes other → line ≡ other
 
 -- What is due is given, and leaves everything as it was; and nothing else is refused.
 pub record Answered {O : Type 0} (checks : List Check) (refused : Answer → O) (answer : O → Answer) (o : O) : Type 0 where
@@ -157,31 +166,31 @@ PrintsAnswered IsDue =
     → Answered (shortRoom most buffer ∷ []) (λ a. record { answer = a; count = 0; bytes = buffer }) (λ p. p .answer) o
 
 pub record AnswersDemand : Type 0 where
-  pub surveying : (words corners : List ℕ) (b : survey.Buffers)
-      → Answered (table words corners (survey.lent b) (survey.needs words corners)) (λ a. survey.refused a b) (λ o. o .answer) (survey.surveyOf words corners b)
-  pub patching : (words corners : List ℕ) (b : patcher.Buffers) (o : patcher.Outcome) → patcher.Patches words corners b o
-      → Answered (table words corners (patcher.lent b) (patcher.needs words corners)) (λ a. patcher.refused a b) (λ p. p .answer) o
-  pub judging : (words corners states patches : List ℕ) (b : survey.Buffers) (o : survey.Outcome) → Judges words corners states patches b o
-      → Answered (table words corners (survey.lent b) (survey.needs words corners) ++ (stateCount corners states ∷ [])) (λ a. survey.refused a b) (λ p. p .answer) o
+  pub surveying : (pitch : ℕ) (words corners : List ℕ) (b : survey.Buffers)
+      → Answered (table pitch words corners (survey.lent b) (survey.needs words corners)) (λ a. survey.refused a b) (λ o. o .answer) (survey.surveyOf pitch words corners b)
+  pub patching : (pitch : ℕ) (words corners : List ℕ) (b : patcher.Buffers) (o : patcher.Outcome) → patcher.Patches pitch words corners b o
+      → Answered (table pitch words corners (patcher.lent b) (patcher.needs words corners)) (λ a. patcher.refused a b) (λ p. p .answer) o
+  pub judging : (pitch : ℕ) (words corners states patches : List ℕ) (b : survey.Buffers) (o : survey.Outcome) → Judges pitch words corners states patches b o
+      → Answered (table pitch words corners (survey.lent b) (survey.needs words corners) ++ (stateCount corners states ∷ [])) (λ a. survey.refused a b) (λ p. p .answer) o
   -- any bytes are a text or have a fault, so that what follows speaks of all of them
-  pub sheet-texts : Decided points triangles
-  pub set-texts : Decided set.states set.triangles
+  pub sheet-texts : Decided sheet
+  pub set-texts : Decided set
   -- "Reading may give, in this order, 10, 3 (words 1, corners 2) and 4"
   pub reading-wrong : (bytes words corners : List ℕ) (o : intake.ReadOutcome) → intake.Reads bytes words corners o
-      → (line : ℕ) → Fault points triangles bytes line → o ≡ intake.notRead (Line line) words corners
+      → (line : ℕ) → Fault sheet bytes line → o ≡ intake.notRead (Line line) words corners
   pub reading : (bytes words corners : List ℕ) (o : intake.ReadOutcome) → intake.Reads bytes words corners o
-      → (ps ts : List Three) → TextOf points triangles bytes ps ts
-      → Answered (shortBuffer (length words ∷ length corners ∷ []) (length (flat ps) ∷ length (flat ts) ∷ []) ∷ unnamedCorner (flat ps) (flat ts) ∷ [])
+      → (s : Sheet) → TextOf sheet bytes s
+      → Answered (shortBuffer (length words ∷ length corners ∷ []) (length (wordsSaid s) ∷ length (cornersSaid s) ∷ []) ∷ unnamedCorner (wordsSaid s) (cornersSaid s) ∷ [])
       (λ a. intake.notRead a words corners) (λ p. p .answer) o
-  -- "writing gives 1, 2, 3 (text buffer too short for this text ...; number 1) and 4"
-  pub writing : (words corners buffer : List ℕ)
-      → Answered (wordCount words ∷ cornerCount corners ∷ shortBuffer (length buffer ∷ []) (length (text words corners) ∷ []) ∷ unnamedCorner words corners ∷ [])
-      (λ a. record { answer = a; count = 0; bytes = buffer }) (λ p. p .answer) (writes words corners buffer)
+  -- 17 first; then "writing gives 1, 2, 3 (text buffer too short for this text ...; number 1) and 4"
+  pub writing : (pitch : ℕ) (words corners buffer : List ℕ)
+      → Answered (otherPitch pitch ∷ wordCount words ∷ cornerCount corners ∷ shortBuffer (length buffer ∷ []) (length (text pitch words corners) ∷ []) ∷ unnamedCorner words corners ∷ [])
+      (λ a. record { answer = a; count = 0; bytes = buffer }) (λ p. p .answer) (writes pitch words corners buffer)
   -- a patch set's text: 10, counted on after the lines before it, and 3 (states 1, corners 2)
   pub reading-set-wrong : (bytes : List ℕ) (before : ℕ) (states corners : List ℕ) (o : sets.SetOutcome) → sets.ReadsSet bytes before states corners o
-      → (line : ℕ) → Fault set.states set.triangles bytes line → o ≡ sets.notRead (Line (before + line)) states corners
+      → (line : ℕ) → Fault set bytes line → o ≡ sets.notRead (Line (before + line)) states corners
   pub reading-set : (bytes : List ℕ) (before : ℕ) (states corners : List ℕ) (o : sets.SetOutcome) → sets.ReadsSet bytes before states corners o
-      → (ss : List ℕ) (ts : List Three) → TextOf set.states set.triangles bytes ss ts
+      → (ss : List ℕ) (ts : List Three) → TextOf set bytes (both ss ts)
       → Answered (shortBuffer (length states ∷ length corners ∷ []) (length ss ∷ length (flat ts) ∷ []) ∷ []) (λ a. sets.notRead a states corners) (λ p. p .answer) o
   -- a file of facets by its size alone: 16 and 2
   pub sizing : (long count : ℕ) → Answered (sizeChecks long count) (λ a. a) (λ a. a) (sizeRefusal long count)
@@ -191,31 +200,32 @@ pub record AnswersDemand : Type 0 where
       (λ a. intake.notRead a words corners) (λ p. p .answer) (readsFile file words corners)
   -- a sheet's text that is patched: "Checks run in the order 10, 1 to 9"
   pub listing-wrong : (bytes : List ℕ) (b : patcher.Buffers) (o : patcher.Outcome) → Lists bytes b o
-      → (line : ℕ) → Fault points triangles bytes line → o ≡ patcher.refused (Line line) b
+      → (line : ℕ) → Fault sheet bytes line → o ≡ patcher.refused (Line line) b
   pub listing : (bytes : List ℕ) (b : patcher.Buffers) (o : patcher.Outcome) → Lists bytes b o
-      → (ps ts : List Three) → TextOf points triangles bytes ps ts
-      → Answered (table (flat ps) (flat ts) (patcher.lent b) (patcher.needs (flat ps) (flat ts))) (λ a. patcher.refused a b) (λ p. p .answer) o
+      → (s : Sheet) → TextOf sheet bytes s
+      → Answered (table (pitchSaid s) (wordsSaid s) (cornersSaid s) (patcher.lent b) (patcher.needs (wordsSaid s) (cornersSaid s))) (λ a. patcher.refused a b) (λ p. p .answer) o
   -- a sheet's text and a set's text that are judged: a wrong line of the sheet; a wrong line of the set, which "is counted on after the
-  -- sheet's last", two counts standing there besides the points and triangles, "and comes before 4"; then 4 to 9, as no buffer is lent
-  pub hearing-wrong : (sheet patches : List ℕ) (a : Answer) → Hears sheet patches a → (line : ℕ) → Fault points triangles sheet line → a ≡ Line line
-  pub hearing-set-wrong : (sheet patches : List ℕ) (a : Answer) → Hears sheet patches a
-      → (ps ts : List Three) → TextOf points triangles sheet ps ts → (line : ℕ) → Fault set.states set.triangles patches line
-      → Answered (lineAndSheet (length ps + length ts + 2 + line) (flat ps) (flat ts)) (λ r. r) (λ r. r) a
-  pub hearing : (sheet patches : List ℕ) (a : Answer) → Hears sheet patches a → (ps ts : List Three) → TextOf points triangles sheet ps ts
-      → (ss : List ℕ) (us : List Three) → TextOf set.states set.triangles patches ss us
-      → Answered (sheetChecks (flat ps) (flat ts) ++ (stateCount (flat ts) ss ∷ [])) (λ r. r) (λ r. r) a
+  -- sheet's last", two counts standing there besides the points and triangles, and a pitch where it is not 1, "and comes before 4"; then 4 to
+  -- 9, as no buffer is lent
+  pub hearing-wrong : (bytes patches : List ℕ) (a : Answer) → Hears bytes patches a → (line : ℕ) → Fault sheet bytes line → a ≡ Line line
+  pub hearing-set-wrong : (bytes patches : List ℕ) (a : Answer) → Hears bytes patches a
+      → (s : Sheet) → TextOf sheet bytes s → (line : ℕ) → Fault set patches line
+      → Answered (lineAndSheet (linesBefore s + line) (pitchSaid s) (wordsSaid s) (cornersSaid s)) (λ r. r) (λ r. r) a
+  pub hearing : (bytes patches : List ℕ) (a : Answer) → Hears bytes patches a → (s : Sheet) → TextOf sheet bytes s
+      → (ss : List ℕ) (us : List Three) → TextOf set patches (both ss us)
+      → Answered (sheetChecks (pitchSaid s) (wordsSaid s) (cornersSaid s) ++ (stateCount (cornersSaid s) ss ∷ [])) (λ r. r) (λ r. r) a
   -- a text that is written again: 10 and 4 are printed as "an answer line", and any other text as it is
-  pub rewriting-wrong : (bytes out : List ℕ) → Rewrites bytes out → (line : ℕ) → Fault points triangles bytes line → out ≡ answerLine (Line line)
-  pub rewriting-refused : (bytes out : List ℕ) → Rewrites bytes out → (ps ts : List Three) → TextOf points triangles bytes ps ts
-      → (a : Answer) → Due (unnamedCorner (flat ps) (flat ts) ∷ []) a → out ≡ answerLine a
-  pub rewriting : (bytes out : List ℕ) → Rewrites bytes out → (ps ts : List Three) → TextOf points triangles bytes ps ts
-      → Clear (unnamedCorner (flat ps) (flat ts)) → out ≡ bytes
+  pub rewriting-wrong : (bytes out : List ℕ) → Rewrites bytes out → (line : ℕ) → Fault sheet bytes line → out ≡ answerLine (Line line)
+  pub rewriting-refused : (bytes out : List ℕ) → Rewrites bytes out → (s : Sheet) → TextOf sheet bytes s
+      → (a : Answer) → Due (unnamedCorner (wordsSaid s) (cornersSaid s) ∷ []) a → out ≡ answerLine a
+  pub rewriting : (bytes out : List ℕ) → Rewrites bytes out → (s : Sheet) → TextOf sheet bytes s
+      → Clear (unnamedCorner (wordsSaid s) (cornersSaid s)) → out ≡ bytes
   -- a file that is imported: 16, 2 and 1 are printed as an answer line, and for any other file the text of its sheet
   pub importing-refused : (file out : List ℕ) → Imports file out → (a : Answer) → Due (fileChecks file) a → out ≡ answerLine a
   pub importing : (file out : List ℕ) → Imports file out → Clear (wrongSize (length file) (facets file)) → Clear (manyFacets (facets file)) → Clear (manyPoints file)
-      → TextOf points triangles out (pointsIn file) (threes (cornersIn file))
+      → TextOf sheet out (sheetOf 1 (pointsIn file) (threes (cornersIn file)))
   -- the same printed into a lent buffer
   pub listing-printed : (bytes : List ℕ) → PrintsAnswered (Prints bytes)
-  pub hearing-printed : (sheet patches : List ℕ) → PrintsAnswered (HearsLine sheet patches)
+  pub hearing-printed : (bytes patches : List ℕ) → PrintsAnswered (HearsLine bytes patches)
   pub rewriting-printed : (bytes : List ℕ) → PrintsAnswered (Rewrites bytes)
   pub importing-printed : (file : List ℕ) → PrintsAnswered (Imports file)

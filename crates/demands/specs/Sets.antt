@@ -63,14 +63,14 @@ pub record Closes (grid : List ℤ) (corners states set : List ℕ) : Type 0 whe
 -- ---- the checker
 
 -- what holds of every outcome o of the checker
-pub record CheckerDemand (words corners states set : List ℕ) (b : survey.Buffers) (o : survey.Outcome) : Type 0 where
+pub record CheckerDemand (pitch : ℕ) (words corners states set : List ℕ) (b : survey.Buffers) (o : survey.Outcome) : Type 0 where
   -- It passes a set only when the condition holds,
-  pub passed-only : o .answer ≡ Done → Passable (gridOf words) corners states set
+  pub passed-only : o .answer ≡ Done → Passable (gridOf pitch words) corners states set
   -- and then always, where it does not refuse the surface or the buffers.
-  pub passed-always : refusing (refusal words corners (survey.lent b) (survey.needs words corners)) ≡ false
-      → Passable (gridOf words) corners states set → o .answer ≡ Done
+  pub passed-always : refusing (refusal pitch words corners (survey.lent b) (survey.needs words corners)) ≡ false
+      → Passable (gridOf pitch words) corners states set → o .answer ≡ Done
   -- After a passed set, anybody's:
-  pub closes : o .answer ≡ Done → Closes (gridOf words) corners states set
+  pub closes : o .answer ≡ Done → Closes (gridOf pitch words) corners states set
 
 -- ---- the patcher
 
@@ -82,11 +82,11 @@ abbrev pub setLeft : patcher.Outcome → List ℕ
 setLeft o = take (o .corners) (o .left .patches)
 
 -- what holds of every outcome o of the patcher that is no refusal
-pub record PatcherDemand (words corners : List ℕ) (o : patcher.Outcome) : Type 0 where
+pub record PatcherDemand (pitch : ℕ) (words corners : List ℕ) (o : patcher.Outcome) : Type 0 where
   -- The patch corners are no more than 9 a triangle.
   pub fits : o .corners ≤ 3 * length corners
   -- "Our own patcher's sets pass", whatever buffers the checker is lent, if they are long enough.
   pub passes : (b : survey.Buffers) (p : survey.Outcome) → bufferRefusal (survey.lent b) (survey.needs words corners) ≡ Done
-      → Judges words corners (statesLeft o) (setLeft o) b p → p .answer ≡ Done
+      → Judges pitch words corners (statesLeft o) (setLeft o) b p → p .answer ≡ Done
   -- After the course:
-  pub closes : Closes (gridOf words) corners (statesLeft o) (setLeft o)
+  pub closes : Closes (gridOf pitch words) corners (statesLeft o) (setLeft o)

@@ -6,4 +6,3 @@ pub mod Units
 pub mod Rests
 pub mod Only
 pub mod Coordinates
-pub mod Ends

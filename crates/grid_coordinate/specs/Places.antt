@@ -45,8 +45,8 @@ Places pitch x NotFinite = T (not (finite x))
 Places pitch x (TooFar y) = T (finite x) × (greatest < natAbs (whole pitch (units x))) × (y ≡ x)
 
 -- x is none that the grid takes: not finite, or too far
-unfoldable pub isOff : Float → Bool
-isOff x = not (finite x) || ltb greatest (natAbs (whole 1 (units x)))
+unfoldable pub isOff : ℕ → Float → Bool
+isOff pitch x = not (finite x) || ltb greatest (natAbs (whole pitch (units x)))
 
 -- what the answer for the word of index i means for its sheet: refusal 7 or 8 there, or none
 abbrev pub answerOf : ℕ → Coordinate → Answer

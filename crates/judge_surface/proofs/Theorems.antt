@@ -18,20 +18,21 @@ use Rattle.judge_rules.proofs.Theorems.{verdict-once}
 use Rattle.judge_surface.specs.Outcome.{judged, JudgesCounted, JudgesIf, Judges}
 use Rattle.judge_surface.proofs.Laws.Apart.{rings-apart}
 
-pub judges-once : (words corners states set : List ℕ) (b : Buffers) (o p : Outcome) → Judges words corners states set b o → Judges words corners states set b p → o ≡ p
-judges-once words corners states set b o p = go (refusing a) refl
+pub judges-once : (pitch : ℕ) (words corners states set : List ℕ) (b : Buffers) (o p : Outcome) → Judges pitch words corners states set b o → Judges pitch words corners states set b p → o ≡ p
+judges-once pitch words corners states set b o p = go (refusing a) refl
   where
     a : Answer
-    a = refusal words corners (lent b) (needs words corners)
+    a = refusal pitch words corners (lent b) (needs words corners)
 
-    counted : (t : Bool) → refusing a ≡ false → JudgesCounted t words corners states set b o → JudgesCounted t words corners states set b p → o ≡ p
+    counted : (t : Bool) → refusing a ≡ false → JudgesCounted t pitch words corners states set b o → JudgesCounted t pitch words corners states set b p → o ≡ p
     counted false e x y = x ∙ sym y
     counted true e x y =
         x .2
-        ∙ ap (λ (v : Answer). judged v words corners b)
-        (verdict-once (gridOf words) corners [] 0 0 (rimList (gridOf words) corners) (ringList corners) states set (x .0) (y .0) (rings-apart corners (passed-sound words corners (lent b) (needs words corners) (passed words corners (lent b) (needs words corners) e))) (x .1) (y .1))
+        ∙ ap (λ (v : Answer). judged v pitch words corners b)
+        (verdict-once (gridOf pitch words) corners [] 0 0 (rimList (gridOf pitch words) corners) (ringList corners) states set (x .0) (y .0)
+        (rings-apart corners (passed-sound pitch words corners (lent b) (needs words corners) (passed pitch words corners (lent b) (needs words corners) e))) (x .1) (y .1))
         ∙ sym (y .2)
 
-    go : (t : Bool) → refusing a ≡ t → JudgesIf t a words corners states set b o → JudgesIf t a words corners states set b p → o ≡ p
+    go : (t : Bool) → refusing a ≡ t → JudgesIf t a pitch words corners states set b o → JudgesIf t a pitch words corners states set b p → o ≡ p
     go true e x y = x ∙ sym y
     go false e x y = counted (eqb (length (loops corners)) (length states)) e x y

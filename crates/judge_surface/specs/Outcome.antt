@@ -22,24 +22,25 @@ abbrev pub outcome : Judged → Buffers → Outcome
 outcome r b = record { answer = r .answer; loops = r .loops; vertices = r .vertices; left = b }
 
 -- "The checker is lent buffers 1 to 3 and leaves the same there, whatever its verdict": what a survey leaves, with the verdict a
-abbrev pub judged : Answer → List ℕ → List ℕ → Buffers → Outcome
-judged a words corners b =
-    let o = done words corners b in
+abbrev pub judged : Answer → ℕ → List ℕ → List ℕ → Buffers → Outcome
+judged a pitch words corners b =
+    let o = done pitch words corners b in
     record { answer = a; loops = o .loops; vertices = o .vertices; left = o .left }
 
 -- 9: "state count differs from loop count", and its place is the "loop count"
-abbrev pub JudgesCounted : Bool → List ℕ → List ℕ → List ℕ → List ℕ → Buffers → Outcome → Type 0
-JudgesCounted false words corners states set b o = o ≡ refused (States (length (loops corners))) b
-JudgesCounted true words corners states set b o =
-    (a : Answer) × Verdict (gridOf words) corners [] 0 0 (rimList (gridOf words) corners) (ringList corners) states set a × (o ≡ judged a words corners b)
+abbrev pub JudgesCounted : Bool → ℕ → List ℕ → List ℕ → List ℕ → List ℕ → Buffers → Outcome → Type 0
+JudgesCounted false pitch words corners states set b o = o ≡ refused (States (length (loops corners))) b
+JudgesCounted true pitch words corners states set b o =
+    (a : Answer) × Verdict (gridOf pitch words) corners [] 0 0 (rimList (gridOf pitch words) corners) (ringList corners) states set a
+    × (o ≡ judged a pitch words corners b)
 
--- 1 to 8 come first
-abbrev pub JudgesIf : Bool → Answer → List ℕ → List ℕ → List ℕ → List ℕ → Buffers → Outcome → Type 0
-JudgesIf true a words corners states set b o = o ≡ refused a b
-JudgesIf false a words corners states set b o =
-    JudgesCounted (eqb (length (loops corners)) (length states)) words corners states set b o
+-- 17 and 1 to 8 come first
+abbrev pub JudgesIf : Bool → Answer → ℕ → List ℕ → List ℕ → List ℕ → List ℕ → Buffers → Outcome → Type 0
+JudgesIf true a pitch words corners states set b o = o ≡ refused a b
+JudgesIf false a pitch words corners states set b o =
+    JudgesCounted (eqb (length (loops corners)) (length states)) pitch words corners states set b o
 
-abbrev pub Judges : List ℕ → List ℕ → List ℕ → List ℕ → Buffers → Outcome → Type 0
-Judges words corners states set b o =
-    let a = refusal words corners (lent b) (needs words corners) in
-    JudgesIf (refusing a) a words corners states set b o
+abbrev pub Judges : ℕ → List ℕ → List ℕ → List ℕ → List ℕ → Buffers → Outcome → Type 0
+Judges pitch words corners states set b o =
+    let a = refusal pitch words corners (lent b) (needs words corners) in
+    JudgesIf (refusing a) a pitch words corners states set b o

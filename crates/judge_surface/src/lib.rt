@@ -1,16 +1,17 @@
 // Judges a patch set of a surface whose counts fit, with lent scratch: the other checks, the grid, the loops, the rims, and the
 // verdict on the set.
-ghost use mathlib.Core.List.{List};
 ghost use Prim.Native.Nat.{ℕ};
 ghost use Rattle.base_types.specs.Lent.{was, left};
+ghost use Rattle.base_types.specs.Pitches.{pitchOf};
 ghost use Rattle.survey_rules.specs.Outcome.{Buffers, buffers};
 ghost use Rattle.judge_surface.specs.Outcome.{outcome, Judges};
 ghost use Rattle.judge_surface.specs.Workings.Listing.{ListingRoom};
 ghost use Rattle.judge_surface.specs.Workings.Finding.{Ready, Finds};
 use base_answers::Answer;
+use base_types::Pitch;
 use judge_answer::Judged;
 
-// Refusals 3 to 9, or what the verdict is taken on: the grid, the loops and the rims. The loops are listed apart from the lent buffers
+// Refusals 3 to 9 at that pitch, or what the verdict is taken on: the grid, the loops and the rims. The loops are listed apart from the lent buffers
 // first, in room that is long enough. The verdict is another function's, which the caller calls: what this one needs on the stack is gone
 // when that begins.
 pub fn find_with(
@@ -26,15 +27,16 @@ pub fn find_with(
     grid: &mut [i32],
     rings: &mut [u16],
     lengths: &mut [u16],
+    pitch: Pitch,
 ) -> Judged
     requires { ⌜ ListingRoom (now words) (now corners) (now turns) (now path) (now places) (now found) (now sizes) (now marks) ⌝ }
-    ensures { λ r. ⌜ ((set : List ℕ) → Finds (was words) (was corners) (was states) set (buffers (was grid) (was rings) (was lengths)) r
-        (buffers (left grid) (left rings) (left lengths)) (left marks) (left turns) (left path)) ⌝ }
+    ensures { λ r. ⌜ Finds (pitchOf pitch) (was words) (was corners) (was states) (buffers (was grid) (was rings) (was lengths)) r
+        (buffers (left grid) (left rings) (left lengths)) (left marks) (left turns) (left path) ⌝ }
 {
     let n = corners.len();
     let lent = [grid.len(), rings.len(), lengths.len()];
     let needs = [words.len(), n, n / 3];
-    let checked = check_surface::check(words, corners, &lent, &needs, turns);
+    let checked = check_surface::check(words, corners, &lent, &needs, turns, pitch);
     if checked.refuses() {
         return judge_answer::refused(checked);
     }
@@ -45,7 +47,7 @@ pub fn find_with(
     }
     let loops = listed.loops;
     let vertices = listed.vertices;
-    survey_grid::lay_grid(words, grid);
+    survey_grid::lay_grid(words, grid, pitch);
     judge_answer::lay_front(found, vertices, rings);
     judge_answer::lay_front(sizes, loops, lengths);
     rim_mark::mark(
@@ -79,11 +81,11 @@ pub fn judge_found(
     lengths: &[u16],
     listed: Judged,
 ) -> Judged
-    requires { ⌜ ((b : Buffers) × Ready (now words) (now corners) (now states) (now set) b listed
+    requires { ⌜ ((pitch : ℕ) × (b : Buffers) × Ready pitch (now words) (now corners) (now states) b listed
         (buffers (now grid) (now rings) (now lengths)) (now marks) (now turns) (now path)) ⌝ }
-    ensures { λ r. ⌜ ((b : Buffers) → Ready (was words) (was corners) (was states) (was set) b listed
+    ensures { λ r. ⌜ ((pitch : ℕ) (b : Buffers) → Ready pitch (was words) (was corners) (was states) b listed
         (buffers (was grid) (was rings) (was lengths)) (was marks) (was turns) (was path)
-        → Judges (was words) (was corners) (was states) (was set) b (outcome r (buffers (was grid) (was rings) (was lengths)))) ⌝ }
+        → Judges pitch (was words) (was corners) (was states) (was set) b (outcome r (buffers (was grid) (was rings) (was lengths)))) ⌝ }
 {
     let answer = judge_all::verdict(
         &grid[..words.len()],

@@ -6,7 +6,7 @@ use base_types::PatchSet;
 use base_types::Surface;
 use libc::STDIN_FILENO;
 use libc::STDOUT_FILENO;
-use text_rules::Scan;
+use text_read::Intake;
 
 // A byte more than the longest text of a set has, so that a longer one is seen to be longer; a sheet's text is shorter.
 const ROOM: usize = PatchSet::TEXT + 1;
@@ -17,7 +17,7 @@ fn main() {
     let mut words = [0u32; Surface::WORDS];
     let mut corners = [0u16; Surface::CORNERS];
     let n = io::read_full(STDIN_FILENO, &mut room);
-    let sheet: Scan = text_read::take_in(&room[..n], &mut words, &mut corners);
+    let sheet: Intake = text_read::take_in(&room[..n], &mut words, &mut corners);
     let m = read_patches(&mut room);
     let answer: Answer = program_judge::hear(sheet, &words, &corners, &room, m);
     let bytes = program_lines::put_answer(&mut room, answer);

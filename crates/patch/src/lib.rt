@@ -3,15 +3,19 @@ ghost use mathlib.Core.Path.{_≡_};
 ghost use Prim.Native.Nat.{_/_, _≤_};
 ghost use lib.ListN.{length};
 ghost use Rattle.base_types.specs.Lent.{was, left};
+ghost use Rattle.base_types.specs.Pitches.{pitchOf};
 ghost use Rattle.base_answers.specs.declared.Answer.the-variants.{Done};
 ghost use Rattle.surface_rules.specs.Refusals.{countRefusal};
 ghost use Rattle.fill_scratch.specs.Workings.Scratch.{few};
 ghost use Rattle.patch_surface.specs.Outcome.{outcome, buffers, Patches};
+use base_answers::Answer;
+use base_types::Named;
+use base_types::Pitch;
 use base_types::Surface;
 use fill_scratch::FEW;
 use patch_surface::Patched;
 
-// Finds the loops of the surface with these words and corners and patches them: leaves the grid, the ring vertices and lengths, the
+// Finds the loops of the surface with these words and corners and patches them, on the grid of that pitch: leaves the grid, the ring vertices and lengths, the
 // states and weights, and the patch corners; or refuses and leaves everything as it was.
 pub fn patch(
     words: &[u32],
@@ -22,8 +26,40 @@ pub fn patch(
     states: &mut [u16],
     weights: &mut [u64],
     patches: &mut [u16],
+    pitch: u32,
 ) -> Patched
-    ensures { λ r. ⌜ Patches (was words) (was corners) (buffers (was grid) (was rings) (was lengths) (was states) (was weights) (was patches))
+    ensures { λ r. ⌜ Patches pitch (was words) (was corners) (buffers (was grid) (was rings) (was lengths) (was states) (was weights) (was patches))
+        (outcome r (buffers (left grid) (left rings) (left lengths) (left states) (left weights) (left patches))) ⌝ }
+{
+    match Pitch::of(pitch) {
+        Named::Nothing => patch_surface::refused(Answer::NoPitch),
+        Named::Is(step) => patch_at(
+            words,
+            corners,
+            grid,
+            rings,
+            lengths,
+            states,
+            weights,
+            patches,
+            step,
+        ),
+    }
+}
+
+// The same at one of the four pitches.
+fn patch_at(
+    words: &[u32],
+    corners: &[u16],
+    grid: &mut [i32],
+    rings: &mut [u16],
+    lengths: &mut [u16],
+    states: &mut [u16],
+    weights: &mut [u64],
+    patches: &mut [u16],
+    pitch: Pitch,
+) -> Patched
+    ensures { λ r. ⌜ Patches (pitchOf pitch) (was words) (was corners) (buffers (was grid) (was rings) (was lengths) (was states) (was weights) (was patches))
         (outcome r (buffers (left grid) (left rings) (left lengths) (left states) (left weights) (left patches))) ⌝ }
 {
     let counted = check_shape::check_counts(words.len(), corners.len());
@@ -42,6 +78,7 @@ pub fn patch(
                 states,
                 weights,
                 patches,
+                pitch,
             );
         }
     }
@@ -54,6 +91,7 @@ pub fn patch(
         states,
         weights,
         patches,
+        pitch,
     )
 }
 
@@ -67,9 +105,10 @@ fn patch_few(
     states: &mut [u16],
     weights: &mut [u64],
     patches: &mut [u16],
+    pitch: Pitch,
 ) -> Patched
     requires { ⌜ (countRefusal (length (now words)) (length (now corners)) ≡ Done) × (length (now words) / 3 ≤ few) × (length (now corners) ≤ few) ⌝ }
-    ensures { λ r. ⌜ Patches (was words) (was corners) (buffers (was grid) (was rings) (was lengths) (was states) (was weights) (was patches))
+    ensures { λ r. ⌜ Patches (pitchOf pitch) (was words) (was corners) (buffers (was grid) (was rings) (was lengths) (was states) (was weights) (was patches))
         (outcome r (buffers (left grid) (left rings) (left lengths) (left states) (left weights) (left patches))) ⌝ }
 {
     let mut turns = [0u16; 2 * FEW];
@@ -87,6 +126,7 @@ fn patch_few(
         states,
         weights,
         patches,
+        pitch,
     );
     let answer = found.answer;
     if answer.refuses() {
@@ -117,9 +157,10 @@ fn patch_many(
     states: &mut [u16],
     weights: &mut [u64],
     patches: &mut [u16],
+    pitch: Pitch,
 ) -> Patched
     requires { ⌜ countRefusal (length (now words)) (length (now corners)) ≡ Done ⌝ }
-    ensures { λ r. ⌜ Patches (was words) (was corners) (buffers (was grid) (was rings) (was lengths) (was states) (was weights) (was patches))
+    ensures { λ r. ⌜ Patches (pitchOf pitch) (was words) (was corners) (buffers (was grid) (was rings) (was lengths) (was states) (was weights) (was patches))
         (outcome r (buffers (left grid) (left rings) (left lengths) (left states) (left weights) (left patches))) ⌝ }
 {
     let mut turns = [0u16; 2 * Surface::CORNERS];
@@ -137,6 +178,7 @@ fn patch_many(
         states,
         weights,
         patches,
+        pitch,
     );
     let answer = found.answer;
     if answer.refuses() {

@@ -13,12 +13,12 @@ use Rattle.fill_fates.specs.Course.{ringList}
 use Rattle.fill_fates.proofs.Theorems.{course-once}
 use Rattle.patch_surface.specs.Outcome.{Buffers, Outcome, done, lent, needs, PatchesIf, Patches}
 
-pub patches-once : (words corners : List ℕ) (b : Buffers) (o p : Outcome) → Patches words corners b o → Patches words corners b p → o ≡ p
-patches-once words corners b o p = go (refusing a) a
+pub patches-once : (pitch : ℕ) (words corners : List ℕ) (b : Buffers) (o p : Outcome) → Patches pitch words corners b o → Patches pitch words corners b p → o ≡ p
+patches-once pitch words corners b o p = go (refusing a) a
   where
     a : Answer
-    a = refusal words corners (lent b) (needs words corners)
+    a = refusal pitch words corners (lent b) (needs words corners)
 
-    go : (t : Bool) (a : Answer) → PatchesIf t a words corners b o → PatchesIf t a words corners b p → o ≡ p
+    go : (t : Bool) (a : Answer) → PatchesIf t a pitch words corners b o → PatchesIf t a pitch words corners b p → o ≡ p
     go true a x y = x ∙ sym y
-    go false a x y = x .2 ∙ ap (λ (fs : List Fate). done words corners fs b) (course-once (gridOf words) corners [] (rimList (gridOf words) corners) (ringList corners) (x .0) (y .0) (x .1) (y .1)) ∙ sym (y .2)
+    go false a x y = x .2 ∙ ap (λ (fs : List Fate). done pitch words corners fs b) (course-once (gridOf pitch words) corners [] (rimList (gridOf pitch words) corners) (ringList corners) (x .0) (y .0) (x .1) (y .1)) ∙ sym (y .2)

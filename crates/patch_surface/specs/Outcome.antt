@@ -54,18 +54,18 @@ abbrev pub refused : Answer → Buffers → Outcome
 refused a b = record { answer = a; loops = 0; vertices = 0; corners = 0; left = b }
 
 -- "Each is written from its start, grid wholly, the rest as far as used; everything after that stays."
-abbrev pub done : List ℕ → List ℕ → List Fate → Buffers → Outcome
-done words corners fates b = record {
+abbrev pub done : ℕ → List ℕ → List ℕ → List Fate → Buffers → Outcome
+done pitch words corners fates b = record {
   answer = Done;
   loops = length (loops corners);
   vertices = length (ringsOf corners (loops corners));
   corners = length (laidBy (ringList corners) fates);
   left = record {
-    grid = over (gridOf words) (b .grid);
+    grid = over (gridOf pitch words) (b .grid);
     rings = over (ringsOf corners (loops corners)) (b .rings);
     lengths = over (map length (loops corners)) (b .lengths);
     states = over (statesOf fates) (b .states);
-    weights = over (weightsOf (gridOf words) (ringList corners) fates) (b .weights);
+    weights = over (weightsOf (gridOf pitch words) (ringList corners) fates) (b .weights);
     patches = over (laidBy (ringList corners) fates) (b .patches);
   };
 }
@@ -80,12 +80,13 @@ lent b =
     length (b .grid) ∷ length (b .rings) ∷ length (b .lengths) ∷ length (b .states) ∷ length (b .weights) ∷ length (b .patches) ∷ []
 
 -- refused; or done, with the fates that the course gives the loops
-abbrev pub PatchesIf : Bool → Answer → List ℕ → List ℕ → Buffers → Outcome → Type 0
-PatchesIf true a words corners b o = o ≡ refused a b
-PatchesIf false a words corners b o =
-    (fates : List Fate) × Course (gridOf words) corners [] (rimList (gridOf words) corners) (ringList corners) fates × (o ≡ done words corners fates b)
+abbrev pub PatchesIf : Bool → Answer → ℕ → List ℕ → List ℕ → Buffers → Outcome → Type 0
+PatchesIf true a pitch words corners b o = o ≡ refused a b
+PatchesIf false a pitch words corners b o =
+    (fates : List Fate) × Course (gridOf pitch words) corners [] (rimList (gridOf pitch words) corners) (ringList corners) fates
+    × (o ≡ done pitch words corners fates b)
 
-abbrev pub Patches : List ℕ → List ℕ → Buffers → Outcome → Type 0
-Patches words corners b o =
-    let a = refusal words corners (lent b) (needs words corners) in
-    PatchesIf (refusing a) a words corners b o
+abbrev pub Patches : ℕ → List ℕ → List ℕ → Buffers → Outcome → Type 0
+Patches pitch words corners b o =
+    let a = refusal pitch words corners (lent b) (needs words corners) in
+    PatchesIf (refusing a) a pitch words corners b o

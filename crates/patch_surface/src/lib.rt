@@ -2,10 +2,12 @@
 // loop. These are two functions, so that what the first needs on the stack is gone when the second begins.
 ghost use mathlib.Core.Path.{_≡_};
 ghost use Rattle.base_types.specs.Lent.{was, left};
+ghost use Rattle.base_types.specs.Pitches.{pitchOf};
 ghost use Rattle.fill_scratch.specs.Workings.Scratch.{Scratch};
 ghost use Rattle.patch_surface.specs.Outcome.{outcome, buffers};
 ghost use Rattle.patch_surface.specs.Workings.Finding.{Finds, Readied, Finishes};
 use base_answers::Answer;
+use base_types::Pitch;
 
 // What the patcher answers: done or a refusal, how many loops there are, how many vertices their rings have, and how many corners
 // were laid.
@@ -16,7 +18,7 @@ pub struct Patched {
     pub corners: usize,
 }
 
-// Refusals 3 to 8, and what comes before the course: the grid, the loops, and the rims marked among the states; with a table of turns, a
+// Refusals 3 to 8 at that pitch, and what comes before the course: the grid, the loops, and the rims marked among the states; with a table of turns, a
 // path and places that are long enough.
 pub fn find_with(
     words: &[u32],
@@ -30,9 +32,10 @@ pub fn find_with(
     states: &mut [u16],
     weights: &mut [u64],
     patches: &mut [u16],
+    pitch: Pitch,
 ) -> Patched
     requires { ⌜ Scratch (now words) (now corners) (now turns) (now path) (now places) ⌝ }
-    ensures { λ r. ⌜ Finds (was words) (was corners) (buffers (was grid) (was rings) (was lengths) (was states) (was weights) (was patches))
+    ensures { λ r. ⌜ Finds (pitchOf pitch) (was words) (was corners) (buffers (was grid) (was rings) (was lengths) (was states) (was weights) (was patches))
         r (buffers (left grid) (left rings) (left lengths) (left states) (left weights) (left patches)) (left turns) (left path) ⌝ }
 {
     let n = corners.len();
@@ -45,11 +48,11 @@ pub fn find_with(
         patches.len(),
     ];
     let needs = [words.len(), n, n / 3, n / 3, n / 3, 3 * n];
-    let checked = check_surface::check(words, corners, &lent, &needs, turns);
+    let checked = check_surface::check(words, corners, &lent, &needs, turns, pitch);
     if checked.refuses() {
         return refused(checked);
     }
-    survey_grid::lay_grid(words, grid);
+    survey_grid::lay_grid(words, grid, pitch);
     // the first half-edges stand among the states until the rims are marked there
     let listed = loop_find::list_with(corners, turns, path, places, rings, lengths, states);
     rim_mark::mark(

@@ -11,14 +11,15 @@ use Rattle.surface_rules.specs.Buffers.{over}
 use Rattle.surface_rules.specs.Threes.{threes}
 use Rattle.text_rules.specs.Text.{TextOf}
 use Rattle.text_rules.specs.Room.{ReadInto}
-use Rattle.text_sheet.specs.Sheet.{points, triangles}
+use Rattle.text_sheet.specs.Sheet.{sheet, sheetOf}
 use Rattle.stl_facets.specs.Facets.{front, facetBytes, facets}
 use Rattle.stl_rules.specs.Reading.{pointsIn, cornersIn, fileRefusal}
 use Rattle.program_lines.specs.Lines.{answerLine}
 
--- "The outcome is a surface as if it had come by sheet text": that text is printed; a file that is refused is answered with the line.
+-- "The outcome is a surface as if it had come by sheet text": that text is printed, without a line of a pitch; a file that is refused is
+-- answered with the line.
 pub record Imports (file out : List ℕ) : Type 0 where
-  pub of-sheet : fileRefusal file ≡ Done → TextOf points triangles out (pointsIn file) (threes (cornersIn file))
+  pub of-sheet : fileRefusal file ≡ Done → TextOf sheet out (sheetOf 1 (pointsIn file) (threes (cornersIn file)))
   pub of-refusal : refusing (fileRefusal file) ≡ true → out ≡ answerLine (fileRefusal file)
 
 -- how long a file's count says that it is

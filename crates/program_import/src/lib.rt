@@ -58,6 +58,6 @@ fn put(words: &[u32], corners: &[u16], room: &mut [u8], answer: Answer) -> usize
     if answer.refuses() {
         return program_lines::put_answer(room, answer);
     }
-    let written = text_write::write(words, corners, room);
+    let written = text_write::write(words, corners, room, 1);
     written.bytes
 }

@@ -1,8 +1,10 @@
 // Hears a patch set: a wrong line of the sheet's text, a wrong line of the set's, or what the checker answers.
-ghost use Prim.Native.Nat.{_<_, _≤_};
+ghost use mathlib.Core.Path.{_≡_};
+ghost use Prim.Native.Nat.{_+_, _<_, _≤_};
 ghost use lib.ListN.{length};
 ghost use Rattle.base_types.specs.Lent.{was, left};
 ghost use Rattle.base_limits.specs.Limits as limits;
+ghost use Rattle.text_sheet.specs.Sheet.{head};
 ghost use Rattle.program_lines.specs.Printout.{printOutcome, PrintsOver};
 ghost use Rattle.program_judge.specs.Hears.{Answers, Hears, HearsLine};
 ghost use Rattle.program_judge.specs.Workings.Taken.{Taken, HearsTaken, HearsSet};
@@ -12,7 +14,7 @@ use base_types::Surface;
 use judge_answer::Judged;
 use program_lines::LINE;
 use program_lines::Printout;
-use text_rules::Scan;
+use text_read::Intake;
 
 // Prints the line of the answer on two texts, a sheet's and a patch set's, from the start of a buffer; or refuses a buffer that is too
 // short for some answer's line.
@@ -40,11 +42,12 @@ fn hear_texts(sheet: &[u8], set: &[u8]) -> Answer
     let mut words = [0u32; Surface::WORDS];
     let mut corners = [0u16; Surface::CORNERS];
     match text_read::take_in(sheet, &mut words, &mut corners) {
-        Scan::Wrong(at) => Answer::Line(at),
-        Scan::Whole(points, triangles) => {
+        Intake::Wrong(at) => Answer::Line(at),
+        Intake::Whole(pitch, points, triangles) => {
             let w = 3 * points;
             let c = 3 * triangles;
-            hear_set(&words[..w], &corners[..c], set)
+            let last = last_line(points, triangles, pitch);
+            hear_set(&words[..w], &corners[..c], set, last, pitch)
         }
     }
 }
@@ -52,42 +55,59 @@ fn hear_texts(sheet: &[u8], set: &[u8]) -> Answer
 // The answer on a sheet that was taken in, and on the text of a set: a program's input, or as much of it as its room holds, the first m bytes.
 // The room is longer than the longest text, so that a longer one is seen to be longer. The sheet's corners may name no point: a wrong line
 // of the set comes first.
-pub fn hear(sheet: Scan, words: &[u32], corners: &[u16], room: &[u8], m: usize) -> Answer
+pub fn hear(sheet: Intake, words: &[u32], corners: &[u16], room: &[u8], m: usize) -> Answer
     requires { ⌜ Taken sheet (now words) (now corners) ⌝ }
     requires { ⌜ (limits.set-text < length (now room)) × (m ≤ length (now room)) ⌝ }
     ensures { λ r. ⌜ HearsTaken sheet (was words) (was corners) (was room) m r ⌝ }
 {
     match sheet {
-        Scan::Wrong(line) => Answer::Line(line),
-        Scan::Whole(points, triangles) => {
+        Intake::Wrong(line) => Answer::Line(line),
+        Intake::Whole(pitch, points, triangles) => {
             let w = 3 * points;
             let c = 3 * triangles;
-            hear_set(&words[..w], &corners[..c], &room[..m])
+            let last = last_line(points, triangles, pitch);
+            hear_set(&words[..w], &corners[..c], &room[..m], last, pitch)
         }
     }
 }
 
-// The answer on a sheet's words and corners. The lines of the set are counted on after the sheet's last.
-fn hear_set(words: &[u32], corners: &[u16], text: &[u8]) -> Answer
+// How many lines the text of a sheet has: one for each point and triangle, two of counts, and one of a pitch other than 1.
+fn last_line(points: usize, triangles: usize, pitch: u32) -> u16
+    requires { ⌜ (points ≤ limits.points) × (triangles ≤ limits.triangles) ⌝ }
+    ensures { λ r. ⌜ r ≡ length (head pitch) + (points + triangles + 2) ⌝ }
+{
+    let lines = (points + triangles + 2) as u16;
+    if pitch == 1 {
+        return lines;
+    }
+    1 + lines
+}
+
+// The answer on a sheet's words and corners at its pitch. The lines of the set are counted on after the sheet's last.
+fn hear_set(words: &[u32], corners: &[u16], text: &[u8], last: u16, pitch: u32) -> Answer
     requires { ⌜ (length (now words) ≤ limits.words) × (length (now corners) ≤ limits.corners) ⌝ }
-    ensures { λ r. ⌜ HearsSet (was words) (was corners) (was text) r ⌝ }
+    ensures { λ r. ⌜ HearsSet pitch (was words) (was corners) (was text) last r ⌝ }
 {
     let mut states = [0u16; PatchSet::STATES];
     let mut set = [0u16; PatchSet::CORNERS];
-    let surface = Surface::of(words.len(), corners.len());
-    let lines = (surface.points + surface.triangles + 2) as u16;
-    let read = text_read_set::read_set(text, lines, &mut states, &mut set);
+    let read = text_read_set::read_set(text, last, &mut states, &mut set);
     let answer = read.answer;
     if answer.refuses() {
         return answer;
     }
-    judge(words, corners, &states[..read.states], &set[..read.corners])
+    judge(
+        words,
+        corners,
+        &states[..read.states],
+        &set[..read.corners],
+        pitch,
+    )
 }
 
 // The checker's answer, which no buffer is too short for.
-fn judge(words: &[u32], corners: &[u16], states: &[u16], set: &[u16]) -> Answer
+fn judge(words: &[u32], corners: &[u16], states: &[u16], set: &[u16], pitch: u32) -> Answer
     requires { ⌜ (length (now words) ≤ limits.words) × (length (now corners) ≤ limits.corners) ⌝ }
-    ensures { λ r. ⌜ Answers (was words) (was corners) (was states) (was set) r ⌝ }
+    ensures { λ r. ⌜ Answers pitch (was words) (was corners) (was states) (was set) r ⌝ }
 {
     let mut grid = [0i32; Surface::WORDS];
     let mut rings = [0u16; Surface::CORNERS];
@@ -100,6 +120,7 @@ fn judge(words: &[u32], corners: &[u16], states: &[u16], set: &[u16]) -> Answer
         &mut grid,
         &mut rings,
         &mut lengths,
+        pitch,
     );
     judged.answer
 }

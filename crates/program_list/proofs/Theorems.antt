@@ -10,7 +10,6 @@ use Rattle.base_answers.specs.Numbers.{refusing}
 use Rattle.base_answers.specs.declared.Answer.{Answer}
 use Rattle.base_limits.specs.Limits as limits
 use Rattle.surface_rules.specs.Refusals.{sheetRefusal}
-use Rattle.surface_rules.specs.Threes.{Three, flat}
 use Rattle.survey_grid.specs.Grid.{gridOf}
 use Rattle.rim_rules.specs.Rims.{rimList}
 use Rattle.fill_fates.specs.Fates.{Fate}
@@ -22,7 +21,7 @@ use Rattle.text_rules.specs.Text.{TextOf}
 use Rattle.text_rules.specs.Room.{ReadInto}
 use Rattle.text_rules.proofs.Theorems.{Known}
 use Rattle.text_rules.proofs.Laws.Cut.{read-itself, room-text, room-fault}
-use Rattle.text_sheet.specs.Sheet.{points, triangles}
+use Rattle.text_sheet.specs.Sheet.{Sheet, sheet, pitchSaid, wordsSaid, cornersSaid}
 use Rattle.text_sheet.proofs.Laws.Texts.{text-or-fault}
 use Rattle.text_sheet.proofs.Theorems.{longest}
 use Rattle.program_lines.specs.Listing.{Shown, listing}
@@ -38,25 +37,26 @@ use Rattle.program_list.proofs.Laws.Printed.{text-refused, text-done, f
 pub lists-once : (bytes : List ℕ) (b : Buffers) (o p : Outcome) → Lists bytes b o → Lists bytes b p → o ≡ p
 lists-once bytes b o p x y = go (text-or-fault bytes)
   where
-    go : Known points triangles bytes → o ≡ p
-    go (inl t) = patches-once (flat (t .0)) (flat (t .1)) b o p (x .of-text (t .0) (t .1) (t .2)) (y .of-text (t .0) (t .1) (t .2))
+    go : Known sheet bytes → o ≡ p
+    go (inl t) = patches-once (pitchSaid (t .0)) (wordsSaid (t .0)) (cornersSaid (t .0)) b o p (x .of-text (t .0) (t .1)) (y .of-text (t .0) (t .1))
     go (inr f) = x .of-fault (f .0) (f .1) ∙ sym (y .of-fault (f .0) (f .1))
 
 -- two outputs that are allowed are equal
 pub prints-once : (bytes out out′ : List ℕ) → Prints bytes out → Prints bytes out′ → out ≡ out′
 prints-once bytes out out′ x y = go (text-or-fault bytes)
   where
-    of-text : (words corners : List ℕ) (t : Bool) (a : Answer) → PrintsIf t a words corners out → PrintsIf t a words corners out′ → out ≡ out′
-    of-text words corners true a p q = p ∙ sym q
-    of-text words corners false a p q =
+    of-text : (pitch : ℕ) (words corners : List ℕ) (t : Bool) (a : Answer) → PrintsIf t a pitch words corners out → PrintsIf t a pitch words corners out′ → out ≡ out′
+    of-text pitch words corners true a p q = p ∙ sym q
+    of-text pitch words corners false a p q =
         p .2
-        ∙ ap (λ (fs : List Fate). listing (loopsOf (gridOf words) (ringList corners) fs)) (course-once (gridOf words) corners [] (rimList (gridOf words) corners) (ringList corners) (p .0) (q .0) (p .1) (q .1))
+        ∙ ap (λ (fs : List Fate). listing (loopsOf (gridOf pitch words) (ringList corners) fs)) (course-once (gridOf pitch words) corners [] (rimList (gridOf pitch words) corners) (ringList corners) (p .0) (q .0) (p .1) (q .1))
         ∙ sym (q .2)
 
-    go : Known points triangles bytes → out ≡ out′
+    go : Known sheet bytes → out ≡ out′
     go (inl t) =
-        let a = sheetRefusal (flat (t .0)) (flat (t .1)) in
-        of-text (flat (t .0)) (flat (t .1)) (refusing a) a (x .of-text (t .0) (t .1) (t .2)) (y .of-text (t .0) (t .1) (t .2))
+        let s = t .0 in
+        let a = sheetRefusal (pitchSaid s) (wordsSaid s) (cornersSaid s) in
+        of-text (pitchSaid s) (wordsSaid s) (cornersSaid s) (refusing a) a (x .of-text s (t .1)) (y .of-text s (t .1))
     go (inr f) = x .of-fault (f .0) (f .1) ∙ sym (y .of-fault (f .0) (f .1))
 
 -- so two outcomes of printing into a buffer that are allowed are equal
@@ -67,10 +67,10 @@ prints-over-once {bytes = bytes} x y = print-once (prints-once bytes) x y
 pub lists-printed : (bytes : List ℕ) (b : Buffers) (o : Outcome) → Full b → Lists bytes b o → Printed (refusing (o .answer)) bytes o
 lists-printed bytes b o full x = go (refusing (o .answer)) refl (text-or-fault bytes)
   where
-    go : (r : Bool) → refusing (o .answer) ≡ r → Known points triangles bytes → Printed r bytes o
-    go true r (inl t) = text-refused (t .2) b full o (x .of-text (t .0) (t .1) (t .2)) r
+    go : (r : Bool) → refusing (o .answer) ≡ r → Known sheet bytes → Printed r bytes o
+    go true r (inl t) = text-refused (t .1) b full o (x .of-text (t .0) (t .1)) r
     go true r (inr f) = subst (Printed true bytes) (sym (x .of-fault (f .0) (f .1))) (fault-prints (f .1))
-    go false r (inl t) = text-done (t .2) b full o (x .of-text (t .0) (t .1) (t .2)) r
+    go false r (inl t) = text-done (t .1) b full o (x .of-text (t .0) (t .1)) r
     go false r (inr f) = absurd (true≢false (ap (λ (q : Outcome). refusing (q .answer)) (sym (x .of-fault (f .0) (f .1))) ∙ r))
 
 -- so of a listing's sections, joined
@@ -78,21 +78,21 @@ pub sections-printed : (bytes : List ℕ) (loops : List Shown) (sections : List 
 sections-printed bytes loops sections p q = subst (Prints bytes) (sym (sections-joined loops sections q)) p
 
 -- what is right for the bytes in a room that is longer than the longest text is right for the input that was read into it
-no-longer : (bytes : List ℕ) (ps ts : List Three) → TextOf points triangles bytes ps ts → length bytes ≤ limits.sheet-text
-no-longer bytes ps ts t = longest t
+no-longer : (bytes : List ℕ) (s : Sheet) → TextOf sheet bytes s → length bytes ≤ limits.sheet-text
+no-longer bytes s t = longest t
 
 pub lists-front : {room input : List ℕ} {n : ℕ} {b : Buffers} {o : Outcome} → limits.sheet-text < length room → ReadInto room n input → Lists (take n room) b o → Lists input b o
 lists-front roomy held p =
     record {
       of-fault = λ line f. p .of-fault line (room-fault no-longer roomy held f);
-      of-text = λ ps ts t. p .of-text ps ts (room-text no-longer roomy held t);
+      of-text = λ s t. p .of-text s (room-text no-longer roomy held t);
     }
 
 pub prints-front : {room input out : List ℕ} {n : ℕ} → limits.sheet-text < length room → ReadInto room n input → Prints (take n room) out → Prints input out
 prints-front roomy held p =
     record {
       of-fault = λ line f. p .of-fault line (room-fault no-longer roomy held f);
-      of-text = λ ps ts t. p .of-text ps ts (room-text no-longer roomy held t);
+      of-text = λ s t. p .of-text s (room-text no-longer roomy held t);
     }
 
 -- so what is answered and left is determined by what was read into the room

@@ -9,7 +9,6 @@ use Rattle.base_answers.specs.Numbers.{refusing}
 use Rattle.base_answers.specs.declared.Answer.{Answer}
 use Rattle.base_answers.specs.declared.Answer.the-variants.{Line}
 use Rattle.surface_rules.specs.Refusals.{sheetRefusal}
-use Rattle.surface_rules.specs.Threes.{Three, flat}
 use Rattle.survey_grid.specs.Grid.{gridOf}
 use Rattle.rim_rules.specs.Rims.{rimList}
 use Rattle.fill_fates.specs.Fates.{Fate, stateOf, weighs, lays}
@@ -18,14 +17,14 @@ use Rattle.patch_surface.specs.Outcome.{Buffers, Outcome, refused, Patches}
 use Rattle.text_rules.specs.Text.{TextOf}
 use Rattle.text_rules.specs.Fault.{Fault}
 use Rattle.text_rules.specs.Room.{ReadInto}
-use Rattle.text_sheet.specs.Sheet.{points, triangles}
+use Rattle.text_sheet.specs.Sheet.{Sheet, sheet, pitchSaid, wordsSaid, cornersSaid}
 use Rattle.program_lines.specs.Lines.{answerLine}
 use Rattle.program_lines.specs.Listing.{Shown, listing}
 
 -- a text with a fault is refused at the fault's line, and what any other says is patched
 pub record Lists (bytes : List ℕ) (b : Buffers) (o : Outcome) : Type 0 where
-  pub of-fault : (line : ℕ) → Fault points triangles bytes line → o ≡ refused (Line line) b
-  pub of-text : (ps ts : List Three) → TextOf points triangles bytes ps ts → Patches (flat ps) (flat ts) b o
+  pub of-fault : (line : ℕ) → Fault sheet bytes line → o ≡ refused (Line line) b
+  pub of-text : (s : Sheet) → TextOf sheet bytes s → Patches (pitchSaid s) (wordsSaid s) (cornersSaid s) b o
 
 -- the same of the input that n bytes of a room are of, whichever that is
 pub record ListsIn (room : List ℕ) (n : ℕ) (b : Buffers) (o : Outcome) : Type 0 where
@@ -37,14 +36,17 @@ loopsOf grid [] fates = []
 loopsOf grid (r ∷ rings) [] = []
 loopsOf grid (r ∷ rings) (f ∷ fates) = record { ring = r; state = stateOf f; weight = weighs grid r f; patch = lays r f } ∷ loopsOf grid rings fates
 
--- what is printed of a sheet with these words and corners, no buffer being too short
-abbrev pub PrintsIf : Bool → Answer → List ℕ → List ℕ → List ℕ → Type 0
-PrintsIf true a words corners out = out ≡ answerLine a
-PrintsIf false a words corners out =
-    (fates : List Fate) × Course (gridOf words) corners [] (rimList (gridOf words) corners) (ringList corners) fates × (out ≡ listing (loopsOf (gridOf words) (ringList corners) fates))
+-- what is printed of a sheet with this pitch and these words and corners, no buffer being too short
+abbrev pub PrintsIf : Bool → Answer → ℕ → List ℕ → List ℕ → List ℕ → Type 0
+PrintsIf true a pitch words corners out = out ≡ answerLine a
+PrintsIf false a pitch words corners out =
+    (fates : List Fate) × Course (gridOf pitch words) corners [] (rimList (gridOf pitch words) corners) (ringList corners) fates
+    × (out ≡ listing (loopsOf (gridOf pitch words) (ringList corners) fates))
+
+abbrev pub PrintsSheet : ℕ → List ℕ → List ℕ → List ℕ → Type 0
+PrintsSheet pitch words corners out = let a = sheetRefusal pitch words corners in PrintsIf (refusing a) a pitch words corners out
 
 -- what is printed of a text
 pub record Prints (bytes out : List ℕ) : Type 0 where
-  pub of-fault : (line : ℕ) → Fault points triangles bytes line → out ≡ answerLine (Line line)
-  pub of-text : (ps ts : List Three) → TextOf points triangles bytes ps ts
-      → PrintsIf (refusing (sheetRefusal (flat ps) (flat ts))) (sheetRefusal (flat ps) (flat ts)) (flat ps) (flat ts) out
+  pub of-fault : (line : ℕ) → Fault sheet bytes line → out ≡ answerLine (Line line)
+  pub of-text : (s : Sheet) → TextOf sheet bytes s → PrintsSheet (pitchSaid s) (wordsSaid s) (cornersSaid s) out

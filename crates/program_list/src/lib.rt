@@ -12,7 +12,7 @@ use base_types::Surface;
 use patch_surface::Patched;
 use program_lines::Printout;
 use program_roll::LISTING;
-use text_rules::Scan;
+use text_read::Intake;
 
 // Patches the sheet that a text says, and leaves what the patcher leaves; or refuses a text at its wrong line, and leaves everything as it
 // was.
@@ -31,13 +31,13 @@ pub fn list(
     let mut words = [0u32; Surface::WORDS];
     let mut corners = [0u16; Surface::CORNERS];
     match text_read::take_in(text, &mut words, &mut corners) {
-        Scan::Wrong(line) => Patched {
+        Intake::Wrong(line) => Patched {
             answer: Answer::Line(line),
             loops: 0,
             vertices: 0,
             corners: 0,
         },
-        Scan::Whole(points, triangles) => patch::patch(
+        Intake::Whole(pitch, points, triangles) => patch::patch(
             &words[..3 * points],
             &corners[..3 * triangles],
             grid,
@@ -46,6 +46,7 @@ pub fn list(
             states,
             weights,
             patches,
+            pitch,
         ),
     }
 }

@@ -11,12 +11,11 @@ use Rattle.surface_rules.specs.declared.Found.the-variants.{At, Nothing}
 use Rattle.surface_rules.specs.Buffers.{over}
 use Rattle.surface_rules.specs.Smallest.{least}
 use Rattle.surface_rules.specs.Refusals.{unnamed, refuseAt, unnamedRefusal}
-use Rattle.surface_rules.specs.Threes.{Three, flat}
 use Rattle.text_rules.specs.Text.{TextOf}
 use Rattle.text_rules.specs.Room.{ReadInto}
 use Rattle.text_rules.proofs.Theorems.{Known}
 use Rattle.text_rules.proofs.Laws.Cut.{read-itself, room-text, room-whole, room-fault}
-use Rattle.text_sheet.specs.Sheet.{points, triangles}
+use Rattle.text_sheet.specs.Sheet.{Sheet, sheet, wordsSaid, cornersSaid}
 use Rattle.text_sheet.proofs.Laws.Texts.{text-or-fault}
 use Rattle.text_sheet.proofs.Theorems.{longest}
 use Rattle.program_rewrite.specs.Rewriting.{Rewrites, RewritesIn}
@@ -25,25 +24,25 @@ use Rattle.program_rewrite.specs.Rewriting.{Rewrites, RewritesIn}
 pub rewrites-once : (bytes out out′ : List ℕ) → Rewrites bytes out → Rewrites bytes out′ → out ≡ out′
 rewrites-once bytes out out′ p q = go (text-or-fault bytes)
   where
-    of-text : (ps ts : List Three) → TextOf points triangles bytes ps ts → (f : Found) → unnamedRefusal (flat ts) (length (flat ps) / 3) ≡ refuseAt Unnamed f → out ≡ out′
-    of-text ps ts t Nothing e = p .of-sheet ps ts t e ∙ sym (q .of-sheet ps ts t e)
-    of-text ps ts t (At i) e = p .of-unnamed ps ts i t e ∙ sym (q .of-unnamed ps ts i t e)
+    of-text : (s : Sheet) → TextOf sheet bytes s → (f : Found) → unnamedRefusal (cornersSaid s) (length (wordsSaid s) / 3) ≡ refuseAt Unnamed f → out ≡ out′
+    of-text s t Nothing e = p .of-sheet s t e ∙ sym (q .of-sheet s t e)
+    of-text s t (At i) e = p .of-unnamed s i t e ∙ sym (q .of-unnamed s i t e)
 
-    go : Known points triangles bytes → out ≡ out′
-    go (inl t) = of-text (t .0) (t .1) (t .2) (least (unnamed (flat (t .1)) (length (flat (t .0)) / 3)) (length (flat (t .1)))) refl
+    go : Known sheet bytes → out ≡ out′
+    go (inl t) = let s = t .0 in of-text s (t .1) (least (unnamed (cornersSaid s) (length (wordsSaid s) / 3)) (length (cornersSaid s))) refl
     go (inr f) = p .of-fault (f .0) (f .1) ∙ sym (q .of-fault (f .0) (f .1))
 
 -- what is right for the bytes in a room that is longer than the longest text is right for the input that was read into it
 pub room-enough : {room input out : List ℕ} {n : ℕ} → limits.sheet-text < length room → ReadInto room n input → Rewrites (take n room) out → Rewrites input out
 room-enough roomy held p =
     record {
-      of-sheet = λ ps ts t u. p .of-sheet ps ts (room-text no-longer roomy held t) u ∙ room-whole no-longer roomy held t;
-      of-unnamed = λ ps ts i t u. p .of-unnamed ps ts i (room-text no-longer roomy held t) u;
+      of-sheet = λ s t u. p .of-sheet s (room-text no-longer roomy held t) u ∙ room-whole no-longer roomy held t;
+      of-unnamed = λ s i t u. p .of-unnamed s i (room-text no-longer roomy held t) u;
       of-fault = λ line f. p .of-fault line (room-fault no-longer roomy held f);
     }
   where
-    no-longer : (bytes : List ℕ) (ps ts : List Three) → TextOf points triangles bytes ps ts → length bytes ≤ limits.sheet-text
-    no-longer bytes ps ts t = longest t
+    no-longer : (bytes : List ℕ) (s : Sheet) → TextOf sheet bytes s → length bytes ≤ limits.sheet-text
+    no-longer bytes s t = longest t
 
 -- so what is answered and left in the room is determined by what was read into it
 pub rewrites-in-once : {room room′ room″ : List ℕ} {n r s : ℕ} → n ≤ length room → RewritesIn room n r room′ → RewritesIn room n s room″ → (r ≡ s) × (room′ ≡ room″)

@@ -31,7 +31,12 @@ pub fn print(text: &[u8], out: &mut [u8]) -> Printout
     let bytes = if refused.refuses() {
         program_lines::put_answer(out, refused)
     } else {
-        write(&words[..read.words], &corners[..read.corners], out)
+        write(
+            &words[..read.words],
+            &corners[..read.corners],
+            out,
+            read.pitch,
+        )
     };
     Printout {
         answer: Answer::Done,
@@ -52,18 +57,23 @@ pub fn rewrite(room: &mut [u8], n: usize) -> usize
     if answer.refuses() {
         return program_lines::put_answer(room, answer);
     }
-    write(&words[..read.words], &corners[..read.corners], room)
+    write(
+        &words[..read.words],
+        &corners[..read.corners],
+        room,
+        read.pitch,
+    )
 }
 
-// Puts the text of words and corners into the room, or the answer that refuses them.
-fn write(words: &[u32], corners: &[u16], room: &mut [u8]) -> usize
+// Puts the text of words and corners at that pitch into the room, or the answer that refuses them.
+fn write(words: &[u32], corners: &[u16], room: &mut [u8], pitch: u32) -> usize
     requires { do line ← ⟦LINE⟧; ⌜ line ≤ length (now room) ⌝ }
     ensures { λ r. ⌜
-        (left room ≡ over (printed (writes (was words) (was corners) (was room))) (was room))
-        × (r ≡ length (printed (writes (was words) (was corners) (was room))))
+        (left room ≡ over (printed (writes pitch (was words) (was corners) (was room))) (was room))
+        × (r ≡ length (printed (writes pitch (was words) (was corners) (was room))))
         ⌝ }
 {
-    let written = text_write::write(words, corners, room);
+    let written = text_write::write(words, corners, room, pitch);
     let answer = written.answer;
     if answer.refuses() {
         return program_lines::put_answer(room, answer);

@@ -13,7 +13,7 @@ use Rattle.surface_rules.specs.Buffers.{over}
 use Rattle.surface_rules.specs.Threes.{Three, three, threes, flat}
 use Rattle.surface_rules.proofs.Laws.Threes.{flat-threes}
 use Rattle.text_rules.specs.Text.{TextOf}
-use Rattle.text_sheet.specs.Sheet.{points, triangles}
+use Rattle.text_sheet.specs.Sheet.{sheetOf, sheet}
 use Rattle.text_read.specs.Outcome.{ReadOutcome, notRead, deliver, Reads}
 use Rattle.stl_facets.specs.declared.Corner.{Corner}
 use Rattle.stl_facets.specs.declared.Step.the-variants.{Given, End}
@@ -87,13 +87,14 @@ facet-of-point b k h =
 
 -- ---- "as if it had come by sheet text"
 
--- Whatever is lent, the outcome for a file that is refused neither with 16, 2 nor 1 is that of reading the text of its points and triangles.
-pub as-text : (b words corners text : List ℕ) (o : ReadOutcome) → refusing (fileRefusal b) ≡ false → TextOf points triangles text (pointsIn b) (threes (cornersIn b))
+-- Whatever is lent, the outcome for a file that is refused neither with 16, 2 nor 1 is that of reading the text of its points and
+-- triangles, the one without a line of a pitch.
+pub as-text : (b words corners text : List ℕ) (o : ReadOutcome) → refusing (fileRefusal b) ≡ false → TextOf sheet text (sheetOf 1 (pointsIn b) (threes (cornersIn b)))
     → Reads text words corners o → o ≡ readsFile b words corners
 as-text b words corners text o pass t r =
     let s = file-says b pass in
-    r .of-text (pointsIn b) (threes (cornersIn b)) t
-    ∙ ap (λ (cs : List ℕ). deliver (flat (pointsIn b)) cs words corners) (flat-threes (facets b) (cornersIn b) (files.corners-count b))
+    r .of-text (sheetOf 1 (pointsIn b) (threes (cornersIn b))) t
+    ∙ ap (λ (cs : List ℕ). deliver 1 (flat (pointsIn b)) cs words corners) (flat-threes (facets b) (cornersIn b) (files.corners-count b))
     ∙ delivers b words corners (s .0) (s .1)
 
 -- ---- what is left in the buffers
@@ -118,7 +119,7 @@ module _ (b words corners : List ℕ) (done : readsFile b words corners .answer 
   left = readsFile b words corners
 
   whole : ReadOutcome
-  whole = record { answer = Done; word-count = 3 * length (pointsIn b); corner-count = 3 * facets b; words = over (flat (pointsIn b)) words; corners = over (cornersIn b) corners }
+  whole = record { answer = Done; pitch = 1; word-count = 3 * length (pointsIn b); corner-count = 3 * facets b; words = over (flat (pointsIn b)) words; corners = over (cornersIn b) corners }
 
   left-is : left ≡ whole
   unfolding readsFile whole

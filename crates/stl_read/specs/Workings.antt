@@ -30,4 +30,4 @@ unfoldable pub handed : List ℕ → List ℕ → List ℕ → List ℕ → Read
 handed ws cs words corners =
     let a = bufferRefusal (length words ∷ length corners ∷ []) (length ws ∷ length cs ∷ []) in
     cond (refusing a) (notRead a words corners)
-    (record { answer = Done; word-count = length ws; corner-count = length cs; words = over ws words; corners = over cs corners })
+    (record { answer = Done; pitch = 1; word-count = length ws; corner-count = length cs; words = over ws words; corners = over cs corners })

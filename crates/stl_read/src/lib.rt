@@ -44,6 +44,7 @@ fn hand_over(ws: &[u32], cs: &[u16], words: &mut [u32], corners: &mut [u16]) -> 
     text_sheet::copy_corners(cs, corners);
     ReadSheet {
         answer: Answer::Done,
+        pitch: 1,
         words: ws.len(),
         corners: cs.len(),
     }

@@ -1,4 +1,5 @@
--- What reading a file of facets answers and leaves: "The outcome is a surface as if it had come by sheet text."
+-- What reading a file of facets answers and leaves: "The outcome is a surface as if it had come by sheet text", one without a line of a
+-- pitch.
 use mathlib.Core.Bool.{cond}
 use mathlib.Core.List.{List, [], _∷_}
 use Prim.Native.Nat.{ℕ, _*_}
@@ -46,4 +47,4 @@ unfoldable pub readsFile : List ℕ → List ℕ → List ℕ → ReadOutcome
 readsFile b words corners =
     let a = readRefusal b words corners in
     cond (refusing a) (notRead a words corners)
-    (record { answer = Done; word-count = 3 * length (pointsIn b); corner-count = 3 * facets b; words = over (flat (pointsIn b)) words; corners = over (cornersIn b) corners })
+    (record { answer = Done; pitch = 1; word-count = 3 * length (pointsIn b); corner-count = 3 * facets b; words = over (flat (pointsIn b)) words; corners = over (cornersIn b) corners })

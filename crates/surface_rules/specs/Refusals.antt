@@ -1,4 +1,4 @@
--- The refusals 1 to 8, in their order: "each over the whole input before the next, the smallest index reported".
+-- The refusals 17 and 1 to 8, in their order: "each over the whole input before the next, the smallest index reported".
 use mathlib.Core.Bool.{Bool, not, cond, _&&_, _||_}
 use mathlib.Core.List.{List, []}
 use Prim.Native.Nat.{ℕ, _+_, _/_}
@@ -9,8 +9,9 @@ use lib.Ieee.{binary32, ofBits}
 use lib.Ieee.Scale.{finite}
 use Rattle.base_answers.specs.Numbers.{refusing}
 use Rattle.base_answers.specs.declared.Answer.{Answer}
-use Rattle.base_answers.specs.declared.Answer.the-variants.{Done, Words, Corners, Buffer, Unnamed, Twice, Repeated, NotFinite, TooFar}
+use Rattle.base_answers.specs.declared.Answer.the-variants.{Done, Words, Corners, Buffer, Unnamed, Twice, Repeated, NotFinite, TooFar, NoPitch}
 use Rattle.base_types.specs.Counts.{threes}
+use Rattle.base_types.specs.Pitches.{isPitch}
 use Rattle.base_limits.specs.Limits as limits
 use Rattle.grid_coordinate.specs.Units.{units}
 use Rattle.grid_coordinate.specs.Places.{whole}
@@ -31,14 +32,14 @@ unnamed corners points i = leb points (getD corners i 0)
 unfoldable pub notFinite : List ℕ → ℕ → Bool
 notFinite words i = not (finite (ofBits binary32 (getD words i 0)))
 
--- "A coordinate is too far."
-unfoldable pub tooFar : List ℕ → ℕ → Bool
-tooFar words i = let x = ofBits binary32 (getD words i 0) in finite x && ltb limits.greatest (natAbs (whole 1 (units x)))
+-- "A coordinate is too far": the multiple of the pitch to which it goes.
+unfoldable pub tooFar : ℕ → List ℕ → ℕ → Bool
+tooFar pitch words i = let x = ofBits binary32 (getD words i 0) in finite x && ltb limits.greatest (natAbs (whole pitch (units x)))
 
 -- either of the two: what one pass over the words looks for
-unfoldable pub offGrid : List ℕ → ℕ → Bool
+unfoldable pub offGrid : ℕ → List ℕ → ℕ → Bool
 unfolding notFinite tooFar
-offGrid words i = notFinite words i || tooFar words i
+offGrid pitch words i = notFinite words i || tooFar pitch words i
 
 -- a refusal where a place was found
 abbrev pub refuseAt : (ℕ → Answer) → Found → Answer
@@ -48,6 +49,10 @@ refuseAt f Nothing = Done
 -- the first check that refuses decides
 abbrev pub thenCheck : Answer → Answer → Answer
 thenCheck a b = cond (refusing a) a b
+
+-- 17: "a pitch other than 1, 2, 5 or 10"
+unfoldable pub pitchRefusal : ℕ → Answer
+pitchRefusal pitch = cond (isPitch pitch) Done NoPitch
 
 -- 1 and 2, by the counts of words and corners
 unfoldable pub countRefusal : ℕ → ℕ → Answer
@@ -71,22 +76,25 @@ cornerRefusal corners points =
     (refuseAt Repeated (least (repeats corners) (length corners))))
 
 -- 7 and 8, by the words
-unfoldable pub wordRefusal : List ℕ → Answer
-wordRefusal words =
+unfoldable pub wordRefusal : ℕ → List ℕ → Answer
+wordRefusal pitch words =
     thenCheck (refuseAt NotFinite (least (notFinite words) (length words)))
-    (refuseAt TooFar (least (tooFar words) (length words)))
+    (refuseAt TooFar (least (tooFar pitch words) (length words)))
 
--- 3 to 8, once 1 and 2 were not given
-unfoldable pub contentRefusal : List ℕ → List ℕ → List ℕ → List ℕ → Answer
-contentRefusal words corners lent needs =
+-- 3 to 8, once 17, 1 and 2 were not given
+unfoldable pub contentRefusal : ℕ → List ℕ → List ℕ → List ℕ → List ℕ → Answer
+contentRefusal pitch words corners lent needs =
     thenCheck (bufferRefusal lent needs)
     (thenCheck (cornerRefusal corners (length words / 3))
-    (wordRefusal words))
+    (wordRefusal pitch words))
 
--- the table from 1 to 8
-unfoldable pub refusal : List ℕ → List ℕ → List ℕ → List ℕ → Answer
-refusal words corners lent needs = thenCheck (countRefusal (length words) (length corners)) (contentRefusal words corners lent needs)
+-- the table from 17 to 8
+unfoldable pub refusal : ℕ → List ℕ → List ℕ → List ℕ → List ℕ → Answer
+refusal pitch words corners lent needs =
+    thenCheck (pitchRefusal pitch)
+    (thenCheck (countRefusal (length words) (length corners))
+    (contentRefusal pitch words corners lent needs))
 
 -- the refusals of a sheet where every lent buffer is long enough
-abbrev pub sheetRefusal : List ℕ → List ℕ → Answer
-sheetRefusal words corners = refusal words corners [] []
+abbrev pub sheetRefusal : ℕ → List ℕ → List ℕ → Answer
+sheetRefusal pitch words corners = refusal pitch words corners [] []

@@ -6,10 +6,10 @@ use lib.Ieee.{binary32, ofBits}
 use Rattle.grid_coordinate.specs.Units.{units}
 use Rattle.grid_coordinate.specs.Places.{whole}
 
--- the whole number of a word
-unfoldable pub wholeOf : ℕ → ℤ
-wholeOf word = whole 1 (units (ofBits binary32 word))
+-- the multiple of the pitch that a word goes to
+unfoldable pub wholeOf : ℕ → ℕ → ℤ
+wholeOf pitch word = whole pitch (units (ofBits binary32 word))
 
--- "Each coordinate becomes the nearest whole number."
-abbrev pub gridOf : List ℕ → List ℤ
-gridOf words = map wholeOf words
+-- "A coordinate goes to the nearest multiple of the pitch": the grid holds the multiple itself, in plate units.
+abbrev pub gridOf : ℕ → List ℕ → List ℤ
+gridOf pitch words = map (wholeOf pitch) words

@@ -39,12 +39,12 @@ abbrev pub refused : Answer → Buffers → Outcome
 refused a b = record { answer = a; loops = 0; vertices = 0; left = b }
 
 -- the grid, and the rings and lengths of all loops, each from its buffer's start
-abbrev pub done : List ℕ → List ℕ → Buffers → Outcome
-done words corners b = record {
+abbrev pub done : ℕ → List ℕ → List ℕ → Buffers → Outcome
+done pitch words corners b = record {
   answer = Done;
   loops = length (loops corners);
   vertices = length (ringsOf corners (loops corners));
-  left = record { grid = over (gridOf words) (b .grid); rings = over (ringsOf corners (loops corners)) (b .rings); lengths = over (map length (loops corners)) (b .lengths) };
+  left = record { grid = over (gridOf pitch words) (b .grid); rings = over (ringsOf corners (loops corners)) (b .rings); lengths = over (map length (loops corners)) (b .lengths) };
 }
 
 -- buffer 1 need have W numbers, buffer 2 3T, buffer 3 T
@@ -54,7 +54,7 @@ needs words corners = length words ∷ length corners ∷ length corners / 3 ∷
 abbrev pub lent : Buffers → List ℕ
 lent b = length (b .grid) ∷ length (b .rings) ∷ length (b .lengths) ∷ []
 
-unfoldable pub surveyOf : List ℕ → List ℕ → Buffers → Outcome
-surveyOf words corners b =
-    let a = refusal words corners (lent b) (needs words corners) in
-    cond (refusing a) (refused a b) (done words corners b)
+unfoldable pub surveyOf : ℕ → List ℕ → List ℕ → Buffers → Outcome
+surveyOf pitch words corners b =
+    let a = refusal pitch words corners (lent b) (needs words corners) in
+    cond (refusing a) (refused a b) (done pitch words corners b)

@@ -1,16 +1,18 @@
 // The lines of a sheet text, written one by one, and how many bytes a whole text takes.
 ghost use mathlib.Core.Path.{_≡_};
+ghost use mathlib.Core.Bool.{true};
 ghost use mathlib.Core.List.{map, flatten};
 ghost use Prim.Native.Nat.{_+_, _<_, _≤_};
 ghost use lib.Dec.{leb};
 ghost use lib.ListN.{length};
 ghost use Rattle.base_types.specs.Lent.{was, left};
+ghost use Rattle.base_types.specs.Pitches.{isPitch};
 ghost use Rattle.surface_rules.specs.Buffers.{laid};
 ghost use Rattle.surface_rules.specs.Threes.{three};
 ghost use Rattle.text_digits.specs.Numeral.{size, decimal};
 ghost use Rattle.text_figures.specs.Workings.Tables.{Spelled};
 ghost use Rattle.text_rules.specs.Text.{count};
-ghost use Rattle.text_sheet.specs.Sheet.{points, triangles};
+ghost use Rattle.text_sheet.specs.Sheet.{points, triangles, head};
 ghost use Rattle.text_line.specs.Workings.Means.{Has, Counted, needed};
 use base_types::Surface;
 
@@ -30,6 +32,32 @@ pub fn put_count(buffer: &mut [u8], at: usize, key: &[u8], n: usize) -> usize
         text_figures::four_of(n as u16),
         b'\n',
     )
+}
+
+// How many bytes the head of a pitch takes.
+pub fn head_bytes(pitch: u32) -> usize
+    requires { ⌜ isPitch pitch ≡ true ⌝ }
+    ensures { λ r. ⌜ r ≡ length (flatten (head pitch)) ⌝ }
+{
+    match pitch {
+        1 => 0,
+        10 => 9,
+        _ => 8,
+    }
+}
+
+// Writes the head of a pitch, and answers the place after it: pitch 1 has none.
+pub fn put_head(buffer: &mut [u8], pitch: u32) -> usize
+    requires { ⌜ (isPitch pitch ≡ true) × (length (flatten (head pitch)) ≤ length (now buffer)) ⌝ }
+    ensures { λ r. ⌜
+        (left buffer ≡ laid 0 (flatten (head pitch)) (was buffer))
+        × (r ≡ length (flatten (head pitch)))
+        ⌝ }
+{
+    if pitch == 1 {
+        return 0;
+    }
+    put_count(buffer, 0, b"pitch=", pitch as usize)
 }
 
 // Writes a line `p=`, of 29 bytes.
@@ -95,13 +123,14 @@ fn text_bytes(points: usize, corners: &[u16]) -> usize
     19 + sizes + 29 * points + 5 * triangles + corner_digits(corners)
 }
 
-// Whether so many bytes are enough for the text of a sheet. Where they are enough for the longest of its size, nothing is counted.
-pub fn has_room(room: usize, points: usize, corners: &[u16]) -> bool
-    requires { ⌜ Counted points (length (now corners)) ⌝ }
-    ensures { λ r. ⌜ r ≡ leb (needed points (was corners)) room ⌝ }
+// Whether so many bytes are enough for the text of a sheet below a head of so many. Where they are enough for the longest of its size,
+// nothing is counted.
+pub fn has_room(room: usize, points: usize, corners: &[u16], head: usize) -> bool
+    requires { ⌜ Counted points (length (now corners)) × (head ≤ 9) ⌝ }
+    ensures { λ r. ⌜ r ≡ leb (head + needed points (was corners)) room ⌝ }
 {
-    if 27 + 29 * points + 20 * (corners.len() / 3) <= room {
+    if head + 27 + 29 * points + 20 * (corners.len() / 3) <= room {
         return true;
     }
-    text_bytes(points, corners) <= room
+    head + text_bytes(points, corners) <= room
 }

@@ -4,7 +4,7 @@ use mathlib.Core.Logic.{inl, inr}
 use mathlib.Core.List.{List}
 use Prim.Native.Nat.{ℕ}
 use Rattle.text_rules.proofs.Theorems.{Known}
-use Rattle.text_sheet.specs.Sheet.{points, triangles}
+use Rattle.text_sheet.specs.Sheet.{sheet}
 use Rattle.text_sheet.proofs.Laws.Texts.{text-or-fault}
 use Rattle.text_read.specs.Outcome.{ReadOutcome, Reads}
 
@@ -12,6 +12,6 @@ use Rattle.text_read.specs.Outcome.{ReadOutcome, Reads}
 pub reads-once : (bytes words corners : List ℕ) (o o′ : ReadOutcome) → Reads bytes words corners o → Reads bytes words corners o′ → o ≡ o′
 reads-once bytes words corners o o′ p q = go (text-or-fault bytes)
   where
-    go : Known points triangles bytes → o ≡ o′
-    go (inl t) = p .of-text (t .0) (t .1) (t .2) ∙ sym (q .of-text (t .0) (t .1) (t .2))
+    go : Known sheet bytes → o ≡ o′
+    go (inl t) = p .of-text (t .0) (t .1) ∙ sym (q .of-text (t .0) (t .1))
     go (inr f) = p .of-fault (f .0) (f .1) ∙ sym (q .of-fault (f .0) (f .1))

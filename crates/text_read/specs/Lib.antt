@@ -1,2 +1,3 @@
--- What reading a sheet text answers and leaves.
+-- What reading a sheet text answers and leaves, and what the code that reads goes by.
 pub mod Outcome
+pub mod Workings

@@ -8,6 +8,7 @@ ghost use Rattle.surface_rules.specs.Threes.{flat};
 ghost use Rattle.text_rules.specs.Workings.Scanning.{Scanned};
 ghost use Rattle.text_sheet.specs.Workings.Parse.{parse, Room};
 ghost use Rattle.text_read.specs.Outcome.{readOutcome, deliver, Reads};
+ghost use Rattle.text_read.specs.Workings.Taking.{Takes};
 use base_answers::Answer;
 use base_types::Surface;
 use surface_rules::Found;
@@ -18,15 +19,42 @@ use text_sheet::Pass;
 // How long a text is that is read with little scratch.
 const SHORT: usize = 256;
 
-// What reading answers, with the counts of words and corners.
+// What a whole text says, by its pitch and its counts of points and triangles; or the line of its fault.
+pub enum Intake {
+    Whole(u32, usize, usize),
+    Wrong(usize),
+}
+
+// What reading answers, with the pitch and the counts of words and corners.
 pub struct ReadSheet {
     pub answer: Answer,
+    pub pitch: u32,
     pub words: usize,
     pub corners: usize,
 }
 
-// A whole text, its words and corners laid into two buffers from their starts.
-pub fn take_in(text: &[u8], words: &mut [u32], corners: &mut [u16]) -> Scan
+// A whole text, its words and corners laid into two buffers from their starts. Below a line of a pitch every line number goes up by one.
+pub fn take_in(text: &[u8], words: &mut [u32], corners: &mut [u16]) -> Intake
+    requires { ⌜ Room 29 limits.points (length (now text)) (length (now words)) × Room 8 limits.triangles (length (now text)) (length (now corners)) ⌝ }
+    ensures { λ r. ⌜ Takes (was text) r (left words) (left corners) (was words) (was corners) ⌝ }
+{
+    let head = text_sheet::head_at(text);
+    let at = head.at;
+    if at == 0 {
+        return match take_body(text, words, corners) {
+            Scan::Wrong(line) => Intake::Wrong(line),
+            Scan::Whole(points, triangles) => Intake::Whole(1, points, triangles),
+        };
+    }
+    match take_body(&text[at..], words, corners) {
+        Scan::Wrong(line) => Intake::Wrong(line + 1),
+        Scan::Whole(points, triangles) => Intake::Whole(head.pitch, points, triangles),
+    }
+}
+
+// What stands below the head: the points and the triangles. Its lines are counted from there. It is called for a text without a head by
+// itself, so that its loops have one number less at hand.
+fn take_body(text: &[u8], words: &mut [u32], corners: &mut [u16]) -> Scan
     requires { ⌜ Room 29 limits.points (length (now text)) (length (now words)) × Room 8 limits.triangles (length (now text)) (length (now corners)) ⌝ }
     ensures { λ r. ⌜ Scanned flat flat (parse (was text)) r (left words) (left corners) (was words) (was corners) ⌝ }
 {
@@ -60,12 +88,13 @@ pub fn take_in(text: &[u8], words: &mut [u32], corners: &mut [u16]) -> Scan
     }
 }
 
-// The answer that refuses, with zero in both counts.
+// The answer that refuses, with no pitch and zero in both counts.
 pub fn refused(answer: Answer) -> ReadSheet
-    ensures { λ r. ⌜ (r .answer ≡ answer) × (r .words ≡ 0) × (r .corners ≡ 0) ⌝ }
+    ensures { λ r. ⌜ (r .answer ≡ answer) × (r .pitch ≡ 0) × (r .words ≡ 0) × (r .corners ≡ 0) ⌝ }
 {
     ReadSheet {
         answer,
+        pitch: 0,
         words: 0,
         corners: 0,
     }
@@ -78,11 +107,12 @@ fn hand_over(
     cs: &[u16],
     words: &mut [u32],
     corners: &mut [u16],
+    pitch: u32,
 ) -> ReadSheet
     requires { ⌜ (length (now ws) ≡ 3 * points) × (points < 65536) ⌝ }
     ensures { λ r. ⌜
         readOutcome r (left words) (left corners)
-        ≡ deliver (was ws) (was cs) (was words) (was corners)
+        ≡ deliver pitch (was ws) (was cs) (was words) (was corners)
         ⌝ }
 {
     let short = check_shape::check_buffers(&[words.len(), corners.len()], &[ws.len(), cs.len()]);
@@ -96,6 +126,7 @@ fn hand_over(
     text_sheet::copy_corners(cs, corners);
     ReadSheet {
         answer: Answer::Done,
+        pitch,
         words: ws.len(),
         corners: cs.len(),
     }
@@ -113,11 +144,11 @@ fn read_by(
     ensures { λ r. ⌜ Reads (was text) (was words) (was corners) (readOutcome r (left words) (left corners)) ⌝ }
 {
     match take_in(text, ws, cs) {
-        Scan::Wrong(line) => refused(Answer::Line(line)),
-        Scan::Whole(points, triangles) => {
+        Intake::Wrong(line) => refused(Answer::Line(line)),
+        Intake::Whole(pitch, points, triangles) => {
             let w = 3 * points;
             let c = 3 * triangles;
-            hand_over(points, &ws[..w], &cs[..c], words, corners)
+            hand_over(points, &ws[..w], &cs[..c], words, corners, pitch)
         }
     }
 }

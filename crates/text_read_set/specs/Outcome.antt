@@ -11,7 +11,7 @@ use Rattle.base_answers.specs.declared.Answer.the-variants.{Done, Line}
 use Rattle.surface_rules.specs.Buffers.{over}
 use Rattle.surface_rules.specs.Refusals.{bufferRefusal}
 use Rattle.surface_rules.specs.Threes.{Three, flat}
-use Rattle.text_rules.specs.Text.{TextOf}
+use Rattle.text_rules.specs.Text.{TextOf, both}
 use Rattle.text_rules.specs.Fault.{Fault}
 use Rattle.text_read_set.specs.Set as text
 use Rattle.text_read_set.specs.declared.ReadSet.{ReadSet}
@@ -38,5 +38,5 @@ deliver ss cs states corners =
 
 -- the text of a set is delivered, and anything else is refused at the line of its fault, which comes after as many lines as the sheet has
 pub record ReadsSet (bytes : List ℕ) (before : ℕ) (states corners : List ℕ) (o : SetOutcome) : Type 0 where
-  pub of-text : (ss : List ℕ) (ts : List Three) → TextOf text.states text.triangles bytes ss ts → o ≡ deliver ss (flat ts) states corners
-  pub of-fault : (line : ℕ) → Fault text.states text.triangles bytes line → o ≡ notRead (Line (before + line)) states corners
+  pub of-text : (ss : List ℕ) (ts : List Three) → TextOf text.set bytes (both ss ts) → o ≡ deliver ss (flat ts) states corners
+  pub of-fault : (line : ℕ) → Fault text.set bytes line → o ≡ notRead (Line (before + line)) states corners

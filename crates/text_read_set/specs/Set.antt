@@ -4,7 +4,7 @@ use Prim.Native.Nat.{ℕ, _<_}
 use Rattle.base_limits.specs.Limits as limits
 use Rattle.surface_rules.specs.Threes.{Three}
 use Rattle.text_digits.specs.Numeral.{byteOf}
-use Rattle.text_rules.specs.Text.{feed, Part}
+use Rattle.text_rules.specs.Text.{Format, feed, Part, Both, parts}
 use Rattle.text_sheet.specs.Sheet as sheet
 
 -- `s=` and `states=`
@@ -25,3 +25,7 @@ states = record { key = states=; most = limits.states; show = state; Valid = λ 
 -- "`triangles=P`, P lines `t=`": those of a sheet, of which there may be more
 abbrev pub triangles : Part Three
 triangles = record { key = sheet.triangles .key; most = limits.patches; show = sheet.triangles .show; Valid = sheet.triangles .Valid }
+
+-- what a set's text says: states and triangles
+abbrev pub set : Format (Both ℕ Three)
+set = parts states triangles

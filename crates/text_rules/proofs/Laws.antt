@@ -1,4 +1,4 @@
--- The laws of texts of two parts, each file for one idea.
+-- The laws of texts, of two parts and below a head, each file for one idea.
 pub mod Lists
 pub mod Counts
 pub mod Rows
@@ -7,6 +7,8 @@ pub mod Ways
 pub mod Lines
 pub mod Halves
 pub mod Fill
+pub mod Starts
+pub mod Headed
 pub mod Beginnings
 pub mod Later
 pub mod Cut

@@ -1,10 +1,14 @@
 -- The sheet text.
+use mathlib.Core.Path.{_≡_}
+use mathlib.Core.Bool.{true, cond}
 use mathlib.Core.List.{List, [], _∷_, _++_}
 use Prim.Native.Nat.{ℕ, _^_, _<_}
+use lib.Dec.{eqb}
+use Rattle.base_types.specs.Pitches.{isPitch}
 use Rattle.base_limits.specs.Limits as limits
-use Rattle.surface_rules.specs.Threes.{Three, threes}
+use Rattle.surface_rules.specs.Threes.{Three, threes, flat}
 use Rattle.text_digits.specs.Numeral.{hex, decimal}
-use Rattle.text_rules.specs.Text.{feed, Part}
+use Rattle.text_rules.specs.Text.{Format, feed, count, Part, Both, both, parts, Under, under, headed}
 use Rattle.text_rules.specs.Text as texts
 
 -- each of the three has a property
@@ -20,12 +24,15 @@ comma = 44
 unfoldable pub row : List ℕ → (ℕ → List ℕ) → Three → List ℕ
 row key show t = key ++ (show (t .first) ++ (comma ∷ (show (t .second) ++ (comma ∷ (show (t .third) ++ (feed ∷ []))))))
 
--- `p=`, `t=`, `points=` and `triangles=`
+-- `p=`, `t=`, `pitch=`, `points=` and `triangles=`
 abbrev pub p= : List ℕ
 p= = 112 ∷ 61 ∷ []
 
 abbrev pub t= : List ℕ
 t= = 116 ∷ 61 ∷ []
+
+abbrev pub pitch= : List ℕ
+pitch= = 112 ∷ 105 ∷ 116 ∷ 99 ∷ 104 ∷ 61 ∷ []
 
 abbrev pub points= : List ℕ
 points= = 112 ∷ 111 ∷ 105 ∷ 110 ∷ 116 ∷ 115 ∷ 61 ∷ []
@@ -41,6 +48,30 @@ points = record { key = points=; most = limits.points; show = row p= hex; Valid 
 abbrev pub triangles : Part Three
 triangles = record { key = triangles=; most = limits.triangles; show = row t= decimal; Valid = Every (λ c. c < limits.points) }
 
--- the text of the sheet with these words and corners
-abbrev pub text : List ℕ → List ℕ → List ℕ
-text words corners = texts.text points triangles (threes words) (threes corners)
+-- "The sheet text gets a first line `pitch=`; a text that begins with `points=` is pitch 1, and pitch 1 is written without the line"
+unfoldable pub head : ℕ → List (List ℕ)
+head pitch = cond (eqb pitch 1) [] (count pitch= pitch ∷ [])
+
+-- what a sheet's text says: a pitch, points and triangles
+abbrev pub Sheet : Type 0
+Sheet = Under ℕ (Both Three Three)
+
+abbrev pub sheetOf : ℕ → List Three → List Three → Sheet
+sheetOf pitch ps ts = under pitch (both ps ts)
+
+abbrev pub sheet : Format Sheet
+sheet = headed (λ pitch. isPitch pitch ≡ true) head (parts points triangles)
+
+-- its pitch, its words and its corners
+abbrev pub pitchSaid : Sheet → ℕ
+pitchSaid s = s .head
+
+abbrev pub wordsSaid : Sheet → List ℕ
+wordsSaid s = flat (s .body .firsts)
+
+abbrev pub cornersSaid : Sheet → List ℕ
+cornersSaid s = flat (s .body .seconds)
+
+-- the text of the sheet with this pitch and these words and corners
+abbrev pub text : ℕ → List ℕ → List ℕ → List ℕ
+text pitch words corners = texts.text sheet (sheetOf pitch (threes words) (threes corners))

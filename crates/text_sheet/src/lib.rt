@@ -8,6 +8,7 @@ ghost use Rattle.surface_rules.specs.Threes.{flat};
 ghost use Rattle.text_digits.specs.Workings.Reading.{seen, UpTo};
 ghost use Rattle.text_hex.specs.Workings.Tables.{Marked};
 ghost use Rattle.text_rules.specs.Workings.Parse.{readCount, rows, outline, values};
+ghost use Rattle.text_sheet.specs.Workings.Heads.{HeadAt};
 ghost use Rattle.text_sheet.specs.Workings.Parse.{readPoint, readTriangle, seenRow, RowBy, PassBy, passed, Room};
 use base_types::Surface;
 use text_digits::Number;
@@ -23,6 +24,41 @@ pub enum Line {
 pub enum Pass {
     Through(usize),
     Stuck(usize),
+}
+
+// The pitch of a text, and the place after its head: 1 and 0 where it has none.
+pub struct Head {
+    pub pitch: u32,
+    pub at: usize,
+}
+
+// The head of a text: one of three lines, or none.
+pub fn head_at(text: &[u8]) -> Head
+    ensures { λ r. ⌜ HeadAt (was text) (r .pitch) (r .at) ⌝ }
+{
+    // a text that begins with another line is seen at once
+    if text.len() < 8 {
+        return Head { pitch: 1, at: 0 };
+    }
+    if text[1] != b'i' {
+        return Head { pitch: 1, at: 0 };
+    }
+    let Place::Past(i) = text_digits::key_at(text, 0, b"pitch=") else {
+        return Head { pitch: 1, at: 0 };
+    };
+    let Number::Is(pitch, next) = text_decimal::decimal_at(text, i, b'\n', 10) else {
+        return Head { pitch: 1, at: 0 };
+    };
+    if pitch == 2 {
+        return Head { pitch, at: next };
+    }
+    if pitch == 5 {
+        return Head { pitch, at: next };
+    }
+    if pitch == 10 {
+        return Head { pitch, at: next };
+    }
+    Head { pitch: 1, at: 0 }
 }
 
 // A line of a key and a count.

@@ -1,5 +1,6 @@
--- What writing a sheet text answers and leaves: "writing gives 1, 2, 3 (text buffer too short for this text, each corner in its own
--- digits; number 1) and 4 ... writing [answers the count] of bytes; what lies past them stays."
+-- What writing a sheet text answers and leaves: 17 for a pitch that is none, "between 10 and 1"; then "writing gives 1, 2, 3 (text
+-- buffer too short for this text, each corner in its own digits; number 1) and 4 ... writing [answers the count] of bytes; what lies past
+-- them stays."
 use mathlib.Core.Bool.{cond}
 use mathlib.Core.List.{List, [], _∷_}
 use Prim.Native.Nat.{ℕ, _/_}
@@ -8,7 +9,7 @@ use Rattle.base_answers.specs.Numbers.{refusing}
 use Rattle.base_answers.specs.declared.Answer.{Answer}
 use Rattle.base_answers.specs.declared.Answer.the-variants.{Done}
 use Rattle.surface_rules.specs.Buffers.{over}
-use Rattle.surface_rules.specs.Refusals.{thenCheck, countRefusal, bufferRefusal, unnamedRefusal}
+use Rattle.surface_rules.specs.Refusals.{thenCheck, pitchRefusal, countRefusal, bufferRefusal, unnamedRefusal}
 use Rattle.text_sheet.specs.Sheet.{text}
 use Rattle.text_write.specs.declared.Written.{Written}
 
@@ -20,14 +21,15 @@ pub record WriteOutcome : Type 0 where
 abbrev pub writeOutcome : Written → List ℕ → WriteOutcome
 writeOutcome r bytes = record { answer = r .answer; count = r .bytes; bytes = bytes }
 
-unfoldable pub writeRefusal : List ℕ → List ℕ → List ℕ → Answer
-writeRefusal words corners buffer =
-    thenCheck (countRefusal (length words) (length corners))
-    (thenCheck (bufferRefusal (length buffer ∷ []) (length (text words corners) ∷ []))
-    (unnamedRefusal corners (length words / 3)))
+unfoldable pub writeRefusal : ℕ → List ℕ → List ℕ → List ℕ → Answer
+writeRefusal pitch words corners buffer =
+    thenCheck (pitchRefusal pitch)
+    (thenCheck (countRefusal (length words) (length corners))
+    (thenCheck (bufferRefusal (length buffer ∷ []) (length (text pitch words corners) ∷ []))
+    (unnamedRefusal corners (length words / 3))))
 
-unfoldable pub writes : List ℕ → List ℕ → List ℕ → WriteOutcome
-writes words corners buffer =
-    let a = writeRefusal words corners buffer in
+unfoldable pub writes : ℕ → List ℕ → List ℕ → List ℕ → WriteOutcome
+writes pitch words corners buffer =
+    let a = writeRefusal pitch words corners buffer in
     cond (refusing a) (record { answer = a; count = 0; bytes = buffer })
-    (record { answer = Done; count = length (text words corners); bytes = over (text words corners) buffer })
+    (record { answer = Done; count = length (text pitch words corners); bytes = over (text pitch words corners) buffer })

@@ -8,6 +8,8 @@ ghost use Rattle.text_sheet.specs.Sheet.{text};
 ghost use Rattle.text_write.specs.Outcome.{writeOutcome, writes};
 ghost use Rattle.text_write.specs.Workings.Means.{Numbered, Serves, pointLines, triangleLines, Ready};
 use base_answers::Answer;
+use base_types::Named;
+use base_types::Pitch;
 use base_types::Surface;
 use surface_rules::Found;
 
@@ -85,43 +87,50 @@ fn put_triangles(buffer: &mut [u8], at: usize, corners: &[u16], n: usize, fours:
 }
 
 // Writes the text of a sheet for which there is room, and answers its length.
-fn put_sheet(words: &[u32], corners: &[u16], buffer: &mut [u8], fours: &mut [u32]) -> usize
-    requires { ⌜ Ready (now words) (now corners) (now buffer) × (length (now words) / 3 ≤ length (now fours)) ⌝ }
+fn put_sheet(
+    words: &[u32],
+    corners: &[u16],
+    buffer: &mut [u8],
+    fours: &mut [u32],
+    pitch: u32,
+) -> usize
+    requires { ⌜ Ready pitch (now words) (now corners) (now buffer) × (length (now words) / 3 ≤ length (now fours)) ⌝ }
     ensures { λ r. ⌜
-        (left buffer ≡ over (text (was words) (was corners)) (was buffer))
-        × (r ≡ length (text (was words) (was corners)))
+        (left buffer ≡ over (text pitch (was words) (was corners)) (was buffer))
+        × (r ≡ length (text pitch (was words) (was corners)))
         ⌝ }
 {
     let sheet = Surface::of(words.len(), corners.len());
     number_points(sheet.points, fours);
-    let first = text_line::put_count(buffer, 0, b"points=", sheet.points);
+    let start = text_line::put_head(buffer, pitch);
+    let first = text_line::put_count(buffer, start, b"points=", sheet.points);
     let middle = put_points(buffer, first, words, sheet.points);
     let second = text_line::put_count(buffer, middle, b"triangles=", sheet.triangles);
     put_triangles(buffer, second, corners, sheet.triangles, fours)
 }
 
 // The same of few points.
-fn put_small(words: &[u32], corners: &[u16], buffer: &mut [u8]) -> usize
-    requires { do few ← ⟦FEW⟧; ⌜ Ready (now words) (now corners) (now buffer) × (length (now words) / 3 ≤ few) ⌝ }
+fn put_small(words: &[u32], corners: &[u16], buffer: &mut [u8], pitch: u32) -> usize
+    requires { do few ← ⟦FEW⟧; ⌜ Ready pitch (now words) (now corners) (now buffer) × (length (now words) / 3 ≤ few) ⌝ }
     ensures { λ r. ⌜
-        (left buffer ≡ over (text (was words) (was corners)) (was buffer))
-        × (r ≡ length (text (was words) (was corners)))
+        (left buffer ≡ over (text pitch (was words) (was corners)) (was buffer))
+        × (r ≡ length (text pitch (was words) (was corners)))
         ⌝ }
 {
     let mut fours = [0u32; FEW];
-    put_sheet(words, corners, buffer, &mut fours)
+    put_sheet(words, corners, buffer, &mut fours, pitch)
 }
 
 // The same of as many as there can be.
-fn put_large(words: &[u32], corners: &[u16], buffer: &mut [u8]) -> usize
-    requires { ⌜ Ready (now words) (now corners) (now buffer) ⌝ }
+fn put_large(words: &[u32], corners: &[u16], buffer: &mut [u8], pitch: u32) -> usize
+    requires { ⌜ Ready pitch (now words) (now corners) (now buffer) ⌝ }
     ensures { λ r. ⌜
-        (left buffer ≡ over (text (was words) (was corners)) (was buffer))
-        × (r ≡ length (text (was words) (was corners)))
+        (left buffer ≡ over (text pitch (was words) (was corners)) (was buffer))
+        × (r ≡ length (text pitch (was words) (was corners)))
         ⌝ }
 {
     let mut fours = [0u32; Surface::POINTS];
-    put_sheet(words, corners, buffer, &mut fours)
+    put_sheet(words, corners, buffer, &mut fours, pitch)
 }
 
 // What a refusal answers.
@@ -131,25 +140,34 @@ fn unwritten(answer: Answer) -> Written
     Written { answer, bytes: 0 }
 }
 
-// Writes the text of words and corners into a lent buffer. Everything past the text stays, and a refusal changes nothing.
-pub fn write(words: &[u32], corners: &[u16], text: &mut [u8]) -> Written
-    ensures { λ r. ⌜ writeOutcome r (left text) ≡ writes (was words) (was corners) (was text) ⌝ }
+// Writes the text of words and corners, of points on a grid of that pitch, into a lent buffer. Everything past the text stays, and a
+// refusal changes nothing.
+pub fn write(words: &[u32], corners: &[u16], text: &mut [u8], pitch: u32) -> Written
+    ensures { λ r. ⌜ writeOutcome r (left text) ≡ writes pitch (was words) (was corners) (was text) ⌝ }
 {
+    if let Named::Nothing = Pitch::of(pitch) {
+        return unwritten(Answer::NoPitch);
+    }
     let counts = check_shape::check_counts(words.len(), corners.len());
     if counts.refuses() {
         return unwritten(counts);
     }
     let sheet = Surface::of(words.len(), corners.len());
-    if !text_line::has_room(text.len(), sheet.points, corners) {
+    if !text_line::has_room(
+        text.len(),
+        sheet.points,
+        corners,
+        text_line::head_bytes(pitch),
+    ) {
         return unwritten(Answer::Buffer(1));
     }
     if let Found::At(i) = check_shape::first_unnamed(corners, sheet.points as u16) {
         return unwritten(Answer::Unnamed(i));
     }
     let bytes = if sheet.points <= FEW {
-        put_small(words, corners, text)
+        put_small(words, corners, text, pitch)
     } else {
-        put_large(words, corners, text)
+        put_large(words, corners, text, pitch)
     };
     Written {
         answer: Answer::Done,

@@ -1,5 +1,5 @@
 -- From the answers of reading and writing texts to their plain numbers, and that these are determined.
-use mathlib.Core.Path.{_≡_, sym, ap, _∙_}
+use mathlib.Core.Path.{_≡_, refl, sym, ap, _∙_}
 use mathlib.Core.List.{List}
 use Prim.Native.Nat.{ℕ}
 use Rattle.base_answers.specs.Numbers.{numberOf, placeOf}
@@ -15,17 +15,19 @@ use Rattle.wazelpunt.specs.Texts.{TextTold, textTold, sheetRead, ReadsTo
 
 -- a sheet that was read, field by field
 pub told-read : (bytes words corners : List ℕ) (r : ReadSheet) (words′ corners′ : List ℕ) (n p : ℕ) → n ≡ numberOf (r .answer) → p ≡ placeOf (r .answer)
-    → Reads bytes words corners (readOutcome r words′ corners′) → ReadsTold bytes words corners (textTold n p (r .words) (r .corners) words′ corners′)
+    → Reads bytes words corners (readOutcome r words′ corners′) → ReadsTold bytes words corners (textTold n p (r .words) (r .corners) words′ corners′) (r .pitch)
 told-read bytes words corners r words′ corners′ n p en ep h = record {
   outcome = readOutcome r words′ corners′;
   right = h;
   its-numbers = λ t. textTold (en t) (ep t) (r .words) (r .corners) words′ corners′;
+  its-pitch = refl;
 }
 
 -- any two readings told of one text and the same buffers are equal
-pub reads-told-once : (bytes words corners : List ℕ) (s t : TextTold) → ReadsTold bytes words corners s → ReadsTold bytes words corners t → s ≡ t
-reads-told-once bytes words corners s t p q =
-    p .its-numbers ∙ ap sheetRead (reads-once bytes words corners (p .outcome) (q .outcome) (p .right) (q .right)) ∙ sym (q .its-numbers)
+pub reads-told-once : (bytes words corners : List ℕ) (s t : TextTold) (m n : ℕ) → ReadsTold bytes words corners s m → ReadsTold bytes words corners t n → (s ≡ t) × (m ≡ n)
+reads-told-once bytes words corners s t m n p q =
+    let e = reads-once bytes words corners (p .outcome) (q .outcome) (p .right) (q .right) in
+    (p .its-numbers ∙ ap sheetRead e ∙ sym (q .its-numbers), p .its-pitch ∙ ap (λ (o : ReadOutcome). o .pitch) e ∙ sym (q .its-pitch))
 
 -- a file of facets that was read, field by field
 pub told-file : {r : ReadSheet} {words′ corners′ : List ℕ} {n p : ℕ} {o : ReadOutcome} → n ≡ numberOf (r .answer) → p ≡ placeOf (r .answer) → readOutcome r words′ corners′ ≡ o

@@ -1,10 +1,13 @@
 -- The library's answers in plain numbers, as they cross to another language.
 use Prim.Native.Nat.{ℕ}
 use mathlib.Core.Path.{_≡_}
+use mathlib.Core.Bool.{Bool, true, false}
 use mathlib.Core.List.{List}
 use lib.IntN.{ℤ, pos}
 use lib.Ieee.{Float, binary32, toBits}
 use Rattle.base_answers.specs.Numbers.{numberOf, placeOf}
+use Rattle.base_answers.specs.declared.Answer.the-variants.{NoPitch}
+use Rattle.base_types.specs.Pitches.{isPitch}
 use Rattle.grid_coordinate.specs.Places.{Places, answerOf}
 use Rattle.grid_coordinate.specs.declared.Coordinate.{Coordinate}
 use Rattle.grid_coordinate.specs.declared.Coordinate.the-variants.{Exact, Shifted, NotFinite, TooFar}
@@ -26,13 +29,21 @@ floatOf (Shifted k d) = toBits binary32 d
 floatOf NotFinite = 0
 floatOf (TooFar x) = toBits binary32 x
 
--- the number, the whole number and the float are those of the right answer for x
-pub record Tells (x : Float) (number : ℕ) (whole : ℤ) (float : ℕ) : Type 0 where
+-- the number, the whole number and the float are those of the right answer for x at that pitch
+pub record TellsPlace (pitch : ℕ) (x : Float) (number : ℕ) (whole : ℤ) (float : ℕ) : Type 0 where
   pub coordinate : Coordinate
-  pub right : Places 1 x coordinate
+  pub right : Places pitch x coordinate
   pub its-number : number ≡ numberOf (answerOf 0 coordinate)
   pub its-whole : whole ≡ wholeOf coordinate
   pub its-float : float ≡ floatOf coordinate
+
+-- or the number is 17, where the number given is no pitch, and there are no others
+abbrev pub TellsIf : Bool → ℕ → Float → ℕ → ℤ → ℕ → Type 0
+TellsIf true pitch x number whole float = TellsPlace pitch x number whole float
+TellsIf false pitch x number whole float = (number ≡ numberOf NoPitch) × (whole ≡ pos 0) × (float ≡ 0)
+
+abbrev pub Tells : ℕ → Float → ℕ → ℤ → ℕ → Type 0
+Tells pitch = TellsIf (isPitch pitch) pitch
 
 -- a survey's or the checker's answer in numbers, with what it leaves
 pub record Told : Type 0 where
@@ -64,13 +75,13 @@ abbrev pub patched : patcher.Outcome → PatchTold
 patched o = patchTold (numberOf (o .answer)) (placeOf (o .answer)) (o .loops) (o .vertices) (o .corners) (o .left)
 
 -- what is told is an outcome of the patcher
-pub record PatchesTold (words corners : List ℕ) (b : patcher.Buffers) (t : PatchTold) : Type 0 where
+pub record PatchesTold (pitch : ℕ) (words corners : List ℕ) (b : patcher.Buffers) (t : PatchTold) : Type 0 where
   pub outcome : patcher.Outcome
-  pub right : patcher.Patches words corners b outcome
+  pub right : patcher.Patches pitch words corners b outcome
   pub its-numbers : t ≡ patched outcome
 
 -- what is told is an outcome of the checker
-pub record JudgesTold (words corners states set : List ℕ) (b : Buffers) (t : Told) : Type 0 where
+pub record JudgesTold (pitch : ℕ) (words corners states set : List ℕ) (b : Buffers) (t : Told) : Type 0 where
   pub outcome : Outcome
-  pub right : Judges words corners states set b outcome
+  pub right : Judges pitch words corners states set b outcome
   pub its-numbers : t ≡ surveyed outcome

@@ -23,10 +23,12 @@ textTold number place m n firsts seconds = record { number = number; place = pla
 abbrev pub sheetRead : ReadOutcome → TextTold
 sheetRead o = textTold (numberOf (o .answer)) (placeOf (o .answer)) (o .word-count) (o .corner-count) (o .words) (o .corners)
 
-pub record ReadsTold (bytes words corners : List ℕ) (t : TextTold) : Type 0 where
+-- and its pitch
+pub record ReadsTold (bytes words corners : List ℕ) (t : TextTold) (pitch : ℕ) : Type 0 where
   pub outcome : ReadOutcome
   pub right : Reads bytes words corners outcome
   pub its-numbers : t ≡ sheetRead outcome
+  pub its-pitch : pitch ≡ outcome .pitch
 
 -- of a set's text: states and corners
 abbrev pub setRead : SetOutcome → TextTold

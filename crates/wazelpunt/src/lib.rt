@@ -3,6 +3,7 @@ ghost use mathlib.Core.Path.{_≡_};
 ghost use lib.Ieee.{binary32, ofBits};
 ghost use Rattle.base_answers.specs.Numbers.{numberOf};
 ghost use Rattle.base_types.specs.Lent.{was, left};
+ghost use Rattle.base_types.specs.Pitches.{pitchOf};
 ghost use Rattle.survey_rules.specs.Outcome.{buffers, surveyOf};
 ghost use Rattle.patch_surface.specs.Outcome as patcher;
 ghost use Rattle.text_write.specs.Outcome.{writes};
@@ -12,10 +13,13 @@ ghost use Rattle.program_rewrite.specs.Rewriting.{Rewrites};
 ghost use Rattle.program_import.specs.Importing.{Imports};
 ghost use Rattle.program_judge.specs.Hears.{HearsLine};
 ghost use Rattle.program_list.specs.Lists.{Prints};
-ghost use Rattle.wazelpunt.specs.ForC.{Tells, told, surveyed, JudgesTold, patchTold, PatchesTold};
+ghost use Rattle.wazelpunt.specs.ForC.{TellsPlace, Tells, told, surveyed, JudgesTold, patchTold, PatchesTold};
 ghost use Rattle.wazelpunt.specs.Texts.{textTold, sheetRead, ReadsTold, ReadsSetTold, writeTold, written};
 ghost use Rattle.wazelpunt.specs.Prints.{PrintsTold};
 ghost use Rattle.wazelpunt.specs.Facets.{handed, handsOut};
+use base_answers::Answer;
+use base_types::Named;
+use base_types::Pitch;
 use grid_coordinate::Coordinate;
 use program_lines::LINE;
 use program_roll::LISTING;
@@ -24,13 +28,33 @@ use stl_facets::Step;
 // How many floats a facet has.
 const FLOATS: usize = 9;
 
-// The answer for the coordinate with these bits: its number is returned, 0 or refusal 7 or 8; the whole number, or 0, is
-// left in `whole`, and in `rest` are left the bits of the rest, or of the value itself where it is too far, or 0.
+// The answer for the coordinate with these bits at that pitch: its number is returned, 0 or refusal 7 or 8, or 17 for a number that is no
+// pitch; the multiple of the pitch, or 0, is left in `whole`, and in `rest` are left the bits of the rest, or of the value itself where it
+// is too far, or 0.
 #[no_mangle]
-pub extern "C" fn wazelpunt_coordinate(word: u32, whole: &mut i32, rest: &mut u32) -> u32
-    ensures { λ r. ⌜ Tells (ofBits binary32 word) r (left whole) (left rest) ⌝ }
+pub extern "C" fn wazelpunt_coordinate(
+    word: u32,
+    whole: &mut i32,
+    rest: &mut u32,
+    pitch: u32,
+) -> u32
+    ensures { λ r. ⌜ Tells pitch (ofBits binary32 word) r (left whole) (left rest) ⌝ }
 {
-    let found = grid_coordinate::place(word);
+    match Pitch::of(pitch) {
+        Named::Is(step) => tell(word, whole, rest, step),
+        Named::Nothing => {
+            *whole = 0;
+            *rest = 0;
+            Answer::NoPitch.number()
+        }
+    }
+}
+
+// The same at one of the four.
+fn tell(word: u32, whole: &mut i32, rest: &mut u32, pitch: Pitch) -> u32
+    ensures { λ r. ⌜ TellsPlace (pitchOf pitch) (ofBits binary32 word) r (left whole) (left rest) ⌝ }
+{
+    let found = grid_place::place(word, pitch);
     let number = found.answer(0).number();
     match found {
         Coordinate::Exact(k) => {
@@ -56,7 +80,7 @@ pub extern "C" fn wazelpunt_coordinate(word: u32, whole: &mut i32, rest: &mut u3
     }
 }
 
-// Surveys a surface, as `survey` does: the grid, the ring vertices and the ring lengths are left in the lent buffers; the number
+// Surveys a surface at that pitch, as `survey` does: the grid, the ring vertices and the ring lengths are left in the lent buffers; the number
 // of the answer is returned, and its place, how many loops there are and how many vertices their rings have are left too.
 #[no_mangle]
 pub extern "C" fn wazelpunt_survey(
@@ -68,11 +92,12 @@ pub extern "C" fn wazelpunt_survey(
     place: &mut usize,
     loops: &mut usize,
     vertices: &mut usize,
+    pitch: u32,
 ) -> u32
     ensures { λ r. ⌜ told r (left place) (left loops) (left vertices) (buffers (left grid) (left rings) (left lengths))
-        ≡ surveyed (surveyOf (was words) (was corners) (buffers (was grid) (was rings) (was lengths))) ⌝ }
+        ≡ surveyed (surveyOf pitch (was words) (was corners) (buffers (was grid) (was rings) (was lengths))) ⌝ }
 {
-    let found = survey::survey(words, corners, grid, rings, lengths);
+    let found = survey::survey(words, corners, grid, rings, lengths, pitch);
     let said = found.answer;
     *place = said.place();
     *loops = found.loops;
@@ -80,7 +105,7 @@ pub extern "C" fn wazelpunt_survey(
     said.number()
 }
 
-// Patches a surface, as `patch` does: the grid, the ring vertices and lengths, the states and weights, and the patch corners are left
+// Patches a surface at that pitch, as `patch` does: the grid, the ring vertices and lengths, the states and weights, and the patch corners are left
 // in the lent buffers; the number of the answer is returned, and its place and the three counts are left too.
 #[no_mangle]
 pub extern "C" fn wazelpunt_patch(
@@ -96,8 +121,9 @@ pub extern "C" fn wazelpunt_patch(
     loops: &mut usize,
     vertices: &mut usize,
     laid: &mut usize,
+    pitch: u32,
 ) -> u32
-    ensures { λ r. ⌜ PatchesTold (was words) (was corners) (patcher.buffers (was grid) (was rings) (was lengths) (was states) (was weights) (was patches))
+    ensures { λ r. ⌜ PatchesTold pitch (was words) (was corners) (patcher.buffers (was grid) (was rings) (was lengths) (was states) (was weights) (was patches))
         (patchTold r (left place) (left loops) (left vertices) (left laid)
         (patcher.buffers (left grid) (left rings) (left lengths) (left states) (left weights) (left patches))) ⌝ }
 {
@@ -110,6 +136,7 @@ pub extern "C" fn wazelpunt_patch(
         states,
         weights,
         patches,
+        pitch,
     );
     let answer = done.answer;
     *place = answer.place();
@@ -119,7 +146,7 @@ pub extern "C" fn wazelpunt_patch(
     answer.number()
 }
 
-// Judges a patch set for a surface, as `judge` does: the grid, the ring vertices and the ring lengths are left in the lent buffers; the
+// Judges a patch set for a surface at that pitch, as `judge` does: the grid, the ring vertices and the ring lengths are left in the lent buffers; the
 // number of the answer is returned, and its place, how many loops there are and how many vertices their rings have are left too.
 #[no_mangle]
 pub extern "C" fn wazelpunt_judge(
@@ -133,11 +160,12 @@ pub extern "C" fn wazelpunt_judge(
     place: &mut usize,
     loops: &mut usize,
     vertices: &mut usize,
+    pitch: u32,
 ) -> u32
-    ensures { λ r. ⌜ JudgesTold (was words) (was corners) (was states) (was set) (buffers (was grid) (was rings) (was lengths))
+    ensures { λ r. ⌜ JudgesTold pitch (was words) (was corners) (was states) (was set) (buffers (was grid) (was rings) (was lengths))
         (told r (left place) (left loops) (left vertices) (buffers (left grid) (left rings) (left lengths))) ⌝ }
 {
-    let judged = judge::judge(words, corners, states, set, grid, rings, lengths);
+    let judged = judge::judge(words, corners, states, set, grid, rings, lengths, pitch);
     let verdict = judged.answer;
     *place = verdict.place();
     *loops = judged.loops;
@@ -146,7 +174,7 @@ pub extern "C" fn wazelpunt_judge(
 }
 
 // Reads a sheet text, as `read` does: words and corners are left in the lent buffers; the number of the answer is returned, and its place
-// and how many words and corners there are are left too.
+// and how many words and corners there are are left too, and its pitch.
 #[no_mangle]
 pub extern "C" fn wazelpunt_read(
     text: &[u8],
@@ -155,19 +183,21 @@ pub extern "C" fn wazelpunt_read(
     place: &mut usize,
     words_read: &mut usize,
     corners_read: &mut usize,
+    pitch: &mut u32,
 ) -> u32
     ensures { λ r. ⌜ ReadsTold (was text) (was words) (was corners)
-        (textTold r (left place) (left «words_read») (left «corners_read») (left words) (left corners)) ⌝ }
+        (textTold r (left place) (left «words_read») (left «corners_read») (left words) (left corners)) (left pitch) ⌝ }
 {
     let read = text_read::read(text, words, corners);
     let told = read.answer;
     *place = told.place();
     *words_read = read.words;
     *corners_read = read.corners;
+    *pitch = read.pitch;
     told.number()
 }
 
-// Writes the text of a sheet, as `write` does: it is left in the lent buffer; the number of the answer is returned, and its place and how
+// Writes the text of a sheet of that pitch, as `write` does: it is left in the lent buffer; the number of the answer is returned, and its place and how
 // many bytes the text has are left too.
 #[no_mangle]
 pub extern "C" fn wazelpunt_write(
@@ -176,10 +206,11 @@ pub extern "C" fn wazelpunt_write(
     text: &mut [u8],
     place: &mut usize,
     bytes: &mut usize,
+    pitch: u32,
 ) -> u32
-    ensures { λ r. ⌜ writeTold r (left place) (left bytes) (left text) ≡ written (writes (was words) (was corners) (was text)) ⌝ }
+    ensures { λ r. ⌜ writeTold r (left place) (left bytes) (left text) ≡ written (writes pitch (was words) (was corners) (was text)) ⌝ }
 {
-    let done = text_write::write(words, corners, text);
+    let done = text_write::write(words, corners, text, pitch);
     let result = done.answer;
     *place = result.place();
     *bytes = done.bytes;

@@ -7,10 +7,10 @@ use Rattle.bench_printed.proofs.coordinates.Statement.{statement}
 use Rattle.bench_printed.proofs.coordinates.Tie as tie
 
 abbrev Inv-loop : tie.InvT-loop
-Inv-loop words i₀ i = (length words ≡ 24) × (i ≤ 24)
+Inv-loop pitch words i₀ i = (length words ≡ 24) × (i ≤ 24)
 
 abbrev μ-loop : tie.MeasureT-loop
-μ-loop words i₀ i = 24 - i
+μ-loop pitch words i₀ i = 24 - i
 
 loop-holds : tie.Need-loop-holds Inv-loop μ-loop
 loop-holds c = search needs

@@ -35,17 +35,17 @@ not-done r e = true≢false (sym r ∙ ap refusing e)
 told-of : {a r : Answer} {t u : Bool} → a ≡ r → t ≡ refusing a → t ≡ u → refusing r ≡ u
 told-of e q f = ap refusing (sym e) ∙ sym q ∙ f
 
-past-buffers : (words corners lent needs : List ℕ) → refusing (bufferRefusal lent needs) ≡ false
-    → contentRefusal words corners lent needs ≡ thenCheck (cornerRefusal corners (length words / 3)) (wordRefusal words)
+past-buffers : (pitch : ℕ) (words corners lent needs : List ℕ) → refusing (bufferRefusal lent needs) ≡ false
+    → contentRefusal pitch words corners lent needs ≡ thenCheck (cornerRefusal corners (length words / 3)) (wordRefusal pitch words)
 unfolding contentRefusal
-past-buffers words corners lent needs f = then-next (bufferRefusal lent needs) _ f
+past-buffers pitch words corners lent needs f = then-next (bufferRefusal lent needs) _ f
 
 -- the corners were checked by the count of points
 by-points : {corners table : List ℕ} {a : Answer} {n m : ℕ} → n ≡ m → CornersChecked corners n a table → CornersChecked corners m a table
 by-points {corners} {table} {a} e k = subst (λ (x : ℕ). CornersChecked corners x a table) e k
 
-module _ {words corners lent needs : List ℕ} {b : Answer} {t : Bool} (eb : b ≡ bufferRefusal lent needs) (tb : t ≡ refusing b) where
-  pub buffers-refuse : {table : List ℕ} → t ≡ true → Checked words corners lent needs b table
+module _ {pitch : ℕ} {words corners lent needs : List ℕ} {b : Answer} {t : Bool} (eb : b ≡ bufferRefusal lent needs) (tb : t ≡ refusing b) where
+  pub buffers-refuse : {table : List ℕ} → t ≡ true → Checked pitch words corners lent needs b table
   unfolding contentRefusal
   buffers-refuse r = record {
     said = eb ∙ sym (then-refused (bufferRefusal lent needs) _ (told-of eb tb r));
@@ -53,18 +53,18 @@ module _ {words corners lent needs : List ℕ} {b : Answer} {t : Bool} (eb : b �
   }
 
   module _ {a : Answer} {u : Bool} {table : List ℕ} {n : ℕ} (fb : t ≡ false) (points : n ≡ length words / 3) (checked : CornersChecked corners n a table) (ta : u ≡ refusing a) where
-    pub corners-refuse : u ≡ true → Checked words corners lent needs a table
+    pub corners-refuse : u ≡ true → Checked pitch words corners lent needs a table
     corners-refuse r = let k = by-points points checked in record {
-      said = k .said ∙ sym (past-buffers words corners lent needs (told-of eb tb fb) ∙ then-refused (cornerRefusal corners (length words / 3)) _ (told-of (k .said) ta r));
+      said = k .said ∙ sym (past-buffers pitch words corners lent needs (told-of eb tb fb) ∙ then-refused (cornerRefusal corners (length words / 3)) _ (told-of (k .said) ta r));
       passed = λ d. absurd (not-done (sym ta ∙ r) d);
     }
 
-    pub words-decide : {w : Answer} → u ≡ false → w ≡ wordRefusal words → Checked words corners lent needs w table
+    pub words-decide : {w : Answer} → u ≡ false → w ≡ wordRefusal pitch words → Checked pitch words corners lent needs w table
     words-decide f e = let k = by-points points checked in record {
-      said = e ∙ sym (past-buffers words corners lent needs (told-of eb tb fb) ∙ then-next (cornerRefusal corners (length words / 3)) _ (told-of (k .said) ta f));
+      said = e ∙ sym (past-buffers pitch words corners lent needs (told-of eb tb fb) ∙ then-next (cornerRefusal corners (length words / 3)) _ (told-of (k .said) ta f));
       passed = λ d. record {
         long = buffers-long lent needs (done-of (bufferRefusal lent needs) (buffer-passing lent needs) (told-of eb tb fb));
         woven = k .woven (k .said ∙ done-of (cornerRefusal corners (length words / 3)) (corner-passing corners (length words / 3)) (told-of (k .said) ta f));
-        on-grid = let p = words-pass words (sym e ∙ d) in record { numbers = p .0; near = p .1 };
+        on-grid = let p = words-pass pitch words (sym e ∙ d) in record { numbers = p .0; near = p .1 };
       };
     }

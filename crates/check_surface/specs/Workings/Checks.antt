@@ -27,12 +27,12 @@ pub record Fitted (words corners table : List ℕ) : Type 0 where
   pub long : length corners ≤ length table
 
 -- what is known of a surface that passed 1 to 8
-pub record Passed (words corners lent needs table : List ℕ) : Type 0 where
+pub record Passed (pitch : ℕ) (words corners lent needs table : List ℕ) : Type 0 where
   pub long : (i : ℕ) → i < length needs → getD needs i 0 ≤ getD lent i 0
   pub woven : Woven corners (length words / 3) table
-  pub on-grid : OnGrid words
+  pub on-grid : OnGrid pitch words
 
 -- what checking from 3 on answers
-pub record Checked (words corners lent needs : List ℕ) (answer : Answer) (table : List ℕ) : Type 0 where
-  pub said : answer ≡ contentRefusal words corners lent needs
-  pub passed : answer ≡ Done → Passed words corners lent needs table
+pub record Checked (pitch : ℕ) (words corners lent needs : List ℕ) (answer : Answer) (table : List ℕ) : Type 0 where
+  pub said : answer ≡ contentRefusal pitch words corners lent needs
+  pub passed : answer ≡ Done → Passed pitch words corners lent needs table

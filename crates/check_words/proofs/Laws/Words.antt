@@ -35,30 +35,30 @@ beyond (TooFar x) = true
 far : (f : Bool) (n : ℕ) (t u : Bool) → f ≡ t → ltb greatest n ≡ u → (f && ltb greatest n) ≡ (t && u)
 far f n t u p q = rw (p, q)
 
-lands-far : {x : Float} {k : ℤ} → Lands 1 x k → (finite x && ltb greatest (natAbs (whole 1 (units x)))) ≡ false
-lands-far {x} {k} l = far (finite x) (natAbs (whole 1 (units x))) true false (is-true (finite x) (l .number)) (le-ltb greatest (natAbs (whole 1 (units x))) (subst (λ (z : ℤ). natAbs z ≤ greatest) (l .nearest) (l .within)))
+lands-far : {pitch : ℕ} {x : Float} {k : ℤ} → Lands pitch x k → (finite x && ltb greatest (natAbs (whole pitch (units x)))) ≡ false
+lands-far {pitch} {x} {k} l = far (finite x) (natAbs (whole pitch (units x))) true false (is-true (finite x) (l .number)) (le-ltb greatest (natAbs (whole pitch (units x))) (subst (λ (z : ℤ). natAbs z ≤ greatest) (l .nearest) (l .within)))
 
-module _ (words : List ℕ) (i : ℕ) where
+module _ (pitch : ℕ) (words : List ℕ) (i : ℕ) where
   abbrev x : Float
   x = ofBits binary32 (getD words i 0)
 
-  pub not-finite-is : (a : Coordinate) → Places 1 x a → notFinite words i ≡ noNumber a
+  pub not-finite-is : (a : Coordinate) → Places pitch x a → notFinite words i ≡ noNumber a
   unfolding notFinite
   not-finite-is (Exact k) p = ap not (is-true (finite x) (p .0 .number))
   not-finite-is (Shifted k d) p = ap not (is-true (finite x) (p .0 .number))
   not-finite-is NotFinite p = is-true (not (finite x)) p
   not-finite-is (TooFar y) p = ap not (is-true (finite x) (p .0))
 
-  pub too-far-is : (a : Coordinate) → Places 1 x a → tooFar words i ≡ beyond a
+  pub too-far-is : (a : Coordinate) → Places pitch x a → tooFar pitch words i ≡ beyond a
   unfolding tooFar
   too-far-is (Exact k) p = lands-far (p .0)
   too-far-is (Shifted k d) p = lands-far (p .0)
-  too-far-is NotFinite p = far (finite x) (natAbs (whole 1 (units x))) false (ltb greatest (natAbs (whole 1 (units x)))) (is-false (finite x) p) refl
-  too-far-is (TooFar y) p = far (finite x) (natAbs (whole 1 (units x))) true true (is-true (finite x) (p .0)) (lt-ltb greatest (natAbs (whole 1 (units x))) (p .1))
+  too-far-is NotFinite p = far (finite x) (natAbs (whole pitch (units x))) false (ltb greatest (natAbs (whole pitch (units x)))) (is-false (finite x) p) refl
+  too-far-is (TooFar y) p = far (finite x) (natAbs (whole pitch (units x))) true true (is-true (finite x) (p .0)) (lt-ltb greatest (natAbs (whole pitch (units x))) (p .1))
 
-  pub off-grid-is : offGrid words i ≡ isOff x
+  pub off-grid-is : offGrid pitch words i ≡ isOff pitch x
   unfolding offGrid notFinite tooFar isOff
-  off-grid-is = go (finite x) (ltb greatest (natAbs (whole 1 (units x))))
+  off-grid-is = go (finite x) (ltb greatest (natAbs (whole pitch (units x))))
     where
       go : (f t : Bool) → (not f || (f && t)) ≡ (not f || t)
       go true t = refl

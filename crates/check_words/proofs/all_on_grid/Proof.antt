@@ -3,6 +3,9 @@ use Prim.Native.Nat.{_≤_, _-_}
 use mathlib.Core.Path.{_≡_}
 use mathlib.Core.Bool.{not}
 use lib.ListN.{length}
+use Rattle.base_types.specs.Pitches.{pitchOf}
+use Rattle.base_types.specs.declared.Pitch.{Pitch}
+use Rattle.grid_place.specs.Workings.Ends.{endOf}
 use Rattle.surface_rules.specs.Smallest.{least, any}
 use Rattle.surface_rules.specs.Refusals.{offGrid}
 use Rattle.surface_rules.proofs.Laws.Passes.{all-none, all-more, all-end}
@@ -11,10 +14,10 @@ use Rattle.check_words.proofs.all_on_grid.Statement.{statement}
 use Rattle.check_words.proofs.all_on_grid.Tie as tie
 
 abbrev Inv-loop : tie.InvT-loop
-Inv-loop words all₀ i₀ all i = (i ≤ length words) × (all ≡ not (any (least (offGrid words) i)))
+Inv-loop words end all₀ i₀ all i = (i ≤ length words) × ((p : Pitch) → end ≡ endOf p → all ≡ not (any (least (offGrid (pitchOf p) words) i)))
 
 abbrev μ-loop : tie.MeasureT-loop
-μ-loop words all₀ i₀ all i = length words - i
+μ-loop words end all₀ i₀ all i = length words - i
 
 abbrev to-at-loop : tie.After-is-off-grid Inv-loop μ-loop → tie.At-loop Inv-loop μ-loop
 to-at-loop p = search
@@ -23,9 +26,10 @@ pub all-on-grid-spec : {M : Type 1} → statement M
 all-on-grid-spec =
     tie.close
     (tie.spec Inv-loop μ-loop
-    (λ c. (search needs, all-none _))
+    (λ c κs. search needs)
+    (λ c. (search needs, λ p e. all-none _))
     (λ c κs. search needs)
     (λ c. search needs)
     (λ c. search needs)
-    (λ c. (search needs, all-more _ _ _ _ (to-at-loop c .loop .inv .1) (c .is-off-grid .ensures)))
-    (λ c. all-end _ _ _ _ (c .before .loop .inv .1) (search needs)))
+    (λ c. (search needs, λ p e. all-more _ _ _ _ (to-at-loop c .loop .inv .1 p e) (c .is-off-grid .ensures p e)))
+    (λ c. let k : tie.After-end-of Inv-loop μ-loop = search in all-end _ _ _ _ (c .before .loop .inv .1 _ (k .end-of .ensures)) (search needs)))

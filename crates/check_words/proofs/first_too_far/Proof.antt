@@ -2,6 +2,7 @@
 use Prim.Native.Nat.{_≤_, _-_}
 use mathlib.Core.Path.{_≡_, sym, ap, _∙_}
 use lib.ListN.{length}
+use Rattle.base_types.specs.Pitches.{pitchOf}
 use Rattle.surface_rules.specs.declared.Found.the-variants.{Nothing}
 use Rattle.surface_rules.specs.Smallest.{least}
 use Rattle.surface_rules.specs.Refusals.{tooFar}
@@ -11,10 +12,10 @@ use Rattle.check_words.proofs.first_too_far.Statement.{statement}
 use Rattle.check_words.proofs.first_too_far.Tie as tie
 
 abbrev Inv-loop : tie.InvT-loop
-Inv-loop words i₀ i = (i ≤ length words) × (least (tooFar words) i ≡ Nothing)
+Inv-loop words pitch i₀ i = (i ≤ length words) × (least (tooFar (pitchOf pitch) words) i ≡ Nothing)
 
 abbrev μ-loop : tie.MeasureT-loop
-μ-loop words i₀ i = length words - i
+μ-loop words pitch i₀ i = length words - i
 
 abbrev to-at-loop : tie.After-is-too-far Inv-loop μ-loop → tie.At-loop Inv-loop μ-loop
 to-at-loop p = search

@@ -20,13 +20,13 @@ is-not-finite-spec =
     (λ c. search needs)
     (λ c.
     let after-place : tie.After-place = search in
-    sym (not-finite-is _ _ (Exact _) (subst (Places 1 _) (c .enum-told .given .1) (after-place .place .ensures))))
+    sym (not-finite-is 1 _ _ (Exact _) (subst (Places 1 _) (c .enum-told .given .1) (after-place .place .ensures))))
     (λ c.
     let after-place : tie.After-place = search in
-    sym (not-finite-is _ _ (Shifted _ _) (subst (Places 1 _) (c .enum-told2 .given .1) (after-place .place .ensures))))
+    sym (not-finite-is 1 _ _ (Shifted _ _) (subst (Places 1 _) (c .enum-told2 .given .1) (after-place .place .ensures))))
     (λ c.
     let after-place : tie.After-place = search in
-    sym (not-finite-is _ _ NotFinite (subst (Places 1 _) (c .enum-told3 .given .1) (after-place .place .ensures))))
+    sym (not-finite-is 1 _ _ NotFinite (subst (Places 1 _) (c .enum-told3 .given .1) (after-place .place .ensures))))
     (λ c.
     let after-place : tie.After-place = search in
-    sym (not-finite-is _ _ (TooFar _) (subst (Places 1 _) (c .enum-told4 .given .1) (after-place .place .ensures)))))
+    sym (not-finite-is 1 _ _ (TooFar _) (subst (Places 1 _) (c .enum-told4 .given .1) (after-place .place .ensures)))))

@@ -20,13 +20,13 @@ is-too-far-spec =
     (λ c. search needs)
     (λ c.
     let after-place : tie.After-place = search in
-    sym (too-far-is _ _ (Exact _) (subst (Places 1 _) (c .enum-told .given .1) (after-place .place .ensures))))
+    sym (too-far-is _ _ _ (Exact _) (subst (Places _ _) (c .enum-told .given .1) (after-place .place .ensures))))
     (λ c.
     let after-place : tie.After-place = search in
-    sym (too-far-is _ _ (Shifted _ _) (subst (Places 1 _) (c .enum-told2 .given .1) (after-place .place .ensures))))
+    sym (too-far-is _ _ _ (Shifted _ _) (subst (Places _ _) (c .enum-told2 .given .1) (after-place .place .ensures))))
     (λ c.
     let after-place : tie.After-place = search in
-    sym (too-far-is _ _ NotFinite (subst (Places 1 _) (c .enum-told3 .given .1) (after-place .place .ensures))))
+    sym (too-far-is _ _ _ NotFinite (subst (Places _ _) (c .enum-told3 .given .1) (after-place .place .ensures))))
     (λ c.
     let after-place : tie.After-place = search in
-    sym (too-far-is _ _ (TooFar _) (subst (Places 1 _) (c .enum-told4 .given .1) (after-place .place .ensures)))))
+    sym (too-far-is _ _ _ (TooFar _) (subst (Places _ _) (c .enum-told4 .given .1) (after-place .place .ensures)))))

@@ -8,6 +8,6 @@ use Rattle.surface_rules.specs.Smallest.{least}
 use Rattle.surface_rules.specs.Refusals.{notFinite, tooFar}
 
 -- what holds of the words once the refusals 7 and 8 were not given
-pub record OnGrid (words : List ℕ) : Type 0 where
+pub record OnGrid (pitch : ℕ) (words : List ℕ) : Type 0 where
   pub numbers : least (notFinite words) (length words) ≡ Nothing
-  pub near : least (tooFar words) (length words) ≡ Nothing
+  pub near : least (tooFar pitch words) (length words) ≡ Nothing

@@ -9,7 +9,7 @@ use lib.ListN.{length, set, length-set}
 use lib.Seq.{getD-set-same, getD-set-other}
 use borrow.Author.Count.{below-more}
 use lib.Ieee.{Float, nan, binary64, add, lt}
-use Rattle.cover_floats.specs.Workings.Whole.{sizeOf}
+use Rattle.grid_floats.specs.Workings.Whole.{sizeOf}
 use Rattle.cover_column.specs.Workings.Columns.{cell, lesserOf, Reaches, farFloat, noughtFloat, productOf, ProductsRoom, Multiplied, gapOf, byWay, WayRoom, RelaxRoom, Relaxed}
 
 pub lesser-first : (a b : Float) → lt a b ≡ true → a ≡ lesserOf a b

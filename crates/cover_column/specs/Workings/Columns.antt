@@ -7,7 +7,7 @@ use lib.ListN.{length, getD}
 use lib.IntN.{ℤ}
 use lib.Ieee.{Float, nan, binary64, ofBits, add, sub, mul, lt}
 use Rattle.base_limits.specs.Limits as limits
-use Rattle.cover_floats.specs.Workings.Whole.{Whole, sizeOf}
+use Rattle.grid_floats.specs.Workings.Whole.{Whole, sizeOf}
 
 -- element i of an array of floats
 abbrev pub cell : List Float → ℕ → Float

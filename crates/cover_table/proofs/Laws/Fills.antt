@@ -12,9 +12,9 @@ use lib.ListN.{length}
 use lib.Ieee.{Float}
 use Rattle.cover_weight.specs.declared.Point.{Point}
 use Rattle.cover_weight.specs.Weight.{Coordinate, OnGrid}
-use Rattle.cover_floats.specs.Workings.Whole.{Whole, Natural}
-use Rattle.cover_floats.proofs.Laws.Sums.{whole-sub, whole-mul}
-use Rattle.cover_floats.proofs.Laws.Casts.{natural-nought}
+use Rattle.grid_floats.specs.Workings.Whole.{Whole, Natural}
+use Rattle.grid_floats.proofs.Laws.Sums.{whole-sub, whole-mul}
+use Rattle.grid_floats.proofs.Laws.Casts.{natural-nought}
 use Rattle.cover_column.specs.Workings.Columns.{cell, noughtFloat, Table, row, productOf, Multiplied, Copied}
 use Rattle.cover_column.proofs.Laws.Rows.{row-more, table-fewer, table-kept}
 use Rattle.cover_table.specs.Workings.Products.{pair, pairX, pairY, pairZ}

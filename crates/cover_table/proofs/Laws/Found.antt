@@ -15,8 +15,8 @@ use Rattle.cover_rules.specs.Workings.Least.{Least}
 use Rattle.cover_weight.specs.declared.Point.{Point}
 use Rattle.cover_weight.specs.Edition.{naturals, triOf, along}
 use Rattle.cover_weight.proofs.Laws.Named.{named-on-grid}
-use Rattle.cover_floats.proofs.Laws.Orders.{natural-less}
-use Rattle.cover_floats.proofs.Laws.Casts.{natural-in-unsigned, natural-to-unsigned}
+use Rattle.grid_floats.proofs.Laws.Orders.{natural-less}
+use Rattle.grid_floats.proofs.Laws.Casts.{natural-in-unsigned, natural-to-unsigned}
 use Rattle.cover_column.specs.Workings.Columns.{cell, farFloat, row, quarterOf}
 use Rattle.cover_column.proofs.Laws.Rows.{row-more}
 use Rattle.cover_table.specs.declared.Least.the-variants.{Weight, Nothing}

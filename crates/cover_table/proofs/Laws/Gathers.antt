@@ -12,8 +12,8 @@ use mir.Syntax.{w32}
 use mir.Val.{toZ, ofZ}
 use Rattle.cover_weight.specs.Weight.{Coordinates, pointOf}
 use Rattle.cover_weight.specs.Edition.{along}
-use Rattle.cover_floats.specs.Workings.Whole.{Whole}
-use Rattle.cover_floats.proofs.Laws.Casts.{whole-of-word}
+use Rattle.grid_floats.specs.Workings.Whole.{Whole}
+use Rattle.grid_floats.proofs.Laws.Casts.{whole-of-word}
 use Rattle.cover_column.proofs.Laws.Columns.{cells-more}
 use Rattle.cover_table.specs.Workings.Table.{Points}
 use Rattle.cover_table.specs.Workings.Loops.{GatherRoom}

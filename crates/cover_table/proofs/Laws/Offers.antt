@@ -10,7 +10,7 @@ use lib.Ieee.{Float, lt}
 use borrow.Author.Tests.{ltb-false}
 use Rattle.base_limits.specs.Limits.{longest}
 use Rattle.cover_weight.specs.declared.Point.{Point}
-use Rattle.cover_floats.proofs.Laws.Orders.{natural-less}
+use Rattle.grid_floats.proofs.Laws.Orders.{natural-less}
 use Rattle.cover_bits.specs.Workings.Masks.{bit}
 use Rattle.cover_column.specs.Workings.Columns.{cell, farFloat, row, RelaxRoom, Relaxed}
 use Rattle.cover_column.proofs.Laws.Rows.{row-next, row-more}

@@ -19,11 +19,11 @@ use Rattle.cover_weight.specs.Weight.{weightOf}
 use Rattle.cover_weight.specs.Edition.{naturals, triOf}
 use Rattle.cover_weight.proofs.Laws.Near.{most}
 use Rattle.cover_weight.proofs.Laws.Totals.{cover-below}
-use Rattle.cover_floats.specs.Workings.Whole.{Whole, Natural}
-use Rattle.cover_floats.proofs.Laws.Sums.{whole-add, whole-sub, natural-add}
-use Rattle.cover_floats.proofs.Laws.Orders.{natural-less}
-use Rattle.cover_floats.proofs.Laws.Clearing.{whole-size}
-use Rattle.cover_floats.proofs.Laws.Casts.{natural-far}
+use Rattle.grid_floats.specs.Workings.Whole.{Whole, Natural}
+use Rattle.grid_floats.proofs.Laws.Sums.{whole-add, whole-sub, natural-add}
+use Rattle.grid_floats.proofs.Laws.Orders.{natural-less}
+use Rattle.grid_floats.proofs.Laws.Clearing.{whole-size}
+use Rattle.grid_floats.proofs.Laws.Casts.{natural-far}
 use Rattle.cover_bits.specs.Workings.Masks.{bit}
 use Rattle.cover_column.specs.Workings.Columns.{cell, farFloat, Table, row, gapOf, byWay, Sizable, RelaxRoom, Relaxed, lesserOf}
 use Rattle.cover_column.proofs.Laws.Rows.{row-next, row-more, table-kept}

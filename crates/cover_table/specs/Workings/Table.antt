@@ -10,7 +10,7 @@ use Rattle.base_limits.specs.Limits as limits
 use Rattle.cover_weight.specs.declared.Point.{Point}
 use Rattle.cover_weight.specs.Weight.{OnGrid}
 use Rattle.cover_weight.specs.Edition.{triOf}
-use Rattle.cover_floats.specs.Workings.Whole.{Whole, Natural}
+use Rattle.grid_floats.specs.Workings.Whole.{Whole, Natural}
 use Rattle.cover_bits.specs.Workings.Masks.{Rows}
 use Rattle.cover_column.specs.Workings.Columns.{cell, farFloat, Table, row}
 use Rattle.cover_table.specs.Workings.Products.{pairX, pairY, pairZ}

@@ -9,7 +9,7 @@ use lib.Ieee.{Float, binary64, add, lt, le}
 use Rattle.base_limits.specs.Limits.{longest}
 use Rattle.surface_rules.specs.Buffers.{laid}
 use Rattle.surface_rules.proofs.Laws.Laid.{laid-none, laid-more}
-use Rattle.cover_floats.specs.Workings.Whole.{sizeOf}
+use Rattle.grid_floats.specs.Workings.Whole.{sizeOf}
 use Rattle.cover_column.specs.Workings.Columns.{cell, row}
 use Rattle.cover_trace.specs.Workings.Ways.{gapX, gapY, gapZ, triangleOf, TriangleRoom, Weighable, IsWay}
 use Rattle.cover_trace.proofs.Laws.Ways.{place-in, short, triangle-room, parts-heavy, way-is, way-is-not}

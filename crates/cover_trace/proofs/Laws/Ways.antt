@@ -15,10 +15,10 @@ use Rattle.cover_weight.specs.declared.Point.{Point}
 use Rattle.cover_weight.specs.Weight.{weightOf}
 use Rattle.cover_weight.specs.Edition.{naturals, triOf}
 use Rattle.cover_weight.proofs.Laws.Near.{most}
-use Rattle.cover_floats.specs.Workings.Whole.{Whole, Natural}
-use Rattle.cover_floats.proofs.Laws.Sums.{natural-add}
-use Rattle.cover_floats.proofs.Laws.Orders.{natural-less, natural-at-most}
-use Rattle.cover_floats.proofs.Laws.Clearing.{whole-size}
+use Rattle.grid_floats.specs.Workings.Whole.{Whole, Natural}
+use Rattle.grid_floats.proofs.Laws.Sums.{natural-add}
+use Rattle.grid_floats.proofs.Laws.Orders.{natural-less, natural-at-most}
+use Rattle.grid_floats.proofs.Laws.Clearing.{whole-size}
 use Rattle.cover_column.specs.Workings.Columns.{cell, row, Table}
 use Rattle.cover_column.proofs.Laws.Rows.{row-more}
 use Rattle.cover_table.specs.Workings.Products.{pairX, pairY, pairZ}

@@ -8,7 +8,7 @@ use lib.Ieee.{Float, binary64, add, sub}
 use Rattle.cover_rules.specs.Workings.Least.{Least, MadeAt}
 use Rattle.cover_weight.specs.declared.Point.{Point}
 use Rattle.cover_weight.specs.Edition.{naturals, triOf}
-use Rattle.cover_floats.specs.Workings.Whole.{Whole, sizeOf}
+use Rattle.grid_floats.specs.Workings.Whole.{Whole, sizeOf}
 use lib.ListN.{length}
 use Rattle.cover_column.specs.Workings.Columns.{cell}
 use Rattle.cover_table.specs.Workings.Table.{OnLoop, Filled}

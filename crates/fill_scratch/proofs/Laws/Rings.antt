@@ -47,21 +47,21 @@ second-false : (s t : Bool) → s ≡ true → (s && t) ≡ false → t ≡ fals
 second-false true t e h = h
 second-false false t e h = absurd (true≢false (sym e))
 
-word-near : (words : List ℕ) → OnGrid words → (j : ℕ) → j < length words → Coordinate (wholeOf (getD words j 0))
+word-near : (pitch : ℕ) (words : List ℕ) → OnGrid pitch words → (j : ℕ) → j < length words → Coordinate (wholeOf pitch (getD words j 0))
 unfolding notFinite tooFar wholeOf
-word-near words on j l =
+word-near pitch words on j l =
     let x = ofBits binary32 (getD words j 0) in
     ltb-false _ _
-    (second-false (finite x) (ltb limits.greatest (natAbs (whole 1 (units x))))
-    (not-false _ (least-never (notFinite words) (length words) (on .numbers) j l)) (least-never (tooFar words) (length words) (on .near) j l))
+    (second-false (finite x) (ltb limits.greatest (natAbs (whole pitch (units x))))
+    (not-false _ (least-never (notFinite words) (length words) (on .numbers) j l)) (least-never (tooFar pitch words) (length words) (on .near) j l))
 
-coordinates-of : (words : List ℕ) → OnGrid words → Coordinates (gridOf words)
-coordinates-of words on j =
-    ⊎-elim (λ l. subst Coordinate (sym (map-at wholeOf 0 (pos 0) words j l)) (word-near words on j l))
+coordinates-of : (pitch : ℕ) (words : List ℕ) → OnGrid pitch words → Coordinates (gridOf pitch words)
+coordinates-of pitch words on j =
+    ⊎-elim (λ l. subst Coordinate (sym (map-at (wholeOf pitch) 0 (pos 0) words j l)) (word-near pitch words on j l))
     (λ m.
-    let n : length (gridOf words) ≤ j = omega (arith, length-map words wholeOf) in
+    let n : length (gridOf pitch words) ≤ j = omega (arith, length-map words (wholeOf pitch)) in
     let z : 0 ≤ limits.greatest = omega arith in
-    subst Coordinate (sym (List·getD-eq-default (gridOf words) (pos 0) n)) z)
+    subst Coordinate (sym (List·getD-eq-default (gridOf pitch words) (pos 0) n)) z)
     (lt-or-le j (length words))
 
 -- ---- a half-edge of the input is an edge between its ends
@@ -72,7 +72,7 @@ joined corners u v e l s t = or-left _ _ (index-any _ (length corners) e l (goes
 
 -- ---- the ring of one loop
 
-module _ (words corners table : List ℕ) (woven : Woven corners (length words / 3) table) (on : OnGrid words) (few-words : length words ≤ limits.words) (l : ℕ) (below : l < length (loops corners)) where
+module _ (pitch : ℕ) (words corners table : List ℕ) (woven : Woven corners (length words / 3) table) (on : OnGrid pitch words) (few-words : length words ≤ limits.words) (l : ℕ) (below : l < length (loops corners)) where
   abbrev loop : List ℕ
   loop = getD (loops corners) l []
 
@@ -107,11 +107,11 @@ module _ (words corners table : List ℕ) (woven : Woven corners (length words /
   unfolding Distinct
   apart-of = no-vertex-twice corners (woven .sound) l below
 
-  ring-of : RingOf (gridOf words) corners (ring corners loop)
+  ring-of : RingOf (gridOf pitch words) corners (ring corners loop)
   ring-of =
       record {
-        coordinates = coordinates-of words on;
-        named = λ j k. let p : getD (ring corners loop) j 0 < length words / 3 = point j k in omega (arith, length-map words wholeOf);
+        coordinates = coordinates-of pitch words on;
+        named = λ j k. let p : getD (ring corners loop) j 0 < length words / 3 = point j k in omega (arith, length-map words (wholeOf pitch));
         inside = λ j k. let p : getD (ring corners loop) j 0 < length words / 3 = point j k in omega arith;
         three = omega (arith, long, three);
         apart = apart-of;
@@ -121,15 +121,15 @@ module _ (words corners table : List ℕ) (woven : Woven corners (length words /
 
 -- ---- all loops
 
-pub loops-of : (words corners table : List ℕ) → Woven corners (length words / 3) table → OnGrid words → length words ≤ limits.words → length corners ≤ limits.corners
-    → Loops (gridOf words) corners (ringList corners) (ringsOf corners (loops corners)) (map length (loops corners))
+pub loops-of : (pitch : ℕ) (words corners table : List ℕ) → Woven corners (length words / 3) table → OnGrid pitch words → length words ≤ limits.words → length corners ≤ limits.corners
+    → Loops (gridOf pitch words) corners (ringList corners) (ringsOf corners (loops corners)) (map length (loops corners))
 unfolding ringsOf
-loops-of words corners table woven on few-words few-corners =
+loops-of pitch words corners table woven on few-words few-corners =
     let n : length (ringList corners) ≡ length (loops corners) = length-map (loops corners) (ring corners) in
     record {
       rings-are = refl;
       lengths-are = lengths-kept corners (loops corners);
-      each = λ l k. subst (RingOf (gridOf words) corners) (sym (List·getD-map (ring corners) (loops corners) l [])) (ring-of words corners table woven on few-words l (omega arith));
+      each = λ l k. subst (RingOf (gridOf pitch words) corners) (sym (List·getD-map (ring corners) (loops corners) l [])) (ring-of pitch words corners table woven on few-words l (omega arith));
       few = omega (arith, vertices-in-all corners (woven .sound), vertices-few corners (woven .sound));
       few-loops = omega (arith, n, loops-third corners (woven .sound));
     }

@@ -10,11 +10,11 @@ use lib.Arith.{lt-of-le-ne}
 use lib.Dec.{T, ltb, leb, eqb, ltb→lt, lt→ltb, le→leb, nltb→le, eqb→eq, not-T, lit<}
 use lib.Pow.{pow-add, pow-pos, pow-mono, pow-lt, shl-lt}
 use lib.IntN.{ℤ, pos, negℤ, natAbs, _-ℤ_, pos-ne-negsuc}
-use lib.Ieee.{Float, nan, inf, fin, Format, binary32, low, up, down, size, round, sum, add, neg, sub, ofInt, eq, level, inFloat, ofBits, ofFields, odd, nanBits}
+use lib.Ieee.{Float, nan, inf, fin, Format, binary32, binary64, prec, emax, low, up, down, size, round, sum, add, neg, sub, ofInt, eq, level, inFloat, ofBits, ofFields, odd, nanBits}
 use lib.Ieee.Digits.{size-le, size-lt}
 use borrow.Author.Tests.{lt-ltb}
 use lib.Ieee.Nearest.{closest, closest-same}
-use lib.Ieee.Fits.{down-pos, round-fits, ofInt-fits, and-i, and-l, and-r, eq→eqb, nearest-le}
+use lib.Ieee.Fits.{two, down-pos, round-fits, ofInt-fits, and-i, and-l, and-r, eq→eqb, nearest-le}
 use lib.Ieee.Exact.{HasValue, round-exact, odd-sign}
 use lib.Ieee.Scale.{finite, round-same, round-val, grid}
 use lib.Ieee.Back.{round-whole, whole-unique}
@@ -213,17 +213,21 @@ module _ (A B q j : ℕ) (small : q < 2 ^ 24) (H : j ≤ 149) (e : apart A B ≡
 
 -- ---- a whole number as a float
 
+-- how many of a format's smallest values a whole number has
+abbrev pub fine : Format → ℕ
+fine f = 2 ^ low f
+
 -- the sign that it has as a float: 0 has none
-pub sign-of : Bool → ℕ → Bool
+unfoldable pub sign-of : Bool → ℕ → Bool
 sign-of s zero = false
 sign-of s (suc n) = s
 
-pub of-int : (s : Bool) (n : ℕ) → n ≤ 2 ^ 24 → HasValue (ofInt binary32 (signed s n)) (sign-of s n) (n * one) one
+pub of-int : (f : Format) (s : Bool) (n : ℕ) → n ≤ 2 ^ prec f → HasValue (ofInt f (signed s n)) (sign-of s n) n 1
 unfolding ofInt sign-of
-of-int false zero h = whole-value (round binary32 false 0 1) false 0 one (round-whole binary32 false 0 h)
-of-int false (suc n) h = whole-value (round binary32 false (suc n) 1) false (suc n) one (round-whole binary32 false (suc n) h)
-of-int true zero h = whole-value (round binary32 false 0 1) false 0 one (round-whole binary32 false 0 h)
-of-int true (suc n) h = whole-value (round binary32 true (suc n) 1) true (suc n) one (round-whole binary32 true (suc n) h)
+of-int f false zero h = round-whole f false 0 h
+of-int f false (suc n) h = round-whole f false (suc n) h
+of-int f true zero h = round-whole f false 0 h
+of-int f true (suc n) h = round-whole f true (suc n) h
 
 pub sign-kept : (s : Bool) (n u : ℕ) → signed (sign-of s n) (n * u) ≡ signed s (n * u)
 unfolding sign-of
@@ -232,17 +236,19 @@ sign-kept false (suc n) u = refl
 sign-kept true zero u = ap pos (zero-mul u) ∙ sym (ap (λ (x : ℕ). negℤ (pos x)) (zero-mul u))
 sign-kept true (suc n) u = refl
 
-pub in-float : (s : Bool) (n : ℕ) → n ≤ 2 ^ 24 → T (inFloat binary32 (signed s n))
+pub in-float : (f : Format) (s : Bool) (n : ℕ) → n ≤ 2 ^ prec f → T (inFloat f (signed s n))
 unfolding inFloat
-in-float false n h = le→leb n (2 ^ 24) h
-in-float true zero h = tt
-in-float true (suc n) h = lt→ltb n (2 ^ 24) h
+in-float f false n h = le→leb n (2 ^ prec f) h
+in-float f true zero h = le→leb 0 (2 ^ prec f) h
+in-float f true (suc n) h = lt→ltb n (2 ^ prec f) h
 
 -- A float less a whole number of its own sign is exact, where their distance has 24 digits and j zeros.
 pub less-whole : (x : Float) (s : Bool) (A K q j : ℕ) → HasValue x s A one → K ≤ 2 ^ 24 → q < 2 ^ 24 → j ≤ 149 → apart A (K * one) ≡ q * 2 ^ j
     → Is (sub binary32 x (ofInt binary32 (signed s K))) (signed s A -ℤ signed s (K * one))
 unfolding sign-of sum
-less-whole x s A K q j v h small H e = subst (λ (r : Float). Is r (signed s A -ℤ signed s (K * one))) (sym (sub-is binary32 x (ofInt binary32 (signed s K)) s (sign-of s K) A (K * one) one (pow-pos 149) v (of-int s K h))) (go s K e)
+less-whole x s A K q j v h small H e =
+    let w = whole-value (ofInt binary32 (signed s K)) (sign-of s K) K one (of-int binary32 s K h) in
+    subst (λ (r : Float). Is r (signed s A -ℤ signed s (K * one))) (sym (sub-is binary32 x (ofInt binary32 (signed s K)) s (sign-of s K) A (K * one) one (pow-pos 149) v w)) (go s K e)
   where
     plain : (u n : ℕ) → apart A (0 * u) ≡ n → A + 0 * u ≡ n
     plain u n e = omega (arith, e, zero-mul u)
@@ -265,36 +271,43 @@ unfoldable pub off : Bool → ℕ → ℕ → ℕ
 off false q a = q + a
 off true q a = q - a
 
--- From 2^23 to 2^24 a float has no binary places, so there rounding gives the nearest whole number, a tie to the even one.
-height : (z : ℕ) → z ≤ 173 → (z ≤ 172 → ⊥) → z - 24 ≡ 149
-height z h n = let g : 172 < z = lt-of-not-le n in omega arith
+-- Where the last digit that a format keeps is that of the ones, a float has no binary places, so there rounding gives the nearest whole
+-- number, a tie to the even one: from 2^23 to 2^24 in binary32, and from 2^52 to 2^53 in binary64.
+spare : (f : Format) → prec f + low f < low f + suc (emax f)
+spare binary32 = lit< tt
+spare binary64 = lit< tt
 
-pub round-high : (n : ℕ) → 2 ^ 23 * one ≤ n → n < 2 ^ 24 * one → round binary32 false n one ≡ ofInt binary32 (pos (closest n one))
-unfolding ofInt
-round-high n lo hi =
-    whole-unique binary32 (round binary32 false n one) (round binary32 false (closest n one) 1) false (closest n one) (round-fits binary32 false n one) (ofInt-fits binary32 (pos (closest n one)))
-    (value-whole (round binary32 false n one) false (closest n one) one (pow-pos 149) (subst (λ (g : ℕ). HasValue (round binary32 false n one) false g one) grid-is (round-val binary32 n one (subst (λ (g : ℕ). g < 2 ^ 277) (sym grid-is) room))))
-    (round-whole binary32 false (closest n one) most)
-  where
-    most : closest n one ≤ 2 ^ 24
-    most = le-trans (nearest-le (n / one) (compare (n % one * 2) one)) (div-lt-iff-lt-mul (pow-pos 149) .1 hi)
+module _ (f : Format) where
+  height : (z : ℕ) → z ≤ prec f + low f → (z ≤ prec f - 1 + low f → ⊥) → z - prec f ≡ low f
+  height z h n = let g : prec f - 1 + low f < z = lt-of-not-le n in omega (arith, two f)
 
-    room : closest n one * one < 2 ^ 277
-    room = lt-of-le-of-lt (mul-le-mul-right one most) (lt-of-le-of-lt (le-of-eq (sym (pow-add 2 24 149))) (pow-lt {i = 173} {j = 277} (lit< tt)))
+  module _ (n : ℕ) (lo : 2 ^ (prec f - 1) * fine f ≤ n) (hi : n < 2 ^ prec f * fine f) where
+    F : 0 < fine f
+    F = pow-pos (low f)
 
-    back : n * one / one ≡ n
-    back = mul-div-cancel n (pow-pos 149)
+    most : closest n (fine f) ≤ 2 ^ prec f
+    most = le-trans (nearest-le (n / fine f) (compare (n % fine f * 2) (fine f))) (div-lt-iff-lt-mul F .1 hi)
 
-    places : size (n * one / one) - 24 ≡ 149
+    room : closest n (fine f) * fine f < 2 ^ (low f + suc (emax f))
+    room = lt-of-le-of-lt (mul-le-mul-right (fine f) most) (lt-of-le-of-lt (le-of-eq (sym (pow-add 2 (prec f) (low f)))) (pow-lt (spare f)))
+
+    places : size (n * fine f / fine f) - prec f ≡ low f
     places =
-        ap (λ (x : ℕ). size x - 24) back
-        ∙ height (size n) (size-le n 173 (lt-of-lt-of-le hi (le-of-eq (sym (pow-add 2 24 149)))))
-        (λ h. not-le-of-lt (lt-of-lt-of-le (size-lt n) (le-trans (pow-mono h) (le-of-eq (pow-add 2 23 149)))) lo)
+        ap (λ (x : ℕ). size x - prec f) (mul-div-cancel n F)
+        ∙ height (size n) (size-le n (prec f + low f) (lt-of-lt-of-le hi (le-of-eq (sym (pow-add 2 (prec f) (low f))))))
+        (λ h. not-le-of-lt (lt-of-lt-of-le (size-lt n) (le-trans (pow-mono h) (le-of-eq (pow-add 2 (prec f - 1) (low f))))) lo)
 
-    grid-is : grid binary32 n one ≡ closest n one * one
+    grid-is : grid f n (fine f) ≡ closest n (fine f) * fine f
     grid-is =
-        ap (λ (k : ℕ). closest (n * one) (one * 2 ^ k) * 2 ^ k) places
-        ∙ ap (λ (x : ℕ). x * one) (closest-same (n * one) (one * one) n one (mul-pos (pow-pos 149) (pow-pos 149)) (pow-pos 149) (mul-assoc n one one))
+        ap (λ (k : ℕ). closest (n * fine f) (fine f * 2 ^ k) * 2 ^ k) places
+        ∙ ap (λ (x : ℕ). x * fine f) (closest-same (n * fine f) (fine f * fine f) n (fine f) (mul-pos F F) F (mul-assoc n (fine f) (fine f)))
+
+    round-high : round f false n (fine f) ≡ ofInt f (pos (closest n (fine f)))
+    unfolding ofInt
+    round-high =
+        whole-unique f (round f false n (fine f)) (round f false (closest n (fine f)) 1) false (closest n (fine f)) (round-fits f false n (fine f)) (ofInt-fits f (pos (closest n (fine f))))
+        (value-whole (round f false n (fine f)) false (closest n (fine f)) (fine f) F (subst (λ (g : ℕ). HasValue (round f false n (fine f)) false g (fine f)) grid-is (round-val f n (fine f) (subst (λ (g : ℕ). g < 2 ^ (low f + suc (emax f))) (sym grid-is) room))))
+        (round-whole f false (closest n (fine f)) most)
 
 -- a is below c, and both c - a and c + a lie from b up to e
 record Between (a b c e : ℕ) : Type 0 where
@@ -307,41 +320,37 @@ record Between (a b c e : ℕ) : Type 0 where
 between : (a b c d e : ℕ) → a < d → b + d ≤ c → c + d ≤ e → Between a b c e
 between a b c d e h l g = record { below = omega arith; from-down = omega arith; to-down = omega arith; from-up = omega arith; to-up = omega arith }
 
--- So a number below 2^22 that is added to an even whole number q between rounds to q and the whole number nearest to it.
-module _ (q : ℕ) (even : q % 2 ≡ 0) (lo : 2 ^ 23 + 2 ^ 22 ≤ q) (hi : q + 2 ^ 22 ≤ 2 ^ 24) where
-  sum-high : (s : Bool) (A : ℕ) → A < 2 ^ 22 * one → sum binary32 s A false (q * one) one ≡ ofInt binary32 (pos (off s q (closest A one)))
+-- So a number below a quarter of the upper end, added to an even whole number q that lies as far from both ends, rounds to q and the whole
+-- number nearest to it.
+module _ (f : Format) (q : ℕ) (even : q % 2 ≡ 0) (lo : 2 ^ (prec f - 1) + 2 ^ (prec f - 2) ≤ q) (hi : q + 2 ^ (prec f - 2) ≤ 2 ^ prec f) where
+  sum-high : (s : Bool) (A : ℕ) → A < 2 ^ (prec f - 2) * fine f → sum f s A false (q * fine f) (fine f) ≡ ofInt f (pos (off s q (closest A (fine f))))
   unfolding sum off
   sum-high s A h = go s
     where
-      O : 0 < one
-      O = pow-pos 149
+      F : 0 < fine f
+      F = pow-pos (low f)
 
-      low : 2 ^ 23 * one + 2 ^ 22 * one ≤ q * one
-      low = le-trans (le-of-eq (sym (add-mul (2 ^ 23) (2 ^ 22) one))) (mul-le-mul-right one lo)
+      under : 2 ^ (prec f - 1) * fine f + 2 ^ (prec f - 2) * fine f ≤ q * fine f
+      under = le-trans (le-of-eq (sym (add-mul (2 ^ (prec f - 1)) (2 ^ (prec f - 2)) (fine f)))) (mul-le-mul-right (fine f) lo)
 
-      high : q * one + 2 ^ 22 * one ≤ 2 ^ 24 * one
-      high = le-trans (le-of-eq (sym (add-mul q (2 ^ 22) one))) (mul-le-mul-right one hi)
+      upper : q * fine f + 2 ^ (prec f - 2) * fine f ≤ 2 ^ prec f * fine f
+      upper = le-trans (le-of-eq (sym (add-mul q (2 ^ (prec f - 2)) (fine f)))) (mul-le-mul-right (fine f) hi)
 
-      fit : Between A (2 ^ 23 * one) (q * one) (2 ^ 24 * one)
-      fit = between A (2 ^ 23 * one) (q * one) (2 ^ 22 * one) (2 ^ 24 * one) h low high
+      fit : Between A (2 ^ (prec f - 1) * fine f) (q * fine f) (2 ^ prec f * fine f)
+      fit = between A (2 ^ (prec f - 1) * fine f) (q * fine f) (2 ^ (prec f - 2) * fine f) (2 ^ prec f * fine f) h under upper
 
-      go : (s : Bool) → sum binary32 s A false (q * one) one ≡ ofInt binary32 (pos (off s q (closest A one)))
+      go : (s : Bool) → sum f s A false (q * fine f) (fine f) ≡ ofInt f (pos (off s q (closest A (fine f))))
       go false =
-          ap (λ (n : ℕ). round binary32 false n one) (add-comm A (q * one))
-          ∙ round-high (q * one + A) (fit .from-up) (fit .to-up)
-          ∙ ap (λ (n : ℕ). ofInt binary32 (pos n)) (closest-up q A one even O)
+          ap (λ (n : ℕ). round f false n (fine f)) (add-comm A (q * fine f))
+          ∙ round-high f (q * fine f + A) (fit .from-up) (fit .to-up)
+          ∙ ap (λ (n : ℕ). ofInt f (pos n)) (closest-up q A (fine f) even F)
       go true =
-          ap (λ (b : Bool). cond b (round binary32 false (q * one - A) one) (round binary32 (true && ltb (q * one) A) (A - q * one) one)) (lt-ltb A (q * one) (fit .below))
-          ∙ round-high (q * one - A) (fit .from-down) (fit .to-down)
-          ∙ ap (λ (n : ℕ). ofInt binary32 (pos n)) (closest-down q A one even O (le-of-lt (fit .below)))
+          ap (λ (b : Bool). cond b (round f false (q * fine f - A) (fine f)) (round f (true && ltb (q * fine f) A) (A - q * fine f) (fine f))) (lt-ltb A (q * fine f) (fit .below))
+          ∙ round-high f (q * fine f - A) (fit .from-down) (fit .to-down)
+          ∙ ap (λ (n : ℕ). ofInt f (pos n)) (closest-down q A (fine f) even F (le-of-lt (fit .below)))
 
-  pub add-high : (x : Float) (s : Bool) (A : ℕ) → HasValue x s A one → A < 2 ^ 22 * one → add binary32 x (ofInt binary32 (pos q)) ≡ ofInt binary32 (pos (off s q (closest A one)))
-  unfolding sign-of
-  add-high x s A v h = add-is binary32 x (ofInt binary32 (pos q)) s false A (q * one) one (pow-pos 149) v (subst (λ (t : Bool). HasValue (ofInt binary32 (pos q)) t (q * one) one) (plus q) (of-int false q (le-trans (omega arith) hi))) ∙ sum-high s A h
-    where
-      plus : (q : ℕ) → sign-of false q ≡ false
-      plus zero = refl
-      plus (suc n) = refl
+  pub add-high : (x y : Float) (s : Bool) (A : ℕ) → HasValue x s A (fine f) → HasValue y false q 1 → A < 2 ^ (prec f - 2) * fine f → add f x y ≡ ofInt f (pos (off s q (closest A (fine f))))
+  add-high x y s A v w h = add-is f x y s false A (q * fine f) (fine f) (pow-pos (low f)) v (whole-value y false q (fine f) w) ∙ sum-high s A h
 
 -- ---- the fields of a word
 

@@ -31,7 +31,7 @@ compared a b = go (compare a b) (leb→le a b) (nleb→lt a b) (eqb→eq a b) (�
     go Ordering·gt h k e n = k tt
 
 -- the next multiple is d further on
-step : (d : ℕ) {k l : ℕ} → k < l → k * d + d ≤ l * d
+pub step : (d : ℕ) {k l : ℕ} → k < l → k * d + d ≤ l * d
 step d {k} {l} h = omega (arith, suc-mul k d, mul-le-mul-right d h)
 
 even-or-odd : (q : ℕ) → (q % 2 ≡ 0) ⊎ (q % 2 ≡ 1)

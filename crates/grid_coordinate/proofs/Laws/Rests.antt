@@ -3,8 +3,7 @@
 use mathlib.Core.Path.{_≡_, refl, sym, ap, _∙_, subst}
 use mathlib.Core.Bool.{Bool, true, false, not}
 use Prim.Native.Nat.{ℕ, zero, suc, _+_, _*_, _%_, _≤_, _<_}
-use native.Mathlib.Nat.{le-trans, le-of-eq, mul-one, mul-assoc, mul-pos, zero-mul, le-add-right}
-use native.Mathlib.Omega.{arith}
+use native.Mathlib.Nat.{le-trans, le-of-eq, mul-assoc, mul-pos, zero-mul, le-add-right}
 use lib.Pow.{pow-pos}
 use lib.IntN.{ℤ, pos, negℤ, natAbs, _+ℤ_, _-ℤ_, _*ℤ_, negℤ-+ℤ, negℤ-negℤ}
 use lib.Ieee.Nearest.{closest}
@@ -72,10 +71,3 @@ module _ (p : ℕ) (P : 0 < p) where
       go false false n = alike false n
       go true false n = unlike true n
       go false true n = unlike false n
-
--- read at pitch 1
-pub whole-one : (s : Bool) (n : ℕ) → whole 1 (signed s n) ≡ signed s (closest n one)
-whole-one s n = whole-signed 1 (omega arith) s n ∙ ap (signed s) (mul-one (closest n one))
-
-pub rest-one : (s : Bool) (n : ℕ) → rest 1 (signed s n) ≡ signed s n -ℤ signed s (closest n one * one)
-rest-one s n = rest-signed 1 (omega arith) s n ∙ ap (λ (k : ℕ). signed s n -ℤ signed s (k * one)) (mul-one (closest n one))

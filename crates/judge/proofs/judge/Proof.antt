@@ -1,49 +1,52 @@
--- `judge` refuses by the counts, or hands on what they let pass.
-use mathlib.Core.Path.{sym, _∙_}
-use native.Mathlib.Omega.{arith}
+-- `judge` refuses a number that is no pitch, and hands on one that is.
 use borrow.Author.Needs.{needs}
-use Rattle.surface_rules.proofs.Laws.Deciding.{counts-pass}
-use Rattle.survey_rules.specs.Outcome.{buffers}
-use Rattle.judge_surface.proofs.Laws.Judging.{counts-refuse}
+use Rattle.base_types.proofs.Laws.Pitches.{named-none, named-is}
+use Rattle.survey_rules.specs.Outcome.{Buffers, buffers}
+use Rattle.judge_surface.proofs.Laws.Judging.{pitch-refuse, at-pitch}
 use Rattle.judge.proofs.judge.Statement.{statement}
 use Rattle.judge.proofs.judge.Tie as tie
 
-abbrev to-after-refuses : tie.After-refused → tie.After-refuses
-to-after-refuses p = search
+abbrev entry : tie.After-of → tie.Start
+entry o = search
 
-abbrev to-after-check-counts : tie.After-refuses → tie.After-check-counts
-to-after-check-counts p = search
+abbrev stepped : tie.After-judge-at → tie.After-step
+stepped k = search
 
-abbrev to-start : tie.After-check-counts → tie.Start
-to-start p = search
+abbrev named : tie.After-step → tie.After-of
+named n = search
+
+-- the buffers as they are lent
+abbrev lent : tie.Start → Buffers
+lent c = buffers (c .args .grid .now) (c .args .rings .now) (c .args .lengths .now)
+
+returns : tie.Need-returns
+returns c =
+    let o : tie.After-of = search in
+    let n : tie.After-enum-told = search in
+    let a = entry o .args in
+    pitch-refuse _ (a .words .now) (a .corners .now) (a .states .now) (a .set .now) (lent (entry o)) _ (c .refused .ensures)
+    (named-none _ (o .of .ensures) (n .enum-told .given .1))
+
+returns-2 : tie.Need-returns-2
+returns-2 c =
+    let k : tie.After-judge-at = search in
+    let n = stepped k in
+    let o = named n in
+    let a = entry o .args in
+    let p = n .step .given .0 .0 in
+    at-pitch _ (a .words .now) (a .corners .now) (a .states .now) (a .set .now) (lent (entry o)) p _ (named-is _ p (o .of .ensures) (n .step .given .1)) (k .judge-at .ensures)
 
 pub judge-spec : {M : Type 1} → statement M
 judge-spec =
     tie.close
     (tie.spec
     (λ c κs. search needs)
+    (λ c. search needs)
     (λ c κs. search needs)
+    (λ c. search needs)
     (λ c κs. search needs)
-    (λ c.
-    let after-refuses = to-after-refuses c in let after-check-counts = to-after-check-counts after-refuses in let start = to-start after-check-counts in
-    counts-refuse _ _ _ _ (buffers (start .args .grid .now) (start .args .rings .now) (start .args .lengths .now)) _ _ (c .refused .ensures)
-    (after-check-counts .check-counts .ensures) (sym (after-refuses .refuses .ensures) ∙ c .before .if1 .taken))
-    (λ c κs. search needs)
-    (λ c κs.
-    let after-refuses : tie.After-refuses = search in let else1 : tie.Else1 = search in let after-of : tie.After-of = search in
-    let then2 : tie.Then2 = search in let then3 : tie.Then3 = search in (
-      counts-pass _ _ _ (to-after-check-counts after-refuses .check-counts .ensures) (sym (after-refuses .refuses .ensures) ∙ else1 .if1 .left),
-      omega (arith, after-of .of .ensures .0, then2 .if2 .taken),
-      then3 .if3 .taken,
-    ))
+    returns
     (λ c. search needs)
     (λ c. search needs)
     (λ c. search needs)
-    (λ c. search needs)
-    (λ c κs.
-    let after-refuses : tie.After-refuses = search in let else1 : tie.Else1 = search in
-    counts-pass _ _ _ (to-after-check-counts after-refuses .check-counts .ensures) (sym (after-refuses .refuses .ensures) ∙ else1 .if1 .left))
-    (λ c. search needs)
-    (λ c. search needs)
-    (λ c. search needs)
-    (λ c. search needs))
+    returns-2)

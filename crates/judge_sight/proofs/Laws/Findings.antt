@@ -19,7 +19,7 @@ done-right (fault f) d = absurd (fault-said f d)
 
 -- the numbers of all answers but the first
 abbrev others : List ℕ
-others = 1 ∷ 2 ∷ 3 ∷ 4 ∷ 5 ∷ 6 ∷ 7 ∷ 8 ∷ 9 ∷ 10 ∷ 11 ∷ 12 ∷ 13 ∷ 14 ∷ 15 ∷ 16 ∷ []
+others = 1 ∷ 2 ∷ 3 ∷ 4 ∷ 5 ∷ 6 ∷ 7 ∷ 8 ∷ 9 ∷ 10 ∷ 11 ∷ 12 ∷ 13 ∷ 14 ∷ 15 ∷ 16 ∷ 17 ∷ []
 
 pub not-done : {a : Answer} → OneOf others (tagOf the-type a) → a ≡ Done → ⊥
 not-done h d = miss others 0 tt (subst (λ (x : Answer). OneOf others (tagOf the-type x)) d h)

@@ -4,6 +4,7 @@ use mathlib.Core.Path.{_∙_, refl, sym}
 use mathlib.Core.List.{List, []}
 use Prim.Native.Nat.{ℕ}
 use borrow.Author.Needs.{needs}
+use Rattle.base_types.specs.Pitches.{pitchOf}
 use Rattle.surface_rules.proofs.Laws.Lists.{as-long}
 use Rattle.survey_rules.specs.Outcome.{Buffers, buffers}
 use Rattle.survey_rules.proofs.Laws.Known.{Known, known, still-long, grid-ready, ready, lent-long}
@@ -71,12 +72,12 @@ lent-here c = buffers (c .args .grid .now) (c .args .rings .now) (c .args .lengt
 abbrev known-here : (c : tie.Else1)
     → let s = entry (checked c) in
     let b = lent-here s in
-    (table : List ℕ) × Known (s .args .words .now) (s .args .corners .now) table (b .grid) (b .rings) (b .lengths) [] []
+    (table : List ℕ) × Known (pitchOf (s .args .pitch)) (s .args .words .now) (s .args .corners .now) table (b .grid) (b .rings) (b .lengths) [] []
 known-here c =
     let s = entry (checked c) in
     let b = lent-here s in
     let k = checked c .before .check .ensures in
-    (_, known _ _ _ (b .grid) (b .rings) (b .lengths) [] [] _ (s .pre .scratch .counts) k (sym (c .before .refuses .ensures) ∙ c .if1 .left))
+    (_, known (s .args .pitch) _ _ _ (b .grid) (b .rings) (b .lengths) [] [] _ (s .pre .scratch .counts) k (sym (c .before .refuses .ensures) ∙ c .if1 .left))
 
 -- the loops as they were listed, and as they stand in the lent buffers
 abbrev surveyed : tie.After-lengths → tie.After-marks
@@ -84,7 +85,7 @@ surveyed q = listed (counted (gridded (ringed q)))
 
 -- the parts of the buffers that were written are there
 grid-there : tie.Need-slice-reshare-prefix-mark
-grid-there c = let q : tie.After-lengths = search in let g = gridded (ringed q) in grid-in (entry (checked (passed (turns-listed (listed (counted g))))) .args .words .now) _ _ (g .before .lay-grid .ensures)
+grid-there c = let q : tie.After-lengths = search in let g = gridded (ringed q) in let a = entry (checked (passed (turns-listed (listed (counted g))))) .args in grid-in (pitchOf (a .pitch)) (a .words .now) _ _ (g .before .lay-grid .ensures)
 
 rings-there : tie.Need-slice-reshare-prefix-mark-2
 rings-there c = let q : tie.After-lengths = search in rings-in (lists-laid (turns-listed (surveyed q) .before .list-with .ensures .0) _ _ _ _ (ringed q .before .lay-front .ensures) (q .before .lay-front2 .ensures))
@@ -105,8 +106,8 @@ find-with-spec =
     (λ c.
     let t : tie.After-turns = search in
     let refuses = sym (c .before .before .refuses .ensures) ∙ c .before .if1 .taken in
-    λ set. finds-refused _ _ (c .refused .ensures) refuses
-    (content-refuse _ _ _ _ (lent-here (entry t)) (entry t .pre .scratch .counts) _ _ _ (c .refused .ensures) (t .before .check .ensures) refuses))
+    finds-refused _ _ (c .refused .ensures) refuses
+    (λ set. content-refuse (entry t .args .pitch) _ _ _ _ (lent-here (entry t)) (entry t .pre .scratch .counts) _ _ _ (c .refused .ensures) (t .before .check .ensures) refuses))
     (λ c κs.
     let p : tie.Else1 = search in
     let k = known-here p .1 in
@@ -126,8 +127,8 @@ find-with-spec =
     (λ c.
     let n : tie.After-marks = search in
     let l = turns-listed n in
-    λ set. finds-refused _ _ (c .refused2 .ensures) refl
-    (states-refuse _ _ _ _ (lent-here (entry (checked (passed l)))) (known-here (passed l) .1) _ _ _ _ _ _ _ (l .before .list-with .ensures .0) _ (c .refused2 .ensures)
+    finds-refused _ _ (c .refused2 .ensures) refl
+    (λ set. states-refuse (pitchOf (entry (checked (passed l)) .args .pitch)) _ _ _ _ (lent-here (entry (checked (passed l)))) (known-here (passed l) .1) _ _ _ _ _ _ _ (l .before .list-with .ensures .0) _ (c .refused2 .ensures)
     (c .before .if2 .taken)))
     (λ c κs. let p : tie.Else2 = search in grid-ready (known-here (passed (turns-listed (listed p))) .1))
     (λ c κs. let g : tie.After-grid = search in let l = turns-listed (listed (counted g)) in rings-room (known-here (passed l) .1) (l .before .list-with .ensures .0))

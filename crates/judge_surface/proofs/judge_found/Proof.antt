@@ -8,10 +8,10 @@ pub judge-found-spec : {M : Type 1} → statement M
 judge-found-spec =
     tie.close
     (tie.spec
-    (λ c. let s : tie.Start = search in as-long _ _ (s .pre .1 .grid-in))
-    (λ c. let s : tie.Start = search in as-long _ _ (s .pre .1 .rings-in))
-    (λ c. let s : tie.Start = search in as-long _ _ (s .pre .1 .lengths-in))
-    (λ c κs. let s : tie.Start = search in (s .pre .1 .room, s .pre .1 .edges))
+    (λ c. let s : tie.Start = search in as-long _ _ (s .pre .2 .grid-in))
+    (λ c. let s : tie.Start = search in as-long _ _ (s .pre .2 .rings-in))
+    (λ c. let s : tie.Start = search in as-long _ _ (s .pre .2 .lengths-in))
+    (λ c κs. let s : tie.Start = search in (s .pre .2 .room, s .pre .2 .edges))
     (λ c. search needs)
     (λ c. search needs)
-    (λ c. let v : tie.After-verdict = search in λ b ready. ready .finish _ (v .verdict .ensures)))
+    (λ c. let v : tie.After-verdict = search in λ pitch b ready. ready .finish _ _ (v .verdict .ensures)))

@@ -1,66 +1,54 @@
--- `patch` refuses by the counts, or hands on what they let pass.
-use mathlib.Core.Path.{_≡_, sym, _∙_}
-use native.Mathlib.Omega.{arith}
-use lib.ListN.{length}
+-- `patch` refuses a number that is no pitch, and hands on one that is.
 use borrow.Author.Needs.{needs}
-use Rattle.base_answers.specs.declared.Answer.the-variants.{Done}
-use Rattle.surface_rules.specs.Refusals.{countRefusal}
-use Rattle.surface_rules.proofs.Laws.Deciding.{counts-pass}
-use Rattle.patch_surface.specs.Outcome.{buffers}
-use Rattle.patch_surface.proofs.Laws.Patching.{counts-refuse}
+use Rattle.base_types.proofs.Laws.Pitches.{named-none, named-is}
+use Rattle.patch_surface.specs.Outcome.{Buffers, buffers}
+use Rattle.patch_surface.proofs.Laws.Patching.{pitch-refuse, at-pitch}
 use Rattle.patch.proofs.patch.Statement.{statement}
 use Rattle.patch.proofs.patch.Tie as tie
 
--- the places on the way back: the answer was read, the counts were checked, and the function's entry
-abbrev counted : tie.After-refuses → tie.After-check-counts
-counted c = search
+abbrev entry : tie.After-of → tie.Start
+entry o = search
 
-abbrev entry : tie.After-check-counts → tie.Start
-entry c = search
+abbrev stepped : tie.After-patch-at → tie.After-step
+stepped k = search
 
-abbrev passing : tie.Else1 → tie.After-refuses
-passing o = search
+abbrev named : tie.After-step → tie.After-of
+named n = search
 
--- the counts let it pass
-passed : (o : tie.Else1)
-    → let s = entry (counted (passing o)) in
-    countRefusal (length (s .args .words .now)) (length (s .args .corners .now)) ≡ Done
-passed o = let r = passing o in search (counts-pass, counted r .check-counts .ensures, sym (r .refuses .ensures) ∙ o .if1 .left)
+-- the buffers as they are lent
+abbrev lent : tie.Start → Buffers
+lent c = buffers (c .args .grid .now) (c .args .rings .now) (c .args .lengths .now) (c .args .states .now) (c .args .weights .now) (c .args .patches .now)
 
 returns : tie.Need-returns
 returns c =
-    let r : tie.After-refuses = search in
-    let s = entry (counted r) in
-    let a = s .args in
-    counts-refuse (a .words .now) (a .corners .now) (buffers (a .grid .now) (a .rings .now) (a .lengths .now) (a .states .now) (a .weights .now) (a .patches .now))
-    (c .refused .ensures) (sym (r .refuses .ensures) ∙ c .before .if1 .taken) (counted r .check-counts .ensures)
+    let o : tie.After-of = search in
+    let n : tie.After-enum-told = search in
+    let s = entry o in
+    pitch-refuse _ (s .args .words .now) (s .args .corners .now) (lent s) (c .refused .ensures) (named-none _ (o .of .ensures) (n .enum-told .given .1))
+
+returns-2 : tie.Need-returns-2
+returns-2 c =
+    let k : tie.After-patch-at = search in
+    let n = stepped k in
+    let o = named n in
+    let s = entry o in
+    let p = n .step .given .0 .0 in
+    at-pitch _ (s .args .words .now) (s .args .corners .now) (lent s) p _ (named-is _ p (o .of .ensures) (n .step .given .1)) (k .patch-at .ensures)
 
 pub patch-spec : {M : Type 1} → statement M
 patch-spec =
     tie.close
     (tie.spec
-    (λ c κs. tt)
-    (λ c κs. tt)
-    (λ c κs. tt)
+    (λ c κs. search needs)
+    (λ c. search needs)
+    (λ c κs. search needs)
+    (λ c. search needs)
+    (λ c κs. search needs)
     returns
-    (λ c κs. tt)
-    (λ c κs.
-    let o : tie.After-of = search in
-    let p : tie.Then2 = search in
-    let q : tie.Then3 = search in
-    (passed (search), omega (arith, o .of .ensures .0, p .if2 .taken), q .if3 .taken))
     (λ c. search needs)
     (λ c. search needs)
     (λ c. search needs)
     (λ c. search needs)
     (λ c. search needs)
     (λ c. search needs)
-    (λ c. search needs)
-    (λ c κs. passed (search))
-    (λ c. search needs)
-    (λ c. search needs)
-    (λ c. search needs)
-    (λ c. search needs)
-    (λ c. search needs)
-    (λ c. search needs)
-    (λ c. search needs))
+    returns-2)

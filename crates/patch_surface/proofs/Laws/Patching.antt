@@ -1,5 +1,5 @@
 -- From the checks, the listing and the course to what the patcher answers and leaves.
-use mathlib.Core.Path.{_≡_, sym, ap, _∙_, subst}
+use mathlib.Core.Path.{_≡_, refl, sym, ap, _∙_, subst}
 use mathlib.Core.Bool.{true, false, true≢false}
 use mathlib.Core.List.{List, [], _∷_, map, flatten}
 use Prim.Native.Nat.{ℕ, _*_, _/_, _≤_}
@@ -9,13 +9,15 @@ use lib.IntN.{ℤ}
 use lib.ListN.{length, take, length-map}
 use Rattle.base_answers.specs.Numbers.{refusing}
 use Rattle.base_answers.specs.declared.Answer.{Answer}
-use Rattle.base_answers.specs.declared.Answer.the-variants.{Done}
+use Rattle.base_answers.specs.declared.Answer.the-variants.{Done, NoPitch}
+use Rattle.base_types.specs.Pitches.{pitchOf, isPitch}
+use Rattle.base_types.specs.declared.Pitch.{Pitch}
 use Rattle.base_limits.specs.Limits as limits
 use Rattle.surface_rules.specs.Buffers.{over}
 use Rattle.surface_rules.specs.Refusals.{countRefusal, refusal}
 use Rattle.surface_rules.proofs.Laws.Thens.{counts-fit}
 use Rattle.surface_rules.proofs.Laws.Over.{over-again}
-use Rattle.surface_rules.proofs.Laws.Deciding.{count-decides, content-decides}
+use Rattle.surface_rules.proofs.Laws.Deciding.{pitch-decides, count-decides, content-decides}
 use Rattle.loop_rules.specs.Loops.{loops}
 use Rattle.loop_cut.specs.Listing.{ListsLoops, ringsOf}
 use Rattle.loop_cut.specs.declared.Listed.{Listed}
@@ -33,7 +35,7 @@ use Rattle.fill_scratch.specs.Workings.Tray.{EdgeRoom}
 use Rattle.rim_mark.specs.Workings.Marking.{markOf, Marked}
 use Rattle.rim_mark.proofs.Laws.Listed.{input-here, as-many-loops, loops-here, all-marked, marks-here, rims-here}
 use Rattle.patch_all.specs.Workings.Courses.{Docket, docket, Lent, CourseRoom, RanAll, CourseDone}
-use Rattle.patch_surface.specs.Outcome.{Buffers, outcome, buffers, done, needs, lent, Patches}
+use Rattle.patch_surface.specs.Outcome.{Buffers, Outcome, outcome, buffers, done, needs, lent, Patches}
 use Rattle.patch_surface.specs.Workings.Finding.{left-by, Finds}
 use Rattle.patch_surface.specs.declared.Patched.{Patched}
 
@@ -67,29 +69,37 @@ lentBesides b = length (b .states) ∷ length (b .weights) ∷ length (b .patche
 abbrev pub needsBesides : List ℕ → List ℕ
 needsBesides corners = length corners / 3 ∷ length corners / 3 ∷ 3 * length corners ∷ []
 
-module _ (words corners : List ℕ) (b : Buffers) {r : Patched} {a : Answer} (h : Refuses r a) (t : refusing a ≡ true) where
+module _ (pitch : ℕ) (words corners : List ℕ) (b : Buffers) where
   -- what the table says decides
-  decided : refusal words corners (lent b) (needs words corners) ≡ a → Patches words corners b (outcome r b)
-  decided e = rw (e, t) (λ i. record { answer = h .0 i; loops = h .1 i; vertices = h .2 i; corners = h .3 i; left = b })
+  decided : {r : Patched} {a : Answer} → Refuses r a → refusing a ≡ true → refusal pitch words corners (lent b) (needs words corners) ≡ a → Patches pitch words corners b (outcome r b)
+  decided h t e = rw (e, t) (λ i. record { answer = h .0 i; loops = h .1 i; vertices = h .2 i; corners = h .3 i; left = b })
 
-  pub counts-refuse : a ≡ countRefusal (length words) (length corners) → Patches words corners b (outcome r b)
-  counts-refuse e = decided (count-decides words corners (lent b) (needs words corners) a e t)
+  pub pitch-refuse : {r : Patched} → Refuses r NoPitch → isPitch pitch ≡ false → Patches pitch words corners b (outcome r b)
+  pitch-refuse h e = decided h refl (pitch-decides pitch words corners (lent b) (needs words corners) e)
 
-  pub content-refuse : countRefusal (length words) (length corners) ≡ Done → {table : List ℕ} → Checked words corners (lent b) (needs words corners) a table
-      → Patches words corners b (outcome r b)
-  content-refuse c k = decided (content-decides words corners (lent b) (needs words corners) c a (k .said))
+  -- what is promised at a pitch is promised at its number
+  pub at-pitch : (p : Pitch) (o : Outcome) → pitch ≡ pitchOf p → Patches (pitchOf p) words corners b o → Patches pitch words corners b o
+  at-pitch p o e h = subst (λ (n : ℕ). Patches n words corners b o) (sym e) h
+
+module _ (p : Pitch) (words corners : List ℕ) (b : Buffers) {r : Patched} {a : Answer} (h : Refuses r a) (t : refusing a ≡ true) where
+  pub counts-refuse : a ≡ countRefusal (length words) (length corners) → Patches (pitchOf p) words corners b (outcome r b)
+  counts-refuse e = decided (pitchOf p) words corners b h t (count-decides p words corners (lent b) (needs words corners) a e t)
+
+  pub content-refuse : countRefusal (length words) (length corners) ≡ Done → {table : List ℕ} → Checked (pitchOf p) words corners (lent b) (needs words corners) a table
+      → Patches (pitchOf p) words corners b (outcome r b)
+  content-refuse c k = decided (pitchOf p) words corners b h t (content-decides p words corners (lent b) (needs words corners) c a (k .said))
 
 -- what is known once nothing is refused
-abbrev pub KnownWith : List ℕ → List ℕ → List ℕ → Buffers → Type 0
-KnownWith words corners table b = Known words corners table (b .grid) (b .rings) (b .lengths) (lentBesides b) (needsBesides corners)
+abbrev pub KnownWith : ℕ → List ℕ → List ℕ → List ℕ → Buffers → Type 0
+KnownWith pitch words corners table b = Known pitch words corners table (b .grid) (b .rings) (b .lengths) (lentBesides b) (needsBesides corners)
 
-module _ {words corners : List ℕ} (b : Buffers) {table : List ℕ} (k : KnownWith words corners table b) where
+module _ {pitch : ℕ} {words corners : List ℕ} (b : Buffers) {table : List ℕ} (k : KnownWith pitch words corners table b) where
   -- the loops can be listed in the lent buffers, with their first half-edges among the states
   pub listing-ready : length corners ≤ length table → Ready corners table (b .rings) (b .lengths) (b .states)
   listing-ready t = ready k (b .rings) (b .lengths) (b .states) t (k .rings-long) (k .lengths-long) (k .others-long 0 (omega arith))
 
   module _ {at : Listed} {rings′ lengths′ firsts : List ℕ} {grid′ : List ℤ}
-      (ls : ListsLoops corners (loops corners) (b .rings) (b .lengths) (b .states) at rings′ lengths′ firsts) (eg : grid′ ≡ over (gridOf words) (b .grid)) where
+      (ls : ListsLoops corners (loops corners) (b .rings) (b .lengths) (b .states) at rings′ lengths′ firsts) (eg : grid′ ≡ over (gridOf pitch words) (b .grid)) where
     abbrev g : List ℤ
     g = take (length words) grid′
 
@@ -119,15 +129,15 @@ module _ {words corners : List ℕ} (b : Buffers) {table : List ℕ} (k : KnownW
 
       -- what the course leaves is what the patcher promises
       done-is : (p : ℕ) (c : Docket) → CourseDone g corners (take (at .vertices) rings′) (take (at .loops) lengths′) (docket states (b .weights) (b .patches)) p c
-          → Patches words corners b (left-by (found Done) then p c)
+          → Patches pitch words corners b (left-by (found Done) then p c)
       done-is p c r =
           rw (k .none-refused) (q .fates, subst (λ (x : List ℤ). Course x corners [] (rimList x corners) (ringList corners) (q .fates)) gridded (q .course), left)
         where
           q : RanAll g corners (rimList g corners) (ringList corners) (docket states (b .weights) (b .patches)) p c
           q = r (rimList g corners) (ringList corners) (loops-here k ls eg) the-lent
 
-          gridded : g ≡ gridOf words
-          gridded = grid-part words (b .grid) grid′ eg
+          gridded : g ≡ gridOf pitch words
+          gridded = grid-part pitch words (b .grid) grid′ eg
 
           -- as many states as marks
           es : c .states ≡ over (statesOf (q .fates)) (b .states)
@@ -138,10 +148,10 @@ module _ {words corners : List ℕ} (b : Buffers) {table : List ℕ} (k : KnownW
               (states-length (q .fates) ∙ course-length g corners [] (rimList g corners) (ringList corners) (q .fates) (q .course)
               ∙ sym (the-lent .rims-many) ∙ sym (length-map (rimList g corners) markOf))
 
-          ew : c .weights ≡ over (weightsOf (gridOf words) (ringList corners) (q .fates)) (b .weights)
+          ew : c .weights ≡ over (weightsOf (gridOf pitch words) (ringList corners) (q .fates)) (b .weights)
           ew = q .weights-are ∙ ap (λ (x : List ℤ). over (weightsOf x (ringList corners) (q .fates)) (b .weights)) gridded
 
-          left : left-by (found Done) then p c ≡ done words corners (q .fates) b
+          left : left-by (found Done) then p c ≡ done pitch words corners (q .fates) b
           left = λ t. record {
             answer = Done;
             loops = ls .count t;
@@ -150,11 +160,11 @@ module _ {words corners : List ℕ} (b : Buffers) {table : List ℕ} (k : KnownW
             left = record { grid = eg t; rings = ls .all-rings t; lengths = ls .all-lengths t; states = es t; weights = ew t; patches = q .patches-are t };
           }
 
-      pub finds-ready : {a : Answer} {turns path : List ℕ} → refusing a ≡ false → EdgeRoom corners turns path → Finds words corners b (found a) then turns path
+      pub finds-ready : {a : Answer} {turns path : List ℕ} → refusing a ≡ false → EdgeRoom corners turns path → Finds pitch words corners b (found a) then turns path
       finds-ready t edges = (
         (λ e. absurd (true≢false (sym e ∙ t))),
         λ e. record {
-          grid-in = grid-in words _ _ eg;
+          grid-in = grid-in pitch words _ _ eg;
           rings-in = rings-in ls;
           lengths-in = lengths-in ls;
           course = course-room;
@@ -164,6 +174,6 @@ module _ {words corners : List ℕ} (b : Buffers) {table : List ℕ} (k : KnownW
       )
 
 -- a refusal leaves nothing ready
-pub finds-refusal : {words corners : List ℕ} {b : Buffers} {r : Patched} {a : Answer} {turns path : List ℕ} → Refuses r a → refusing a ≡ true
-    → Patches words corners b (outcome r b) → Finds words corners b r b turns path
+pub finds-refusal : {pitch : ℕ} {words corners : List ℕ} {b : Buffers} {r : Patched} {a : Answer} {turns path : List ℕ} → Refuses r a → refusing a ≡ true
+    → Patches pitch words corners b (outcome r b) → Finds pitch words corners b r b turns path
 finds-refusal h t p = ((λ e. p), λ e. absurd (true≢false (sym (ap refusing (h .0) ∙ t) ∙ e)))

@@ -3,6 +3,7 @@ use mathlib.Core.Path.{_∙_, sym}
 use native.Mathlib.Omega.{arith}
 use lib.ListN.{length}
 use borrow.Author.Needs.{needs}
+use Rattle.base_types.specs.Pitches.{pitchOf}
 use Rattle.surface_rules.proofs.Laws.Lists.{as-long}
 use Rattle.surface_rules.proofs.Laws.Thens.{counts-fit}
 use Rattle.survey_rules.proofs.Laws.Known.{known, still-long, grid-ready, lent-long}
@@ -49,16 +50,16 @@ lent-here c = buffers (c .args .grid .now) (c .args .rings .now) (c .args .lengt
 -- what is known once nothing is refused
 known-here : (c : tie.Else1)
     → let s = entry (checked c) in
-    KnownWith (s .args .words .now) (s .args .corners .now) (checked c .before .check .last .1 .1 .1 .1 .0) (lent-here s)
+    KnownWith (pitchOf (s .args .pitch)) (s .args .words .now) (s .args .corners .now) (checked c .before .check .last .1 .1 .1 .1 .0) (lent-here s)
 known-here c =
     let s = entry (checked c) in
     let b = lent-here s in
-    known _ _ _ (b .grid) (b .rings) (b .lengths) (lentBesides b) (needsBesides (s .args .corners .now)) _ (s .pre .counts) (checked c .before .check .ensures)
+    known (s .args .pitch) _ _ _ (b .grid) (b .rings) (b .lengths) (lentBesides b) (needsBesides (s .args .corners .now)) _ (s .pre .counts) (checked c .before .check .ensures)
     (sym (c .before .refuses .ensures) ∙ c .if1 .left)
 
 -- the parts of the buffers that were written are there
 grid-there : tie.Need-slice-reshare-prefix-mark
-grid-there c = let l : tie.After-turns2 = search in grid-in (start l .args .words .now) _ _ (gridded l .before .lay-grid .ensures)
+grid-there c = let l : tie.After-turns2 = search in grid-in (pitchOf (start l .args .pitch)) (start l .args .words .now) _ _ (gridded l .before .lay-grid .ensures)
 
 rings-there : tie.Need-slice-reshare-prefix-mark-2
 rings-there c = let l : tie.After-turns2 = search in rings-in (l .before .list-with .ensures .0)
@@ -72,7 +73,7 @@ returns c =
     let s = entry t in
     let taken = sym (c .before .before .refuses .ensures) ∙ c .before .if1 .taken in
     finds-refusal (c .refused .ensures) taken
-    (content-refuse (s .args .words .now) (s .args .corners .now) (lent-here s) (c .refused .ensures) taken (s .pre .counts) (t .before .check .ensures))
+    (content-refuse (s .args .pitch) (s .args .words .now) (s .args .corners .now) (lent-here s) (c .refused .ensures) taken (s .pre .counts) (t .before .check .ensures))
 
 list-with-requires : tie.Need-list-with-requires
 list-with-requires c κs =

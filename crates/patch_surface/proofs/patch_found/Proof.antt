@@ -5,7 +5,7 @@ use Rattle.patch_surface.proofs.patch_found.Statement.{statement}
 use Rattle.patch_surface.proofs.patch_found.Tie as tie
 
 returns : tie.Need-returns
-returns c b ready = let r : tie.After-patch-all = search in ready .finish _ _ (r .patch-all .ensures)
+returns c pitch b ready = let r : tie.After-patch-all = search in ready .finish _ _ (r .patch-all .ensures)
 
 pub patch-found-spec : {M : Type 1} → statement M
 patch-found-spec =

@@ -22,7 +22,7 @@ left-by r b p c =
     (buffers (b .grid) (b .rings) (b .lengths) (c .states) (c .weights) (c .patches))
 
 -- the buffers b′ have the grid, the loops and the marks, the course may begin, and whatever it leaves the patcher promises of the buffers b
-pub record Ready (words corners : List ℕ) (b : Buffers) (r : Patched) (b′ : Buffers) (turns path : List ℕ) : Type 0 where
+pub record Ready (pitch : ℕ) (words corners : List ℕ) (b : Buffers) (r : Patched) (b′ : Buffers) (turns path : List ℕ) : Type 0 where
   pub grid-in : length words ≤ length (b′ .grid)
   pub rings-in : r .vertices ≤ length (b′ .rings)
   pub lengths-in : r .loops ≤ length (b′ .lengths)
@@ -30,18 +30,20 @@ pub record Ready (words corners : List ℕ) (b : Buffers) (r : Patched) (b′ : 
   pub edges : EdgeRoom corners turns path
   pub finish : (p : ℕ) (c : Docket)
       → CourseDone (take (length words) (b′ .grid)) corners (take (r .vertices) (b′ .rings)) (take (r .loops) (b′ .lengths)) (docketIn b′) p c
-      → Patches words corners b (left-by r b′ p c)
+      → Patches pitch words corners b (left-by r b′ p c)
 
 -- a refusal, which the patcher promises; or all is ready
-abbrev pub Finds : List ℕ → List ℕ → Buffers → Patched → Buffers → List ℕ → List ℕ → Type 0
-Finds words corners b r b′ turns path =
-    (refusing (r .answer) ≡ true → Patches words corners b (outcome r b′)) × (refusing (r .answer) ≡ false → Ready words corners b r b′ turns path)
+abbrev pub Finds : ℕ → List ℕ → List ℕ → Buffers → Patched → Buffers → List ℕ → List ℕ → Type 0
+Finds pitch words corners b r b′ turns path =
+    (refusing (r .answer) ≡ true → Patches pitch words corners b (outcome r b′))
+    × (refusing (r .answer) ≡ false → Ready pitch words corners b r b′ turns path)
 
--- all is ready for some buffers that were lent,
+-- all is ready at some pitch for some buffers that were lent,
 pub record Readied (words corners : List ℕ) (r : Patched) (b′ : Buffers) (turns path : List ℕ) : Type 0 where
+  pub pitch : ℕ
   pub lent : Buffers
-  pub ready : Ready words corners lent r b′ turns path
+  pub ready : Ready pitch words corners lent r b′ turns path
 
 -- and whatever those were, the outcome is as promised
 abbrev pub Finishes : List ℕ → List ℕ → Patched → Buffers → List ℕ → List ℕ → Outcome → Type 0
-Finishes words corners r b′ turns path o = (b : Buffers) → Ready words corners b r b′ turns path → Patches words corners b o
+Finishes words corners r b′ turns path o = (pitch : ℕ) (b : Buffers) → Ready pitch words corners b r b′ turns path → Patches pitch words corners b o

@@ -1,4 +1,4 @@
--- Putting the text of a sheet into a room for any text: nothing refuses it.
+-- Putting the text of a sheet, without a line of a pitch, into a room for any text: nothing refuses it.
 use mathlib.Core.Path.{_≡_, refl, sym, ap, ap₂, _∙_}
 use mathlib.Core.Bool.{Bool, true, false, true≢false}
 use mathlib.Core.List.{List}
@@ -9,6 +9,8 @@ use borrow.Author.Tests.{leb-false}
 use Rattle.base_answers.specs.Numbers.{refusing}
 use Rattle.base_answers.specs.declared.Answer.{Answer}
 use Rattle.base_answers.specs.declared.Answer.the-variants.{Done, Unnamed}
+use Rattle.base_types.specs.declared.Pitch.the-variants.{One}
+use Rattle.base_types.proofs.Laws.Pitches.{pitch-is}
 use Rattle.base_limits.specs.Limits as limits
 use Rattle.surface_rules.specs.declared.Found.{Found}
 use Rattle.surface_rules.specs.declared.Found.the-variants.{At, Nothing}
@@ -39,14 +41,14 @@ module _ {words corners room : List ℕ} {answer : Answer} {b : Bool} (p : PutRo
   pub line-put : {r : ℕ} {after : List ℕ} → b ≡ true → after ≡ over (answerLine answer) room → r ≡ length (answerLine answer) → Puts words corners room answer r after
   line-put t l m = record { out = answerLine answer; of-refusal = λ _. refl; of-sheet = λ f. absurd (true≢false (sym t ∙ e ∙ f)); many = m; lies = l }
 
-  pub text-put : {w : Written} {after : List ℕ} → b ≡ false → ((i : ℕ) → getD words i 0 < 2 ^ 32) → writeOutcome w after ≡ writes words corners room → Puts words corners room answer (w .bytes) after
+  pub text-put : {w : Written} {after : List ℕ} → b ≡ false → ((i : ℕ) → getD words i 0 < 2 ^ 32) → writeOutcome w after ≡ writes 1 words corners room → Puts words corners room answer (w .bytes) after
   text-put {w} {after} f small o =
       let q = sym e ∙ f in
-      let t = text-of words corners (p .counted q) (λ i _. small i) (named-few words corners (p .counted q) (p .named q)) in
+      let t = text-of 1 words corners (pitch-is One) (p .counted q) (λ i _. small i) (named-few words corners (p .counted q) (p .named q)) in
       let n = ap₂ (λ (ws cs : List ℕ). unnamedRefusal cs (length ws / 3)) (t .1) (t .2) ∙ p .named q in
-      let z = o ∙ ap₂ (λ (ws cs : List ℕ). writes ws cs room) (sym (t .1)) (sym (t .2)) ∙ written-whole (t .0) room (omega (arith, longest (t .0), p .roomy)) n in
+      let z = o ∙ ap₂ (λ (ws cs : List ℕ). writes 1 ws cs room) (sym (t .1)) (sym (t .2)) ∙ written-whole (t .0) room (omega (arith, longest (t .0), p .roomy)) n in
       record {
-        out = text words corners;
+        out = text 1 words corners;
         of-refusal = λ r. absurd (true≢false (sym r ∙ q));
         of-sheet = λ _. t .0;
         many = ap (λ (x : WriteOutcome). x .count) z;

@@ -18,7 +18,7 @@ use Rattle.surface_rules.proofs.Laws.Thens.{then-refused, whole-count, two-long
 use Rattle.surface_rules.proofs.Laws.Threes.{flat-length, threes-flat}
 use Rattle.check_shape.proofs.Laws.Refusing.{counts-done}
 use Rattle.text_rules.specs.Text.{TextOf}
-use Rattle.text_sheet.specs.Sheet.{points, triangles}
+use Rattle.text_sheet.specs.Sheet.{sheetOf, sheet}
 use Rattle.text_read.specs.Outcome.{ReadOutcome, notRead}
 use Rattle.stl_facets.specs.Facets.{facets}
 use Rattle.stl_rules.specs.File.{fits}
@@ -69,7 +69,7 @@ module _ (file words corners : List ℕ) {o : ReadOutcome} (r : o ≡ readsFile 
   unfolding readsFile readRefusal
   taken-given t =
       let b = two-long (length words) (length corners) (3 * length (pointsIn file)) (3 * facets file) (omega (arith, hw, t .few-points)) (omega (arith, hc, t .few-facets)) in
-      let e : o ≡ record { answer = Done; word-count = 3 * length (pointsIn file); corner-count = 3 * facets file; words = over (flat (pointsIn file)) words; corners = over (cornersIn file) corners } = r ∙ rw (t .done, b) in
+      let e : o ≡ record { answer = Done; pitch = 1; word-count = 3 * length (pointsIn file); corner-count = 3 * facets file; words = over (flat (pointsIn file)) words; corners = over (cornersIn file) corners } = r ∙ rw (t .done, b) in
       let w : 3 * length (pointsIn file) ≡ length (flat (pointsIn file)) = sym (flat-length (pointsIn file)) in
       let c : 3 * facets file ≡ length (cornersIn file) = sym (corners-count file) in
       subst (Given file) (sym e) (record {
@@ -109,7 +109,7 @@ module _ {file : List ℕ} {o : ReadOutcome} (g : Given file o) where
       record {
         of-sheet = λ d.
             let f : refusing (fileRefusal file) ≡ false = ap refusing d in
-            subst (λ (l : List _). TextOf points triangles (p .out) l (threes (cornersIn file))) (threes-flat (pointsIn file))
-            (subst₂ (λ (ws cs : List ℕ). TextOf points triangles (p .out) (threes ws) (threes cs)) (g .words-are f) (g .corners-are f) (p .of-sheet (ap refusing (g .answered) ∙ f)));
+            subst (λ (l : List _). TextOf sheet (p .out) (sheetOf 1 l (threes (cornersIn file)))) (threes-flat (pointsIn file))
+            (subst₂ (λ (ws cs : List ℕ). TextOf sheet (p .out) (sheetOf 1 (threes ws) (threes cs))) (g .words-are f) (g .corners-are f) (p .of-sheet (ap refusing (g .answered) ∙ f)));
         of-refusal = λ t. p .of-refusal (ap refusing (g .answered) ∙ t) ∙ rw (g .answered) refl;
       }

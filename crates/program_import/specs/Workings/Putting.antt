@@ -12,7 +12,7 @@ use Rattle.surface_rules.specs.Buffers.{over}
 use Rattle.surface_rules.specs.Refusals.{countRefusal, unnamedRefusal}
 use Rattle.surface_rules.specs.Threes.{threes}
 use Rattle.text_rules.specs.Text.{TextOf}
-use Rattle.text_sheet.specs.Sheet.{points, triangles}
+use Rattle.text_sheet.specs.Sheet.{sheet, sheetOf}
 use Rattle.program_lines.specs.Lines.{answerLine}
 
 -- there is room for any text, and unless the answer refuses, words and corners are a sheet's
@@ -25,6 +25,6 @@ pub record PutRoom (words corners room : List ℕ) (answer : Answer) : Type 0 wh
 pub record Puts (words corners room : List ℕ) (answer : Answer) (r : ℕ) (room′ : List ℕ) : Type 0 where
   pub out : List ℕ
   pub of-refusal : refusing answer ≡ true → out ≡ answerLine answer
-  pub of-sheet : refusing answer ≡ false → TextOf points triangles out (threes words) (threes corners)
+  pub of-sheet : refusing answer ≡ false → TextOf sheet out (sheetOf 1 (threes words) (threes corners))
   pub many : r ≡ length out
   pub lies : room′ ≡ over out room

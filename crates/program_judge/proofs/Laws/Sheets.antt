@@ -1,76 +1,85 @@
 -- From what a sheet was taken in from to what is answered on its text.
-use mathlib.Core.Path.{_≡_, sym, ap, _∙_}
-use mathlib.Core.List.{List}
-use Prim.Native.Nat.{ℕ, _+_, _*_, _/_, _<_, _≤_}
+use mathlib.Core.Path.{_≡_, refl, sym, ap, ap₂, _∙_, subst}
+use mathlib.Core.Bool.{Bool, true, false, cond}
+use mathlib.Core.List.{List, [], _∷_}
+use Prim.Native.Nat.{ℕ, _+_, _*_, _<_, _≤_}
 use native.Mathlib.Omega.{arith}
-use lib.ListN.{length, take}
+use lib.Dec.{eqb}
+use lib.ListN.{length, length-append, take}
 use lib.Seq.{length-take-le}
 use mir.Val.{Fits}
 use mir.Syntax.{w64}
+use borrow.Author.Tests.{eq-eqb, ne-eqb}
 use Rattle.base_answers.specs.declared.Answer.{Answer}
 use Rattle.base_answers.specs.declared.Answer.the-variants.{Line}
 use Rattle.base_limits.specs.Limits as limits
-use Rattle.surface_rules.specs.Threes.{Three, flat}
-use Rattle.surface_rules.proofs.Laws.Threes.{flat-length, front-of}
-use Rattle.text_rules.specs.Text.{lines}
-use Rattle.text_rules.specs.Workings.Parse.{said}
-use Rattle.text_rules.specs.Workings.Scanning.{Scanned}
-use Rattle.text_rules.specs.declared.Scan.{Scan}
-use Rattle.text_rules.specs.declared.Scan.the-variants.{Whole, Wrong}
-use Rattle.text_rules.proofs.Laws.Scanning.{whole-wrong, Kept, kept}
+use Rattle.text_rules.specs.Text.{count, bothLines}
+use Rattle.text_rules.specs.Fault.{Fault}
+use Rattle.text_rules.proofs.Theorems.{not-both, fault-once}
 use Rattle.text_rules.proofs.Laws.Lines.{lines-length}
-use Rattle.text_sheet.specs.Sheet.{points, triangles}
-use Rattle.text_sheet.specs.Workings.Parse.{parse}
-use Rattle.text_sheet.proofs.Laws.Texts.{parse-text, fault-only}
+use Rattle.text_sheet.specs.Sheet.{pitch=, points, triangles, head, Sheet, sheet, pitchSaid, wordsSaid, cornersSaid}
+use Rattle.text_sheet.proofs.Laws.Texts.{text-once}
+use Rattle.text_read.specs.Workings.Taking.{TakesWhole, Takes}
+use Rattle.text_read.specs.declared.Intake.{Intake}
+use Rattle.text_read.specs.declared.Intake.the-variants.{Whole, Wrong}
 use Rattle.text_read.proofs.Laws.Deliver as deliver
-use Rattle.program_judge.specs.Hears.{Hears}
+use Rattle.program_judge.specs.Hears.{Answers, Hears}
 use Rattle.program_judge.specs.Workings.Taken.{Taken, TakenIn, HearsTaken, HearsSet}
 use Rattle.program_judge.proofs.Theorems.{hears-front}
 
 -- a sheet is taken in from the first n bytes of a room
-pub taken-from : (room : List ℕ) (n : ℕ) {scan : Scan} {words corners : List ℕ} (words-before corners-before : List ℕ)
-    → Scanned flat flat (parse (take n room)) scan words corners words-before corners-before → limits.sheet-text < length room → Taken scan words corners
+pub taken-from : (room : List ℕ) (n : ℕ) {intake : Intake} {words corners : List ℕ} (words-before corners-before : List ℕ)
+    → Takes (take n room) intake words corners words-before corners-before → limits.sheet-text < length room → Taken intake words corners
 taken-from room n words-before corners-before s roomy =
-    (room, n, record { roomy = roomy; words-before = words-before; corners-before = corners-before; scanned = s })
+    (room, n, record { roomy = roomy; words-before = words-before; corners-before = corners-before; taken = s })
 
 -- what is answered on the bytes from which a sheet was taken in, and on others
-abbrev pub HearsBytes : Scan → List ℕ → List ℕ → List ℕ → Answer → Type 0
-HearsBytes scan words corners patches a =
-    (sheet words-before corners-before : List ℕ) → Scanned flat flat (parse sheet) scan words corners words-before corners-before → Hears sheet patches a
+abbrev pub HearsBytes : Intake → List ℕ → List ℕ → List ℕ → Answer → Type 0
+HearsBytes intake words corners patches a =
+    (bytes words-before corners-before : List ℕ) → Takes bytes intake words corners words-before corners-before → Hears bytes patches a
 
 -- so on the inputs that were read into the rooms
-hears-inputs : (scan : Scan) (words corners held : List ℕ) (m : ℕ) {a : Answer} → limits.set-text < length held → HearsBytes scan words corners (take m held) a → HearsTaken scan words corners held m a
+hears-inputs : (intake : Intake) (words corners held : List ℕ) (m : ℕ) {a : Answer} → limits.set-text < length held → HearsBytes intake words corners (take m held) a → HearsTaken intake words corners held m a
 unfolding HearsTaken
-hears-inputs scan words corners held m more-roomy h = λ room n t sheet patches in-room in-held. hears-front (t .roomy) more-roomy in-room in-held (h (take n room) (t .words-before) (t .corners-before) (t .scanned))
+hears-inputs intake words corners held m more-roomy h = λ room n t bytes patches in-room in-held. hears-front (t .roomy) more-roomy in-room in-held (h (take n room) (t .words-before) (t .corners-before) (t .taken))
 
 -- a text with a fault
-pub wrong-bytes : (scan : Scan) (words corners patches : List ℕ) (line : ℕ) → scan ≡ Wrong line → HearsBytes scan words corners patches (Line line)
-unfolding Scanned
-wrong-bytes scan words corners patches line e sheet words-before corners-before s =
+pub wrong-bytes : (intake : Intake) (words corners patches : List ℕ) (line : ℕ) → intake ≡ Wrong line → HearsBytes intake words corners patches (Line line)
+wrong-bytes intake words corners patches line e bytes words-before corners-before s =
+    let g : Fault sheet bytes line = subst (λ (i : Intake). Takes bytes i words corners words-before corners-before) e s in
     record {
-      of-fault = λ l f. let h : scan ≡ Wrong l = rw (fault-only f) at s in let d : line ≡ l = cc in ap Line d;
-      of-set-fault = λ ps ts x l f. absurd (none ps ts (rw (parse-text x) at s));
-      of-set = λ ps ts x ss us y. absurd (none ps ts (rw (parse-text x) at s));
+      of-fault = λ l f. ap Line (fault-once sheet g f);
+      of-set-fault = λ r x l f. absurd (not-both sheet x g);
+      of-set = λ r x ss us y. absurd (not-both sheet x g);
     }
-  where
-    none : (ps ts : List Three) → Scanned flat flat (said ps ts) scan words corners words-before corners-before → ⊥
-    none ps ts h = whole-wrong (sym (h .0) ∙ e)
 
-pub wrong-hears : (scan : Scan) (words corners held : List ℕ) (m line : ℕ) → limits.set-text < length held → scan ≡ Wrong line → HearsTaken scan words corners held m (Line line)
-wrong-hears scan words corners held m line more-roomy e = hears-inputs scan words corners held m more-roomy (wrong-bytes scan words corners (take m held) line e)
+pub wrong-hears : (intake : Intake) (words corners held : List ℕ) (m line : ℕ) → limits.set-text < length held → intake ≡ Wrong line → HearsTaken intake words corners held m (Line line)
+wrong-hears intake words corners held m line more-roomy e = hears-inputs intake words corners held m more-roomy (wrong-bytes intake words corners (take m held) line e)
 
--- a whole text of n points and m triangles
-module _ {scan : Scan} {n m : ℕ} (e : scan ≡ Whole n m) where
+-- a head has one line, or none at pitch 1
+pub head-one : (pitch : ℕ) → pitch ≡ 1 → length (head pitch) ≡ 0
+unfolding head
+head-one pitch e = rw (eq-eqb pitch 1 e)
+
+pub head-other : (pitch : ℕ) → (pitch ≡ 1 → ⊥) → length (head pitch) ≡ 1
+unfolding head
+head-other pitch e = rw (ne-eqb pitch 1 e)
+
+-- a whole text at pitch p of n points and m triangles
+module _ {intake : Intake} {p n m : ℕ} (e : intake ≡ Whole p n m) where
   -- as it was taken in
-  module _ (sheet words corners words-before corners-before : List ℕ) (s : Scanned flat flat (parse sheet) scan words corners words-before corners-before) where
-    here : Kept flat flat parse sheet n m words corners words-before corners-before
-    here = kept flat flat parse sheet scan n m words corners words-before corners-before s e
+  module _ (bytes words corners words-before corners-before : List ℕ) (s : Takes bytes intake words corners words-before corners-before) where
+    here : TakesWhole bytes p n m words corners words-before corners-before
+    here = deliver.taken s e
 
     pub words-small : Fits w64 (3 * n)
     words-small = omega (arith, deliver.few-points here)
 
     pub corners-small : Fits w64 (3 * m)
     corners-small = omega (arith, deliver.few-triangles here)
+
+    pub few-here : (n ≤ limits.points) × (m ≤ limits.triangles)
+    few-here = (deliver.few-points here, deliver.few-triangles here)
 
     -- the buffers hold all of them
     pub words-within : 3 * n ≤ length words
@@ -88,26 +97,34 @@ module _ {scan : Scan} {n m : ℕ} (e : scan ≡ Whole n m) where
     pub cut-few : (length (take (3 * n) words) ≤ limits.words) × (length (take (3 * m) corners) ≤ limits.corners)
     cut-few = (omega (arith, words-cut, deliver.few-points here), omega (arith, corners-cut, deliver.few-triangles here))
 
-  -- as many lines as are counted
-  lines-counted : (ps ts : List Three) → length (flat ps) / 3 + length (flat ts) / 3 + 2 ≡ length (lines points triangles ps ts)
-  lines-counted ps ts = omega (arith, flat-length ps, flat-length ts, lines-length points triangles ps ts)
+    -- as many lines as are counted
+    lines-counted : length (head p) + (n + m + 2) ≡ length (sheet .lines (here .said))
+    lines-counted =
+        let b = here .said .body in
+        ap₂ (λ (x y : ℕ). x + y) (ap (λ (k : ℕ). length (head k)) (here .pitch-is)) (omega (arith, here .points-are, here .triangles-are, lines-length points triangles b))
+        ∙ sym (length-append (head (here .said .head)) (bothLines points triangles b))
 
-  pub whole-bytes : (words corners patches : List ℕ) (a : Answer) → HearsSet (take (3 * n) words) (take (3 * m) corners) patches a → HearsBytes scan words corners patches a
-  unfolding Scanned
-  whole-bytes words corners patches a h sheet words-before corners-before s =
+    -- what is answered on what it says
+    heard : (patches : List ℕ) (last : ℕ) (a : Answer) → last ≡ length (head p) + (n + m + 2) → HearsSet p (take (3 * n) words) (take (3 * m) corners) patches last a
+        → (r : Sheet) → here .said ≡ r → HearsSet (pitchSaid r) (wordsSaid r) (cornersSaid r) patches (length (sheet .lines r)) a
+    heard patches last a counted h r same =
+        subst (λ (r : Sheet). HearsSet (pitchSaid r) (wordsSaid r) (cornersSaid r) patches (length (sheet .lines r)) a) same
+        (subst (λ (k : ℕ). HearsSet (pitchSaid (here .said)) (wordsSaid (here .said)) (cornersSaid (here .said)) patches k a) (counted ∙ lines-counted)
+        (subst (λ (k : ℕ). HearsSet k (wordsSaid (here .said)) (cornersSaid (here .said)) patches last a) (here .pitch-is)
+        (subst (λ (l : List ℕ). HearsSet p (wordsSaid (here .said)) l patches last a) (deliver.corners-are here)
+        (subst (λ (l : List ℕ). HearsSet p l (take (3 * m) corners) patches last a) (deliver.words-are here) h))))
+
+  pub whole-bytes : (words corners patches : List ℕ) (last : ℕ) (a : Answer) → last ≡ length (head p) + (n + m + 2)
+      → HearsSet p (take (3 * n) words) (take (3 * m) corners) patches last a → HearsBytes intake words corners patches a
+  whole-bytes words corners patches last a counted h bytes words-before corners-before s =
+      let k = here bytes words corners words-before corners-before s in
+      let on = heard bytes words corners words-before corners-before s patches last a counted h in
       record {
-        of-fault = λ l f. absurd (whole-wrong (sym e ∙ rw (fault-only f) at s));
-        of-set-fault = λ ps ts x l f. on ps ts (rw (parse-text x) at s) .of-set-fault l f ∙ ap (λ (k : ℕ). Line (k + l)) (lines-counted ps ts);
-        of-set = λ ps ts x ss us y. on ps ts (rw (parse-text x) at s) .of-set ss us y;
+        of-fault = λ l f. absurd (not-both sheet (k .text) f);
+        of-set-fault = λ r x l f. on r (text-once (k .text) x) .of-set-fault l f;
+        of-set = λ r x ss us y. on r (text-once (k .text) x) .of-set ss us y;
       }
-    where
-      on : (ps ts : List Three) → Scanned flat flat (said ps ts) scan words corners words-before corners-before → HearsSet (flat ps) (flat ts) patches a
-      on ps ts z =
-          let d : Whole n m ≡ Whole (length ps) (length ts) = sym e ∙ z .0 in
-          let f : take (3 * n) words ≡ flat ps = front-of ps words words-before n (z .1) cc in
-          let g : take (3 * m) corners ≡ flat ts = front-of ts corners corners-before m (z .2) cc in
-          rw (f, g) at h
 
-  pub whole-hears : (words corners held : List ℕ) (k : ℕ) (a : Answer) → limits.set-text < length held
-      → HearsSet (take (3 * n) words) (take (3 * m) corners) (take k held) a → HearsTaken scan words corners held k a
-  whole-hears words corners held k a more-roomy h = hears-inputs scan words corners held k more-roomy (whole-bytes words corners (take k held) a h)
+  pub whole-hears : (words corners held : List ℕ) (k last : ℕ) (a : Answer) → limits.set-text < length held → last ≡ length (head p) + (n + m + 2)
+      → HearsSet p (take (3 * n) words) (take (3 * m) corners) (take k held) last a → HearsTaken intake words corners held k a
+  whole-hears words corners held k last a more-roomy counted h = hears-inputs intake words corners held k more-roomy (whole-bytes words corners (take k held) last a counted h)

@@ -1,5 +1,4 @@
--- `hear_set` counts the sheet's lines, and judges no more than was read of the set.
-use native.Mathlib.Omega.{arith}
+-- `hear_set` judges no more than was read of the set.
 use lib.Dec.{lit≤}
 use borrow.Author.Needs.{needs}
 use Rattle.surface_rules.proofs.Laws.Lists.{as-long}
@@ -29,18 +28,13 @@ pub hear-set-spec : {M : Type 1} → statement M
 hear-set-spec =
     tie.close
     (tie.spec
-    (λ c κs. search needs)
-    (λ c. let s : tie.After-of = search in omega (arith, s .of .ensures .0, s .of .ensures .1))
-    (λ c. let s : tie.After-of = search in omega (arith, s .of .ensures .0, s .of .ensures .1))
-    (λ c. let s : tie.After-of = search in let e : tie.Start = search in omega (arith, s .of .ensures .0, s .of .ensures .1, e .pre .0, e .pre .1))
     (λ c. search needs)
     (λ c. search needs)
     (λ c κs. search needs)
     (λ c κs. search needs)
     (λ c.
-    let s : tie.After-of = search in
     let f : tie.After-refuses = search in
-    refused-hears (read f .read-set .ensures) (lit≤ tt) (lit≤ tt) (f .refuses .ensures) (c .if1 .taken) (omega (arith, s .of .ensures .0, s .of .ensures .1)))
+    refused-hears (read f .read-set .ensures) (lit≤ tt) (lit≤ tt) (f .refuses .ensures) (c .if1 .taken))
     (λ c. within (search) .states-in)
     (λ c. as-long _ _ (within (search) .states-in))
     (λ c. within (search) .corners-in)

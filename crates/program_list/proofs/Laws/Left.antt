@@ -12,7 +12,6 @@ use Rattle.base_answers.specs.declared.Answer.the-variants.{Line}
 use Rattle.base_limits.specs.Limits as limits
 use Rattle.surface_rules.specs.Edges.{Sound, startOf}
 use Rattle.surface_rules.specs.Refusals.{refusal}
-use Rattle.surface_rules.specs.Threes.{flat}
 use Rattle.surface_rules.proofs.Laws.Sound.{Passed, passed, passed-sound}
 use Rattle.surface_rules.proofs.Laws.Thens.{counts-fit}
 use Rattle.surface_rules.proofs.Laws.Over.{start-of, front-in}
@@ -28,7 +27,7 @@ use Rattle.fill_fates.proofs.Laws.Lengths.{states-length, weights-length}
 use Rattle.patch_surface.specs.Outcome.{Buffers, Outcome, refused, done, lent, needs, PatchesIf, Patches}
 use Rattle.text_rules.proofs.Theorems.{Known}
 use Rattle.text_rules.proofs.Laws.Cut.{read-itself}
-use Rattle.text_sheet.specs.Sheet.{points, triangles}
+use Rattle.text_sheet.specs.Sheet.{sheet, pitchSaid, wordsSaid, cornersSaid}
 use Rattle.text_sheet.proofs.Laws.Texts.{text-or-fault}
 use Rattle.program_lines.specs.Workings.Telling.{Lying}
 use Rattle.program_list.specs.Lists.{Lists, ListsIn, loopsOf}
@@ -72,13 +71,13 @@ lengths-same : (corners : List ℕ) (ls : List (List ℕ)) → map length (map (
 lengths-same corners [] = refl
 lengths-same corners (l ∷ ls) = rw (length-map l (startOf corners), lengths-same corners ls)
 
-module _ (words corners : List ℕ) (b : Buffers) where
-  module _ (sound : Sound corners) (few : length corners ≤ limits.corners) (fates : List Fate) (course : Course (gridOf words) corners [] (rimList (gridOf words) corners) (ringList corners) fates) where
+module _ (pitch : ℕ) (words corners : List ℕ) (b : Buffers) where
+  module _ (sound : Sound corners) (few : length corners ≤ limits.corners) (fates : List Fate) (course : Course (gridOf pitch words) corners [] (rimList (gridOf pitch words) corners) (ringList corners) fates) where
     rings-many : length (ringList corners) ≡ length (loops corners)
     rings-many = length-map (loops corners) (ring corners)
 
     fated : length fates ≡ length (ringList corners)
-    fated = course-length (gridOf words) corners [] (rimList (gridOf words) corners) (ringList corners) fates course
+    fated = course-length (gridOf pitch words) corners [] (rimList (gridOf pitch words) corners) (ringList corners) fates course
 
     lengths-long : length (loops corners) ≡ length (map length (loops corners))
     lengths-long = sym (length-map (loops corners) length)
@@ -86,57 +85,57 @@ module _ (words corners : List ℕ) (b : Buffers) where
     states-long : length (loops corners) ≡ length (statesOf fates)
     states-long = sym (states-length fates ∙ fated ∙ rings-many)
 
-    weights-long : length (loops corners) ≡ length (weightsOf (gridOf words) (ringList corners) fates)
-    weights-long = sym (weights-length (gridOf words) (ringList corners) fates fated ∙ fated ∙ rings-many)
+    weights-long : length (loops corners) ≡ length (weightsOf (gridOf pitch words) (ringList corners) fates)
+    weights-long = sym (weights-length (gridOf pitch words) (ringList corners) fates fated ∙ fated ∙ rings-many)
 
     rings-few : length (flatten (ringList corners)) ≤ limits.corners
     rings-few = omega (arith, vertices-in-all corners sound, vertices-few corners sound)
 
-    left-lying : Lying (loopsOf (gridOf words) (ringList corners) fates) (used (done words corners fates b))
+    left-lying : Lying (loopsOf (gridOf pitch words) (ringList corners) fates) (used (done pitch words corners fates b))
     unfolding ringsOf
     left-lying =
         record {
-          rings-are = start-of (ringsOf corners (loops corners)) (b .rings) _ refl ∙ sym (ap flatten (rings-shown (gridOf words) (ringList corners) fates fated));
-          lengths-are = start-of (map length (loops corners)) (b .lengths) _ lengths-long ∙ sym (lengths-shown (gridOf words) (ringList corners) fates fated ∙ lengths-same corners (loops corners));
-          states-are = start-of (statesOf fates) (b .states) _ states-long ∙ sym (states-shown (gridOf words) (ringList corners) fates fated);
-          weights-are = start-of (weightsOf (gridOf words) (ringList corners) fates) (b .weights) _ weights-long ∙ sym (weights-shown (gridOf words) (ringList corners) fates);
-          patches-are = start-of (laidBy (ringList corners) fates) (b .patches) _ refl ∙ sym (patches-shown (gridOf words) (ringList corners) fates);
+          rings-are = start-of (ringsOf corners (loops corners)) (b .rings) _ refl ∙ sym (ap flatten (rings-shown (gridOf pitch words) (ringList corners) fates fated));
+          lengths-are = start-of (map length (loops corners)) (b .lengths) _ lengths-long ∙ sym (lengths-shown (gridOf pitch words) (ringList corners) fates fated ∙ lengths-same corners (loops corners));
+          states-are = start-of (statesOf fates) (b .states) _ states-long ∙ sym (states-shown (gridOf pitch words) (ringList corners) fates fated);
+          weights-are = start-of (weightsOf (gridOf pitch words) (ringList corners) fates) (b .weights) _ weights-long ∙ sym (weights-shown (gridOf pitch words) (ringList corners) fates);
+          patches-are = start-of (laidBy (ringList corners) fates) (b .patches) _ refl ∙ sym (patches-shown (gridOf pitch words) (ringList corners) fates);
         }
 
-    done-listed : LeftListed (done words corners fates b)
+    done-listed : LeftListed (done pitch words corners fates b)
     done-listed = record {
       rings-in = front-in (ringsOf corners (loops corners)) (b .rings) _ _ refl refl;
       lengths-in = front-in (map length (loops corners)) (b .lengths) _ _ lengths-long refl;
       states-in = front-in (statesOf fates) (b .states) _ _ states-long refl;
-      weights-in = front-in (weightsOf (gridOf words) (ringList corners) fates) (b .weights) _ _ weights-long refl;
+      weights-in = front-in (weightsOf (gridOf pitch words) (ringList corners) fates) (b .weights) _ _ weights-long refl;
       patches-in = front-in (laidBy (ringList corners) fates) (b .patches) _ _ refl refl;
       listed = record {
-        loops = loopsOf (gridOf words) (ringList corners) fates;
+        loops = loopsOf (gridOf pitch words) (ringList corners) fates;
         lying = left-lying;
-        fits = loops-fit (gridOf words) corners [] (rimList (gridOf words) corners) (ringList corners) fates course (rings-three corners sound) rings-few;
-        many = loops-many (gridOf words) (ringList corners) fates fated ∙ rings-many;
+        fits = loops-fit (gridOf pitch words) corners [] (rimList (gridOf pitch words) corners) (ringList corners) fates course (rings-three corners sound) rings-few;
+        many = loops-many (gridOf pitch words) (ringList corners) fates fated ∙ rings-many;
       };
     }
 
   abbrev refuses : Answer
-  refuses = refusal words corners (lent b) (needs words corners)
+  refuses = refusal pitch words corners (lent b) (needs words corners)
 
   -- what a course left, by the fates that it gave
-  pub course-listed : (fates : List Fate) → refusing refuses ≡ false → Course (gridOf words) corners [] (rimList (gridOf words) corners) (ringList corners) fates → LeftListed (done words corners fates b)
+  pub course-listed : (fates : List Fate) → refusing refuses ≡ false → Course (gridOf pitch words) corners [] (rimList (gridOf pitch words) corners) (ringList corners) fates → LeftListed (done pitch words corners fates b)
   course-listed fates r course =
-      let table : Passed words corners (lent b) (needs words corners) = passed words corners (lent b) (needs words corners) r in
-      done-listed (passed-sound words corners (lent b) (needs words corners) table) (counts-fit (length words) (length corners) (table .counts) .few-corners) fates course
+      let table : Passed pitch words corners (lent b) (needs words corners) = passed pitch words corners (lent b) (needs words corners) r in
+      done-listed (passed-sound pitch words corners (lent b) (needs words corners) table) (counts-fit (length words) (length corners) (table .counts) .few-corners) fates course
 
   -- whose loops are those of the fates
-  pub course-loops : (fates : List Fate) (r : refusing refuses ≡ false) (course : Course (gridOf words) corners [] (rimList (gridOf words) corners) (ringList corners) fates)
-      → course-listed fates r course .listed .loops ≡ loopsOf (gridOf words) (ringList corners) fates
+  pub course-loops : (fates : List Fate) (r : refusing refuses ≡ false) (course : Course (gridOf pitch words) corners [] (rimList (gridOf pitch words) corners) (ringList corners) fates)
+      → course-listed fates r course .listed .loops ≡ loopsOf (gridOf pitch words) (ringList corners) fates
   unfolding course-listed done-listed
   course-loops fates r course = refl
 
-  pub patches-listed : (o : Outcome) → Patches words corners b o → LeftListed o
+  pub patches-listed : (o : Outcome) → Patches pitch words corners b o → LeftListed o
   patches-listed o h = go (refusing refuses) refl h
     where
-      go : (t : Bool) → refusing refuses ≡ t → PatchesIf t refuses words corners b o → LeftListed o
+      go : (t : Bool) → refusing refuses ≡ t → PatchesIf t refuses pitch words corners b o → LeftListed o
       go true r e = subst LeftListed (sym e) (none-listed refuses b)
       go false r (fates, course, e) = subst LeftListed (sym e) (course-listed fates r course)
 
@@ -144,8 +143,8 @@ module _ (words corners : List ℕ) (b : Buffers) where
 pub lists-listed : {bytes : List ℕ} {b : Buffers} {o : Outcome} → Lists bytes b o → LeftListed o
 lists-listed {bytes} {b} {o} l = go (text-or-fault bytes)
   where
-    go : Known points triangles bytes → LeftListed o
-    go (inl t) = patches-listed (flat (t .0)) (flat (t .1)) b o (l .of-text (t .0) (t .1) (t .2))
+    go : Known sheet bytes → LeftListed o
+    go (inl t) = patches-listed (pitchSaid (t .0)) (wordsSaid (t .0)) (cornersSaid (t .0)) b o (l .of-text (t .0) (t .1))
     go (inr f) = subst LeftListed (sym (l .of-fault (f .0) (f .1))) (none-listed (Line (f .0)) b)
 
 -- so of what was read into a room

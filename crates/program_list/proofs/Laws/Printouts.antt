@@ -11,10 +11,9 @@ use Rattle.base_answers.specs.declared.Answer.{Answer}
 use Rattle.base_answers.specs.declared.Answer.the-variants.{Done}
 use Rattle.surface_rules.specs.Buffers.{over}
 use Rattle.surface_rules.specs.Refusals.{refusal}
-use Rattle.surface_rules.specs.Threes.{flat}
 use Rattle.patch_surface.specs.Outcome.{Buffers, Outcome, lent, needs, PatchesIf, Patches}
 use Rattle.text_rules.proofs.Theorems.{Known}
-use Rattle.text_sheet.specs.Sheet.{points, triangles}
+use Rattle.text_sheet.specs.Sheet.{sheet, pitchSaid, wordsSaid, cornersSaid}
 use Rattle.text_sheet.proofs.Laws.Texts.{text-or-fault}
 use Rattle.program_lines.specs.Lines.{line, answerLine, loops=}
 use Rattle.program_lines.specs.Listing.{Shown, loopLines, listing}
@@ -34,18 +33,18 @@ Ends false o = o .answer ≡ Done
 ends-here : (x : Bool) (o : Outcome) → refusing (o .answer) ≡ x → Ends x o → Ends (refusing (o .answer)) o
 ends-here x o e h = subst (λ (y : Bool). Ends y o) (sym e) h
 
-patches-end : (words corners : List ℕ) (b : Buffers) (o : Outcome) → Patches words corners b o → Ends (refusing (o .answer)) o
-patches-end words corners b o h = go (refusal words corners (lent b) (needs words corners)) (refusing (refusal words corners (lent b) (needs words corners))) refl h
+patches-end : (pitch : ℕ) (words corners : List ℕ) (b : Buffers) (o : Outcome) → Patches pitch words corners b o → Ends (refusing (o .answer)) o
+patches-end pitch words corners b o h = go (refusal pitch words corners (lent b) (needs words corners)) (refusing (refusal pitch words corners (lent b) (needs words corners))) refl h
   where
-    go : (a : Answer) (x : Bool) → refusing a ≡ x → PatchesIf x a words corners b o → Ends (refusing (o .answer)) o
+    go : (a : Answer) (x : Bool) → refusing a ≡ x → PatchesIf x a pitch words corners b o → Ends (refusing (o .answer)) o
     go a true r e = ends-here true o (ap (λ (p : Outcome). refusing (p .answer)) e ∙ r) (ap (λ (p : Outcome). p .loops) e)
     go a false r (fates, course, e) = ends-here false o (ap (λ (p : Outcome). refusing (p .answer)) e) (ap (λ (p : Outcome). p .answer) e)
 
 lists-end : {bytes : List ℕ} {b : Buffers} {o : Outcome} → Lists bytes b o → Ends (refusing (o .answer)) o
 lists-end {bytes} {b} {o} l = go (text-or-fault bytes)
   where
-    go : Known points triangles bytes → Ends (refusing (o .answer)) o
-    go (inl t) = patches-end (flat (t .0)) (flat (t .1)) b o (l .of-text (t .0) (t .1) (t .2))
+    go : Known sheet bytes → Ends (refusing (o .answer)) o
+    go (inl t) = patches-end (pitchSaid (t .0)) (wordsSaid (t .0)) (cornersSaid (t .0)) b o (l .of-text (t .0) (t .1))
     go (inr f) = let e = l .of-fault (f .0) (f .1) in ends-here true o (ap (λ (p : Outcome). refusing (p .answer)) e) (ap (λ (p : Outcome). p .loops) e)
 
 -- what is put of a refusal is the answer's line, and of any other the listing

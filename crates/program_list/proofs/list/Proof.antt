@@ -8,7 +8,7 @@ use Rattle.program_list.proofs.list.Tie as tie
 
 -- where the text was found to be whole, and where what it says was patched
 abbrev Whole : Type 0
-Whole = tie.After-points
+Whole = tie.After-pitch
 
 abbrev taken : Whole → tie.After-take-in
 taken w = search
@@ -39,4 +39,4 @@ list-spec =
     (λ c. search needs)
     (λ c. search needs)
     (λ c. search needs)
-    (λ c. let u : tie.After-patch = search in let w = whole u in search (whole-lists, taken w .take-in .ensures, w .points .given, u .patch .ensures)))
+    (λ c. let u : tie.After-patch = search in let w = whole u in search (whole-lists, taken w .take-in .ensures, w .pitch .given, u .patch .ensures)))

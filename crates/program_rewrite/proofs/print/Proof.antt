@@ -41,7 +41,7 @@ returns-3 c =
     let t : tie.Else2 = search in
     let r = roomy (read f) .if1 .left in
     long-prints r _
-    (written-rewrites (read f .read .ensures) (omega arith) (omega arith) (f .refuses .ensures) _ (t .if2 .left) (λ ps ts x. omega (arith, longest x, r)) refl)
+    (written-rewrites (read f .read .ensures) (omega arith) (omega arith) (f .refuses .ensures) (entry (read f) .args .out .now) (t .if2 .left) (λ _ x. omega (arith, longest x, r)) refl)
     (w .write .ensures .1) (w .write .ensures .0)
 
 pub print-spec : {M : Type 1} → statement M

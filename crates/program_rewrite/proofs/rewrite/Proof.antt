@@ -48,10 +48,10 @@ returns-2 c =
     let t : tie.Else1 = search in
     let s = entry (read f) in
     record {
-      out = printed (writes _ _ (s .args .room .now));
+      out = printed (writes _ _ _ (s .args .room .now));
       due = λ input held.
           room-enough (s .pre .0) held
-          (written-rewrites (read f .read .ensures) (omega arith) (omega arith) (f .refuses .ensures) _ (t .if1 .left) (λ ps ts x. start-within (s .args .n) (s .args .room .now)) refl);
+          (written-rewrites (read f .read .ensures) (omega arith) (omega arith) (f .refuses .ensures) _ (t .if1 .left) (λ _ x. start-within (s .args .n) (s .args .room .now)) refl);
       many = w .write .ensures .1;
       lies = w .write .ensures .0;
     }

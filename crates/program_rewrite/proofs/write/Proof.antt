@@ -17,9 +17,9 @@ write-spec =
     let f : tie.After-refuses = search in
     let u : tie.After-put-answer = search in
     let t : tie.Then1 = search in
-    refused-lies _ _ _ _ (w .write .ensures) (f .refuses .ensures) (t .if1 .taken) (u .put-answer .ensures .0 .0) (u .put-answer .ensures .0 .1))
+    refused-lies _ _ _ _ _ (w .write .ensures) (f .refuses .ensures) (t .if1 .taken) (u .put-answer .ensures .0 .0) (u .put-answer .ensures .0 .1))
     (λ c. search needs)
     (λ c.
     let w : tie.After-write = search in
     let f : tie.After-refuses = search in
-    let t : tie.Else1 = search in written-lies _ _ _ _ (w .write .ensures) (f .refuses .ensures) (t .if1 .left)))
+    let t : tie.Else1 = search in written-lies _ _ _ _ _ (w .write .ensures) (f .refuses .ensures) (t .if1 .left)))

@@ -23,21 +23,21 @@ use Rattle.rim_mark.specs.Workings.Marking.{markOf, MarkRoom, Marked}
 use Rattle.rim_mark.proofs.Laws.Crossing.{still-crossing}
 use Rattle.rim_mark.proofs.Laws.Marks.{marks-told, rims-many, first-at}
 
-module _ {words corners table : List ℕ} {grid : List ℤ} {rings lengths others asked : List ℕ} (k : Known words corners table grid rings lengths others asked) where
+module _ {pitch : ℕ} {words corners table : List ℕ} {grid : List ℤ} {rings lengths others asked : List ℕ} (k : Known pitch words corners table grid rings lengths others asked) where
   pub input-here : Input corners
   input-here = record { whole = k .fits .corner-threes; few = k .fits .few-corners; inside = corner-inside k }
 
   pub as-many-loops : length (ringList corners) ≡ length (loops corners)
   as-many-loops = length-map (loops corners) (ring corners)
 
-  module _ {at : Listed} {firsts rings′ lengths′ firsts′ : List ℕ} {grid′ : List ℤ} (ls : ListsLoops corners (loops corners) rings lengths firsts at rings′ lengths′ firsts′) (eg : grid′ ≡ over (gridOf words) grid) where
+  module _ {at : Listed} {firsts rings′ lengths′ firsts′ : List ℕ} {grid′ : List ℤ} (ls : ListsLoops corners (loops corners) rings lengths firsts at rings′ lengths′ firsts′) (eg : grid′ ≡ over (gridOf pitch words) grid) where
     abbrev g : List ℤ
     g = take (length words) grid′
 
     pub loops-here : Loops g corners (ringList corners) (take (at .vertices) rings′) (take (at .loops) lengths′)
     loops-here =
-        of-parts ls words grid grid′ eg (λ (x : List ℤ) (r l : List ℕ). Loops x corners (ringList corners) r l)
-        (loops-of words corners table (k .woven) (k .on-grid) (k .fits .few-words) (k .fits .few-corners))
+        of-parts ls pitch words grid grid′ eg (λ (x : List ℤ) (r l : List ℕ). Loops x corners (ringList corners) r l)
+        (loops-of pitch words corners table (k .woven) (k .on-grid) (k .fits .few-words) (k .fits .few-corners))
 
     firsts-long : length (loops corners) ≤ length firsts′
     firsts-long = front-in (map firstOf (loops corners)) firsts firsts′ (length (loops corners)) (sym (length-map (loops corners) firstOf)) (ls .all-firsts)

@@ -30,13 +30,13 @@ module _ (ws cs words corners : List ℕ) where
   abbrev needed : Answer
   needed = bufferRefusal (length words ∷ length corners ∷ []) (length ws ∷ length cs ∷ [])
 
-  -- where every corner names a point, a text's reading does no more
-  named-handed : unnamedRefusal cs (length ws / 3) ≡ Done → deliver ws cs words corners ≡ handed ws cs words corners
+  -- where every corner names a point, the reading of a text without a line of a pitch does no more
+  named-handed : unnamedRefusal cs (length ws / 3) ≡ Done → deliver 1 ws cs words corners ≡ handed ws cs words corners
   unfolding deliver handed
   named-handed e = rw e (go (refusing needed) refl)
     where
       whole : Answer → ReadOutcome
-      whole a = cond (refusing a) (notRead a words corners) (record { answer = Done; word-count = length ws; corner-count = length cs; words = over ws words; corners = over cs corners })
+      whole a = cond (refusing a) (notRead a words corners) (record { answer = Done; pitch = 1; word-count = length ws; corner-count = length cs; words = over ws words; corners = over cs corners })
 
       go : (t : Bool) → refusing needed ≡ t → whole (thenCheck needed Done) ≡ whole needed
       go true q = ap whole (then-refused needed Done q)
@@ -49,7 +49,7 @@ module _ (ws cs words corners : List ℕ) where
     short-handed r h k = not-read r a words corners k ∙ rw (← e, ← is, h)
 
     pub all-handed : {words′ corners′ : List ℕ} → t ≡ false → words′ ≡ over ws words → corners′ ≡ over cs corners
-        → readOutcome (record { answer = Done; words = length ws; corners = length cs }) words′ corners′ ≡ handed ws cs words corners
+        → readOutcome (record { answer = Done; pitch = 1; words = length ws; corners = length cs }) words′ corners′ ≡ handed ws cs words corners
     unfolding handed
     all-handed h p q = rw (p, q) (rw (← e, ← is, h))
 
@@ -95,7 +95,7 @@ module _ (b words corners : List ℕ) where
     reads-handed m = rw (flat-length (pointsIn b), corners-count b, file-is, le-leb points limits.points m)
 
     -- Every corner names a point, so what the reading of a text would deliver is what is read.
-    pub delivers : points ≤ limits.points → deliver (flat (pointsIn b)) (cornersIn b) words corners ≡ readsFile b words corners
+    pub delivers : points ≤ limits.points → deliver 1 (flat (pointsIn b)) (cornersIn b) words corners ≡ readsFile b words corners
     delivers m = named-handed (flat (pointsIn b)) (cornersIn b) words corners (all-named b) ∙ reads-handed m
 
 pub fitting : (b : List ℕ) {a : Answer} (c : ℕ) {t : Bool} → c ≡ facets b → a ≡ sizeRefusal (length b) c → t ≡ refusing a → t ≡ false → Fitting b c

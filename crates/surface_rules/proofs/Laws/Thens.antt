@@ -8,14 +8,15 @@ use lib.ListN.{length, getD}
 use borrow.Author.Tests.{eq-eqb, eqb-true, le-leb, leb-true, ltb-true, ltb-false}
 use Rattle.base_answers.specs.Numbers.{refusing}
 use Rattle.base_answers.specs.declared.Answer.{Answer}
-use Rattle.base_answers.specs.declared.Answer.the-variants.{Done, Words, Corners, Buffer, Unnamed, Twice, Repeated, NotFinite, TooFar}
+use Rattle.base_answers.specs.declared.Answer.the-variants.{Done, Words, Corners, Buffer, Unnamed, Twice, Repeated, NotFinite, TooFar, NoPitch}
 use Rattle.base_types.specs.Counts.{threes}
+use Rattle.base_types.specs.Pitches.{isPitch}
 use Rattle.base_limits.specs.Limits as limits
 use Rattle.surface_rules.specs.declared.Found.{Found}
 use Rattle.surface_rules.specs.declared.Found.the-variants.{At, Nothing}
 use Rattle.surface_rules.specs.Smallest.{least}
 use Rattle.surface_rules.specs.Edges.{twice, repeats}
-use Rattle.surface_rules.specs.Refusals.{short, unnamed, notFinite, tooFar, thenCheck, refuseAt, countRefusal, bufferRefusal, cornerRefusal, wordRefusal, contentRefusal}
+use Rattle.surface_rules.specs.Refusals.{short, unnamed, notFinite, tooFar, thenCheck, refuseAt, pitchRefusal, countRefusal, bufferRefusal, cornerRefusal, wordRefusal, contentRefusal}
 use Rattle.surface_rules.proofs.Laws.Tests.{both-true}
 use Rattle.surface_rules.proofs.Laws.Smallest.{least-never, least-sound}
 
@@ -56,6 +57,10 @@ passing-then a b p q = go (refusing a) refl
 
 -- ---- so of each part of the table
 
+pub pitch-passing : (pitch : ℕ) → Passing (pitchRefusal pitch)
+unfolding pitchRefusal
+pitch-passing pitch = passing-unless (isPitch pitch) NoPitch refl
+
 pub count-passing : (words corners : ℕ) → Passing (countRefusal words corners)
 unfolding countRefusal
 count-passing words corners =
@@ -78,15 +83,15 @@ corner-passing corners points =
     let r = least (repeats corners) (length corners) in
     passing-then (refuseAt Unnamed n) (thenCheck (refuseAt Twice t) (refuseAt Repeated r)) (passing-at Unnamed n (λ i. refl)) (passing-two Twice Repeated t r (λ i. refl) (λ i. refl))
 
-pub word-passing : (words : List ℕ) → Passing (wordRefusal words)
+pub word-passing : (pitch : ℕ) (words : List ℕ) → Passing (wordRefusal pitch words)
 unfolding wordRefusal
-word-passing words = passing-two NotFinite TooFar (least (notFinite words) (length words)) (least (tooFar words) (length words)) (λ i. refl) (λ i. refl)
+word-passing pitch words = passing-two NotFinite TooFar (least (notFinite words) (length words)) (least (tooFar pitch words) (length words)) (λ i. refl) (λ i. refl)
 
-pub content-passing : (words corners lent needs : List ℕ) → Passing (contentRefusal words corners lent needs)
+pub content-passing : (pitch : ℕ) (words corners lent needs : List ℕ) → Passing (contentRefusal pitch words corners lent needs)
 unfolding contentRefusal
-content-passing words corners lent needs =
-    passing-then (bufferRefusal lent needs) (thenCheck (cornerRefusal corners (length words / 3)) (wordRefusal words)) (buffer-passing lent needs)
-    (passing-then (cornerRefusal corners (length words / 3)) (wordRefusal words) (corner-passing corners (length words / 3)) (word-passing words))
+content-passing pitch words corners lent needs =
+    passing-then (bufferRefusal lent needs) (thenCheck (cornerRefusal corners (length words / 3)) (wordRefusal pitch words)) (buffer-passing lent needs)
+    (passing-then (cornerRefusal corners (length words / 3)) (wordRefusal pitch words) (corner-passing corners (length words / 3)) (word-passing pitch words))
 
 pub done-of : (a : Answer) → Passing a → refusing a ≡ false → a ≡ Done
 unfolding Passing
@@ -166,12 +171,12 @@ three-long a b c k l m f g h = buffers-enough (a ∷ b ∷ c ∷ []) (k ∷ l �
     at-each (suc (suc (suc i))) p = absurd (omega arith)
 
 -- words that pass are finite and near
-pub words-pass : (words : List ℕ) → wordRefusal words ≡ Done → (least (notFinite words) (length words) ≡ Nothing) × (least (tooFar words) (length words) ≡ Nothing)
+pub words-pass : (pitch : ℕ) (words : List ℕ) → wordRefusal pitch words ≡ Done → (least (notFinite words) (length words) ≡ Nothing) × (least (tooFar pitch words) (length words) ≡ Nothing)
 unfolding wordRefusal
-words-pass words = go (least (notFinite words) (length words)) refl (least (tooFar words) (length words)) refl
+words-pass pitch words = go (least (notFinite words) (length words)) refl (least (tooFar pitch words) (length words)) refl
   where
-    go : (f : Found) → least (notFinite words) (length words) ≡ f → (g : Found) → least (tooFar words) (length words) ≡ g
-        → thenCheck (refuseAt NotFinite f) (refuseAt TooFar g) ≡ Done → (least (notFinite words) (length words) ≡ Nothing) × (least (tooFar words) (length words) ≡ Nothing)
+    go : (f : Found) → least (notFinite words) (length words) ≡ f → (g : Found) → least (tooFar pitch words) (length words) ≡ g
+        → thenCheck (refuseAt NotFinite f) (refuseAt TooFar g) ≡ Done → (least (notFinite words) (length words) ≡ Nothing) × (least (tooFar pitch words) (length words) ≡ Nothing)
     go Nothing e Nothing h d = (e, h)
     go Nothing e (At j) h d = let z : _≡_ {A = ℕ} 0 1 = cc in absurd (omega arith)
     go (At i) e g h d = let z : _≡_ {A = ℕ} 0 1 = cc in absurd (omega arith)

@@ -6,7 +6,6 @@ use Prim.Native.Nat.{ℕ, _+_, _≤_, _<_}
 use mathlib.Core.Logic.{⊎-elim}
 use native.Mathlib.Numerals.{add-one}
 use native.Mathlib.Omega.{arith}
-use lib.Dec.{lit<}
 use lib.IntN.{ℤ, pos}
 use lib.ListN.{length, getD, take, set, length-map}
 use lib.Seq.{take-all, take-suc, length-take-le}
@@ -17,7 +16,8 @@ use Rattle.grid_coordinate.specs.Units.{units}
 use Rattle.grid_coordinate.specs.Places.{whole, Places}
 use Rattle.grid_coordinate.specs.declared.Coordinate.the-variants.{NotFinite, TooFar}
 use Rattle.grid_coordinate.proofs.Laws.Floats.{field, no-number}
-use Rattle.grid_coordinate.proofs.Laws.Coordinates.{beyond, held}
+use Rattle.grid_coordinate.proofs.Laws.Coordinates.{held}
+use Rattle.grid_place.proofs.Laws.Placing.{beyond}
 use Rattle.surface_rules.specs.Buffers.{over}
 use Rattle.surface_rules.specs.Refusals.{notFinite, tooFar}
 use Rattle.surface_rules.proofs.Laws.Tests.{eq-or-not, lt-or-le}
@@ -28,12 +28,12 @@ use Rattle.check_words.specs.Workings.OnGrid.{OnGrid}
 use Rattle.survey_grid.specs.Grid.{wholeOf, gridOf}
 
 -- of the answers for a coordinate two are not met
-module _ (words : List ℕ) (i : ℕ) (on : OnGrid words) (l : i < length words) where
-  pub no-nan : Places 1 (ofBits binary32 (getD words i 0)) NotFinite → ⊥
-  no-nan p = true≢false (sym (not-finite-is words i NotFinite p) ∙ least-never (notFinite words) (length words) (on .numbers) i l)
+module _ (pitch : ℕ) (some : 0 < pitch) (most : pitch ≤ 10) (words : List ℕ) (i : ℕ) (on : OnGrid pitch words) (l : i < length words) where
+  pub no-nan : Places pitch (ofBits binary32 (getD words i 0)) NotFinite → ⊥
+  no-nan p = true≢false (sym (not-finite-is pitch words i NotFinite p) ∙ least-never (notFinite words) (length words) (on .numbers) i l)
 
-  pub not-far : (x : lib.Ieee.Float) → Places 1 (ofBits binary32 (getD words i 0)) (TooFar x) → ⊥
-  not-far x p = true≢false (sym (too-far-is words i (TooFar x) p) ∙ least-never (tooFar words) (length words) (on .near) i l)
+  pub not-far : (x : lib.Ieee.Float) → Places pitch (ofBits binary32 (getD words i 0)) (TooFar x) → ⊥
+  not-far x p = true≢false (sym (too-far-is pitch words i (TooFar x) p) ∙ least-never (tooFar pitch words) (length words) (on .near) i l)
 
   -- so the exponent's field is none that belongs to them
   pub low-field : field (getD words i 0) < 149
@@ -43,30 +43,30 @@ module _ (words : List ℕ) (i : ℕ) (on : OnGrid words) (l : i < length words)
       high h =
           ⊎-elim
           (λ (e : field (getD words i 0) ≡ 255). no-nan (no-number (getD words i 0) e))
-          (λ (n : field (getD words i 0) ≡ 255 → ⊥). not-far (ofBits binary32 (getD words i 0)) (beyond (getD words i 0) h n (lit< tt)))
+          (λ (n : field (getD words i 0) ≡ 255 → ⊥). not-far (ofBits binary32 (getD words i 0)) (beyond (getD words i 0) pitch some most h n))
           (eq-or-not (field (getD words i 0)) 255)
 
-pub whole-is : (word : ℕ) → field word < 149 → (k : ℤ) → k ≡ whole 1 (units (ofBits binary32 word)) → toZ w32 (ofZ w32 k) ≡ wholeOf word
+pub whole-is : (pitch word : ℕ) → 0 < pitch → field word < 149 → (k : ℤ) → k ≡ whole pitch (units (ofBits binary32 word)) → toZ w32 (ofZ w32 k) ≡ wholeOf pitch word
 unfolding wholeOf
-whole-is word h k e = held word h k e
+whole-is pitch word some h k e = held word h pitch some k e
 
 -- the first i words are laid
-unfoldable pub Laid : List ℕ → List ℤ → ℕ → List ℤ → Type 0
-Laid words before i now = now ≡ over (gridOf (take i words)) before
+unfoldable pub Laid : ℕ → List ℕ → List ℤ → ℕ → List ℤ → Type 0
+Laid pitch words before i now = now ≡ over (gridOf pitch (take i words)) before
 
-pub laid-none : (words : List ℕ) (before : List ℤ) → Laid words before 0 before
+pub laid-none : (pitch : ℕ) (words : List ℕ) (before : List ℤ) → Laid pitch words before 0 before
 unfolding Laid
-laid-none words before = sym (over-none before)
+laid-none pitch words before = sym (over-none before)
 
-pub laid-more : (words : List ℕ) (before : List ℤ) (i : ℕ) (now : List ℤ) (v : ℤ) → Laid words before i now → i < length words → length words ≤ length before → v ≡ wholeOf (getD words i 0) → Laid words before (i + 1) (set now i v)
+pub laid-more : (pitch : ℕ) (words : List ℕ) (before : List ℤ) (i : ℕ) (now : List ℤ) (v : ℤ) → Laid pitch words before i now → i < length words → length words ≤ length before → v ≡ wholeOf pitch (getD words i 0) → Laid pitch words before (i + 1) (set now i v)
 unfolding Laid
-laid-more words before i now v h l m e =
-    let n : i ≡ length (gridOf (take i words)) = sym (length-map (take i words) wholeOf ∙ length-take-le i words (omega arith)) in
+laid-more pitch words before i now v h l m e =
+    let n : i ≡ length (gridOf pitch (take i words)) = sym (length-map (take i words) (wholeOf pitch) ∙ length-take-le i words (omega arith)) in
     ap (λ (g : List ℤ). set g i v) h
-    ∙ over-snoc (gridOf (take i words)) before v (pos 0) i n (omega arith)
-    ∙ ap (λ (z : ℤ). over (gridOf (take i words) ++ (z ∷ [])) before) e
-    ∙ ap (λ (g : List ℤ). over g before) (sym (map-append wholeOf (take i words) (getD words i 0 ∷ [])) ∙ ap gridOf (sym (take-suc words i 0 l) ∙ ap (λ (k : ℕ). take k words) (sym (add-one i))))
+    ∙ over-snoc (gridOf pitch (take i words)) before v (pos 0) i n (omega arith)
+    ∙ ap (λ (z : ℤ). over (gridOf pitch (take i words) ++ (z ∷ [])) before) e
+    ∙ ap (λ (g : List ℤ). over g before) (sym (map-append (wholeOf pitch) (take i words) (getD words i 0 ∷ [])) ∙ ap (gridOf pitch) (sym (take-suc words i 0 l) ∙ ap (λ (k : ℕ). take k words) (sym (add-one i))))
 
-pub laid-all : (words : List ℕ) (before : List ℤ) (i : ℕ) (now : List ℤ) → Laid words before i now → length words ≤ i → now ≡ over (gridOf words) before
+pub laid-all : (pitch : ℕ) (words : List ℕ) (before : List ℤ) (i : ℕ) (now : List ℤ) → Laid pitch words before i now → length words ≤ i → now ≡ over (gridOf pitch words) before
 unfolding Laid
-laid-all words before i now h l = h ∙ ap (λ (w : List ℕ). over (gridOf w) before) (take-all i words l)
+laid-all pitch words before i now h l = h ∙ ap (λ (w : List ℕ). over (gridOf pitch w) before) (take-all i words l)

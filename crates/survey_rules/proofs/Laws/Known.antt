@@ -9,6 +9,8 @@ use lib.ListN.{length, getD}
 use Rattle.base_answers.specs.Numbers.{refusing}
 use Rattle.base_answers.specs.declared.Answer.{Answer}
 use Rattle.base_answers.specs.declared.Answer.the-variants.{Done}
+use Rattle.base_types.specs.Pitches.{pitchOf}
+use Rattle.base_types.specs.declared.Pitch.{Pitch}
 use Rattle.base_limits.specs.Limits as limits
 use Rattle.surface_rules.specs.Refusals.{countRefusal, refusal}
 use Rattle.surface_rules.proofs.Laws.Thens.{Fitting, counts-fit}
@@ -28,40 +30,40 @@ lentWith grid rings lengths others = length grid ∷ length rings ∷ length len
 abbrev pub needsWith : List ℕ → List ℕ → List ℕ → List ℕ
 needsWith words corners others = length words ∷ length corners ∷ length corners / 3 ∷ others
 
-pub record Known (words corners table : List ℕ) (grid : List ℤ) (rings lengths lent needs : List ℕ) : Type 0 where
-  pub none-refused : refusal words corners (lentWith grid rings lengths lent) (needsWith words corners needs) ≡ Done
+pub record Known (pitch : ℕ) (words corners table : List ℕ) (grid : List ℤ) (rings lengths lent needs : List ℕ) : Type 0 where
+  pub none-refused : refusal pitch words corners (lentWith grid rings lengths lent) (needsWith words corners needs) ≡ Done
   pub fits : Fitting (length words) (length corners)
   pub woven : Woven corners (length words / 3) table
-  pub on-grid : OnGrid words
+  pub on-grid : OnGrid pitch words
   pub grid-long : length words ≤ length grid
   pub rings-long : length corners ≤ length rings
   pub lengths-long : length corners / 3 ≤ length lengths
   pub others-long : (i : ℕ) → i < length needs → getD needs i 0 ≤ getD lent i 0
 
-pub known : (words corners table : List ℕ) (grid : List ℤ) (rings lengths lent needs : List ℕ) (a : Answer) → countRefusal (length words) (length corners) ≡ Done
-    → Checked words corners (lentWith grid rings lengths lent) (needsWith words corners needs) a table → refusing a ≡ false → Known words corners table grid rings lengths lent needs
-known words corners table grid rings lengths lent needs a c k f =
+pub known : (p : Pitch) (words corners table : List ℕ) (grid : List ℤ) (rings lengths lent needs : List ℕ) (a : Answer) → countRefusal (length words) (length corners) ≡ Done
+    → Checked (pitchOf p) words corners (lentWith grid rings lengths lent) (needsWith words corners needs) a table → refusing a ≡ false → Known (pitchOf p) words corners table grid rings lengths lent needs
+known p words corners table grid rings lengths lent needs a c k f =
     let l = lentWith grid rings lengths lent in
     let n = needsWith words corners needs in
-    let d : a ≡ Done = content-pass words corners l n a (k .said) f in
-    let p = k .passed d in
+    let d : a ≡ Done = content-pass (pitchOf p) words corners l n a (k .said) f in
+    let s = k .passed d in
     record {
-      none-refused = content-decides words corners l n c a (k .said) ∙ d;
+      none-refused = content-decides p words corners l n c a (k .said) ∙ d;
       fits = counts-fit (length words) (length corners) c;
-      woven = p .woven;
-      on-grid = p .on-grid;
-      grid-long = p .long 0 (omega arith);
-      rings-long = p .long 1 (omega arith);
-      lengths-long = p .long 2 (omega arith);
-      others-long = λ i h. p .long (suc (suc (suc i))) (omega arith);
+      woven = s .woven;
+      on-grid = s .on-grid;
+      grid-long = s .long 0 (omega arith);
+      rings-long = s .long 1 (omega arith);
+      lengths-long = s .long 2 (omega arith);
+      others-long = λ i h. s .long (suc (suc (suc i))) (omega arith);
     }
 
 -- what is long enough stays so where its length is kept
 pub still-long : {n before now : ℕ} → n ≤ before → now ≡ before → n ≤ now
 still-long h e = omega arith
 
-module _ {words corners table : List ℕ} {grid : List ℤ} {rings lengths lent needs : List ℕ} (k : Known words corners table grid rings lengths lent needs) where
-  pub grid-ready : OnGrid words × (length words ≤ length grid)
+module _ {pitch : ℕ} {words corners table : List ℕ} {grid : List ℤ} {rings lengths lent needs : List ℕ} (k : Known pitch words corners table grid rings lengths lent needs) where
+  pub grid-ready : OnGrid pitch words × (length words ≤ length grid)
   grid-ready = (k .on-grid, k .grid-long)
 
   -- every corner is below the greatest count of points

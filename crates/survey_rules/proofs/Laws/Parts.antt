@@ -12,12 +12,12 @@ use Rattle.survey_grid.specs.Grid.{wholeOf, gridOf}
 
 -- ---- the grid
 
-module _ (words : List ℕ) (grid grid′ : List ℤ) (e : grid′ ≡ over (gridOf words) grid) where
+module _ (pitch : ℕ) (words : List ℕ) (grid grid′ : List ℤ) (e : grid′ ≡ over (gridOf pitch words) grid) where
   pub grid-in : length words ≤ length grid′
-  grid-in = front-in (gridOf words) grid grid′ (length words) (sym (length-map words wholeOf)) e
+  grid-in = front-in (gridOf pitch words) grid grid′ (length words) (sym (length-map words (wholeOf pitch))) e
 
-  pub grid-part : take (length words) grid′ ≡ gridOf words
-  grid-part = ap (take (length words)) e ∙ start-of (gridOf words) grid (length words) (sym (length-map words wholeOf))
+  pub grid-part : take (length words) grid′ ≡ gridOf pitch words
+  grid-part = ap (take (length words)) e ∙ start-of (gridOf pitch words) grid (length words) (sym (length-map words (wholeOf pitch)))
 
 -- ---- the rings and the lengths
 
@@ -49,8 +49,8 @@ module _ {corners : List ℕ} {ls : List (List ℕ)} {rings lengths firsts : Lis
   }
 
   -- what holds of the grid, the rings and the lengths holds of these parts
-  pub of-parts : (words : List ℕ) (grid grid′ : List ℤ) → grid′ ≡ over (gridOf words) grid → (P : List ℤ → List ℕ → List ℕ → Type 0)
-      → P (gridOf words) (ringsOf corners ls) (map length ls) → P (take (length words) grid′) (take (at .vertices) rings′) (take (at .loops) lengths′)
-  of-parts words grid grid′ e P h =
-      subst (λ (g : List ℤ). P g (take (at .vertices) rings′) (take (at .loops) lengths′)) (sym (grid-part words grid grid′ e))
-      (subst (λ (r : List ℕ). P (gridOf words) r (take (at .loops) lengths′)) (sym rings-part) (subst (P (gridOf words) (ringsOf corners ls)) (sym lengths-part) h))
+  pub of-parts : (pitch : ℕ) (words : List ℕ) (grid grid′ : List ℤ) → grid′ ≡ over (gridOf pitch words) grid → (P : List ℤ → List ℕ → List ℕ → Type 0)
+      → P (gridOf pitch words) (ringsOf corners ls) (map length ls) → P (take (length words) grid′) (take (at .vertices) rings′) (take (at .loops) lengths′)
+  of-parts pitch words grid grid′ e P h =
+      subst (λ (g : List ℤ). P g (take (at .vertices) rings′) (take (at .loops) lengths′)) (sym (grid-part pitch words grid grid′ e))
+      (subst (λ (r : List ℕ). P (gridOf pitch words) r (take (at .loops) lengths′)) (sym rings-part) (subst (P (gridOf pitch words) (ringsOf corners ls)) (sym lengths-part) h))

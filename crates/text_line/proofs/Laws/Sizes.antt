@@ -15,7 +15,7 @@ use borrow.Author.Tests.{le-leb}
 use Rattle.text_digits.specs.Numeral.{size}
 use Rattle.text_digits.proofs.Laws.Digit.{size-one}
 use Rattle.text_digits.proofs.Laws.Sizes.{size-two, size-three, size-four, size-five, size-most, size-below}
-use Rattle.text_sheet.specs.Sheet.{text}
+use Rattle.text_sheet.specs.Sheet.{head, text}
 use Rattle.text_sheet.proofs.Laws.Sizes.{digitsOf, digits-more, digits-most, text-length}
 use Rattle.text_line.specs.Workings.Means.{Counted, needed}
 
@@ -100,18 +100,22 @@ module _ (n : ℕ) (corners : List ℕ) (k : Counted n (length corners)) where
   whole : length corners ≡ 3 * (length corners / 3)
   whole = omega (arith, k .whole)
 
-  pub needed-is : (words : List ℕ) → length words ≡ 3 * n → needed n corners ≡ length (text words corners)
+  pub needed-is : (pitch : ℕ) (words : List ℕ) → length words ≡ 3 * n → length (flatten (head pitch)) + needed n corners ≡ length (text pitch words corners)
   unfolding needed
-  needed-is words h = omega (arith, text-length n (length corners / 3) words corners h whole)
+  needed-is pitch words h = omega (arith, text-length pitch n (length corners / 3) words corners h whole)
 
-  -- what there is room for where there is for the longest text of so many points and triangles
-  pub room-for-longest : (room : ℕ) → ((i : ℕ) → Fits w16 (getD corners i 0)) → 27 + 29 * n + 20 * (length corners / 3) ≤ room → true ≡ leb (needed n corners) room
+  -- the longest text of so many points and triangles
+  pub needed-most : ((i : ℕ) → Fits w16 (getD corners i 0)) → needed n corners ≤ 27 + 29 * n + 20 * (length corners / 3)
   unfolding needed
-  room-for-longest room f h =
-      sym (le-leb (needed n corners) room (omega (
+  needed-most f =
+      omega (
         arith,
         digits-few corners f,
         whole,
         size-below 3 n (omega (arith, k .few-points)),
         size-below 3 (length corners / 3) (omega (arith, k .few-corners)),
-      )))
+      )
+
+  -- where there is room for that below a head, there is for this one
+  pub room-for-longest : (room top : ℕ) → ((i : ℕ) → Fits w16 (getD corners i 0)) → top + 27 + 29 * n + 20 * (length corners / 3) ≤ room → true ≡ leb (top + needed n corners) room
+  room-for-longest room top f h = sym (le-leb (top + needed n corners) room (omega (arith, needed-most f)))

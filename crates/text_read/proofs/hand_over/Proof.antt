@@ -43,7 +43,7 @@ returns-3 c =
     let o = long f in
     let r = o .before in
     let s = entry o .args in
-    all-handed (s .ws .now) (s .cs .now) (s .words .now) (s .corners .now) (r .before .check-buffers .ensures) (r .refuses .ensures) (o .if1 .left)
+    all-handed (s .pitch) (s .ws .now) (s .cs .now) (s .words .now) (s .corners .now) (r .before .check-buffers .ensures) (r .refuses .ensures) (o .if1 .left)
     (s .points) (entry o .pre .0) (f .first-unnamed .ensures) (n .enum-told .given .1) (w .copy-words .ensures) (p .copy-corners .ensures)
 
 pub hand-over-spec : {M : Type 1} → statement M

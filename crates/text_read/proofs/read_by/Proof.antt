@@ -11,7 +11,7 @@ use Rattle.text_read.proofs.read_by.Tie as tie
 
 -- where a whole text was taken in
 abbrev Whole : Type 0
-Whole = tie.After-points
+Whole = tie.After-pitch
 
 abbrev take : Whole → tie.After-take-in
 take w = search
@@ -19,8 +19,8 @@ take w = search
 abbrev whole : tie.After-hand-over → Whole
 whole p = search
 
-few : (w : Whole) → (w .points .given .0 .0 ≤ limits.points) × (w .points .given .0 .1 .0 ≤ limits.triangles)
-few w = let k = taken (take w .take-in .ensures) (w .points .given .1) in (few-points k, few-triangles k)
+few : (w : Whole) → (w .pitch .given .0 .1 .0 ≤ limits.points) × (w .pitch .given .0 .1 .1 .0 ≤ limits.triangles)
+few w = let k = taken (take w .take-in .ensures) (w .pitch .given .1) in (few-points k, few-triangles k)
 
 pub read-by-spec : {M : Type 1} → statement M
 read-by-spec =
@@ -32,11 +32,11 @@ read-by-spec =
     (λ c. search needs)
     (λ c. omega (arith, few (search)))
     (λ c. omega (arith, few (search)))
-    (λ c. let w : Whole = search in words-in (taken (take w .take-in .ensures) (w .points .given .1)))
-    (λ c. let w : Whole = search in as-long _ _ (words-in (taken (take w .take-in .ensures) (w .points .given .1))))
-    (λ c. let w : Whole = search in corners-in (taken (take w .take-in .ensures) (w .points .given .1)))
-    (λ c. let w : Whole = search in as-long _ _ (corners-in (taken (take w .take-in .ensures) (w .points .given .1))))
-    (λ c κs. let w : Whole = search in (sym (as-long _ _ (words-in (taken (take w .take-in .ensures) (w .points .given .1)))), omega (arith, few w)))
+    (λ c. let w : Whole = search in words-in (taken (take w .take-in .ensures) (w .pitch .given .1)))
+    (λ c. let w : Whole = search in as-long _ _ (words-in (taken (take w .take-in .ensures) (w .pitch .given .1))))
+    (λ c. let w : Whole = search in corners-in (taken (take w .take-in .ensures) (w .pitch .given .1)))
+    (λ c. let w : Whole = search in as-long _ _ (corners-in (taken (take w .take-in .ensures) (w .pitch .given .1))))
+    (λ c κs. let w : Whole = search in (sym (as-long _ _ (words-in (taken (take w .take-in .ensures) (w .pitch .given .1)))), omega (arith, few w)))
     (λ c. search needs)
     (λ c. search needs)
     (λ c. search fault-promised)
@@ -44,4 +44,4 @@ read-by-spec =
     (λ c. search needs)
     (λ c. search needs)
     (λ c. search needs)
-    (λ c. let h : tie.After-hand-over = search in let w = whole h in delivered (taken (take w .take-in .ensures) (w .points .given .1)) _ _ _ (h .hand-over .ensures)))
+    (λ c. let h : tie.After-hand-over = search in let w = whole h in delivered (taken (take w .take-in .ensures) (w .pitch .given .1)) _ _ _ (h .hand-over .ensures)))

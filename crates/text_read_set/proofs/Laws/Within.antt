@@ -31,6 +31,6 @@ deliver-within ss cs states corners = go (refusing (bufferRefusal (length states
 pub read-set-within : (bytes : List ℕ) (before : ℕ) (states corners : List ℕ) (o : SetOutcome) → ReadsSet bytes before states corners o → Within o
 read-set-within bytes before states corners o r = go (text-or-fault bytes)
   where
-    go : Known text.states text.triangles bytes → Within o
-    go (inl t) = subst Within (sym (r .of-text (t .0) (t .1) (t .2))) (deliver-within (t .0) (flat (t .1)) states corners)
+    go : Known text.set bytes → Within o
+    go (inl t) = subst Within (sym (r .of-text (t .0 .firsts) (t .0 .seconds) (t .1))) (deliver-within (t .0 .firsts) (flat (t .0 .seconds)) states corners)
     go (inr f) = subst Within (sym (r .of-fault (f .0) (f .1))) (record { states-in = omega arith; corners-in = omega arith })

@@ -1,14 +1,13 @@
--- That the first lines of some bytes are those of some text, said part by part.
+-- That the first lines of some bytes are those of some text of two parts, said part by part.
 use mathlib.Core.Path.{_≡_, refl, sym, ap, _∙_}
 use mathlib.Core.Logic.{_⊎_, inl, inr}
-use mathlib.Core.List.{List, [], _∷_, _++_, map, flatten, append-assoc}
+use mathlib.Core.List.{List, [], _∷_, _++_, map, flatten}
 use Prim.Native.Nat.{ℕ, zero, suc, _+_, _-_, _<_, _≤_}
 use native.Mathlib.Omega.{arith}
-use lib.ListN.{length, take, drop, take-append-drop}
-use lib.Seq.{take-take, length-take-le}
-use Rattle.surface_rules.proofs.Laws.Lists.{flatten-append}
+use lib.ListN.{length, take}
+use lib.Seq.{length-take-le}
 use Rattle.text_digits.proofs.Laws.Digit.{lt-or-ge}
-use Rattle.text_rules.specs.Text.{count, Part, lines}
+use Rattle.text_rules.specs.Text.{count, Part, both, bothLines, parts}
 use Rattle.text_rules.specs.Fault.{Starts}
 use Rattle.text_rules.proofs.Laws.Lists.{all-take}
 use Rattle.text_rules.proofs.Laws.Parts.{Begins}
@@ -23,98 +22,79 @@ module _ {A B : Type 0} (P : Part A) (Q : Part B) where
     second : (xs : List A) (s : List ℕ) → Begins P bytes (length xs) xs s → (n : ℕ) (ys : List B) (rest : List ℕ) → Begins Q s n ys rest → k ≡ suc (length xs + suc (length ys)) → Right bytes k
 
   -- a start of a text is right,
-  pub starts-right : (bytes : List ℕ) (k : ℕ) → Starts P Q bytes k → Right bytes k
+  pub starts-right : (bytes : List ℕ) (k : ℕ) → Starts (parts P Q) bytes k → Right bytes k
   starts-right bytes zero s = none refl
-  starts-right bytes (suc j) s = go (lt-or-ge (length (s .xs)) j)
+  starts-right bytes (suc j) s = go (lt-or-ge (length (s .said .firsts)) j)
     where
-      go : (length (s .xs) < j) ⊎ (j ≤ length (s .xs)) → Right bytes (suc j)
+      go : (length (s .said .firsts) < j) ⊎ (j ≤ length (s .said .firsts)) → Right bytes (suc j)
       go (inr h) =
-          let m : length (take j (s .xs)) ≡ j = length-take-le j (s .xs) h in
-          first (length (s .xs)) (take j (s .xs)) (s .rest)
+          let m : length (take j (s .said .firsts)) ≡ j = length-take-le j (s .said .firsts) h in
+          first (length (s .said .firsts)) (take j (s .said .firsts)) (s .rest)
           (record {
             few = s .says .first-few;
             within = omega (arith, m);
-            valid = all-take (P .Valid) j (s .xs) (s .says .firsts);
-            are = s .are ∙ ap (λ (r : List (List ℕ)). flatten r ++ s .rest) (take-first P Q (s .xs) (s .ys) j h)
-                ∙ flat-first (count (P .key) (length (s .xs))) (map (P .show) (take j (s .xs))) (s .rest);
+            valid = all-take (P .Valid) j (s .said .firsts) (s .says .firsts-valid);
+            are = s .are ∙ ap (λ (r : List (List ℕ)). flatten r ++ s .rest) (take-first P Q (s .said) j h)
+                ∙ flat-first (count (P .key) (length (s .said .firsts))) (map (P .show) (take j (s .said .firsts))) (s .rest);
           })
           (ap suc (sym m))
       go (inl h) =
-          let i : ℕ = j - suc (length (s .xs)) in
-          let d : suc j ≡ suc (length (s .xs) + suc i) = omega arith in
-          let g : i ≤ length (s .ys) = omega (arith, s .has, lines-length P Q (s .xs) (s .ys)) in
-          let m : length (take i (s .ys)) ≡ i = length-take-le i (s .ys) g in
-          second (s .xs) (count (Q .key) (length (s .ys)) ++ (flatten (map (Q .show) (take i (s .ys))) ++ s .rest))
+          let i : ℕ = j - suc (length (s .said .firsts)) in
+          let d : suc j ≡ suc (length (s .said .firsts) + suc i) = omega arith in
+          let g : i ≤ length (s .said .seconds) = omega (arith, s .has, lines-length P Q (s .said)) in
+          let m : length (take i (s .said .seconds)) ≡ i = length-take-le i (s .said .seconds) g in
+          second (s .said .firsts) (count (Q .key) (length (s .said .seconds)) ++ (flatten (map (Q .show) (take i (s .said .seconds))) ++ s .rest))
           (record {
             few = s .says .first-few;
             within = omega arith;
-            valid = s .says .firsts;
-            are = s .are ∙ ap (λ (n : ℕ). flatten (take n (lines P Q (s .xs) (s .ys))) ++ s .rest) d ∙ ap (λ (r : List (List ℕ)). flatten r ++ s .rest) (take-second P Q (s .xs) (s .ys) i)
-                ∙ flat-second (count (P .key) (length (s .xs))) (count (Q .key) (length (s .ys))) (map (P .show) (s .xs)) (map (Q .show) (take i (s .ys))) (s .rest);
+            valid = s .says .firsts-valid;
+            are = s .are ∙ ap (λ (n : ℕ). flatten (take n (bothLines P Q (s .said))) ++ s .rest) d ∙ ap (λ (r : List (List ℕ)). flatten r ++ s .rest) (take-second P Q (s .said) i)
+                ∙ flat-second (count (P .key) (length (s .said .firsts))) (count (Q .key) (length (s .said .seconds))) (map (P .show) (s .said .firsts)) (map (Q .show) (take i (s .said .seconds))) (s .rest);
           })
-          (length (s .ys)) (take i (s .ys)) (s .rest)
-          (record { few = s .says .second-few; within = omega (arith, m); valid = all-take (Q .Valid) i (s .ys) (s .says .seconds); are = refl })
+          (length (s .said .seconds)) (take i (s .said .seconds)) (s .rest)
+          (record { few = s .says .second-few; within = omega (arith, m); valid = all-take (Q .Valid) i (s .said .seconds) (s .says .seconds-valid); are = refl })
           (omega (arith, d, m))
 
-  none-starts : (bytes : List ℕ) → Starts P Q bytes 0
+  none-starts : (bytes : List ℕ) → Starts (parts P Q) bytes 0
   unfolding flatten
   none-starts bytes =
-      record { xs = []; ys = []; rest = bytes; says = record { first-few = omega arith; second-few = omega arith; firsts = tt; seconds = tt }; has = omega arith; are = refl }
+      record { said = both [] []; rest = bytes; says = record { first-few = omega arith; second-few = omega arith; firsts-valid = tt; seconds-valid = tt }; has = omega arith; are = refl }
 
   -- and what is right starts a text, if something can stand in each part: the lines that its count leaves open are filled with that
   module _ (x : A) (vx : P .Valid x) (y : B) (vy : Q .Valid y) where
-    first-starts : (bytes : List ℕ) (n : ℕ) (xs : List A) (rest : List ℕ) → Begins P bytes n xs rest → Starts P Q bytes (suc (length xs))
+    first-starts : (bytes : List ℕ) (n : ℕ) (xs : List A) (rest : List ℕ) → Begins P bytes n xs rest → Starts (parts P Q) bytes (suc (length xs))
     first-starts bytes n xs rest b =
         let e : length (fill x n xs) ≡ n = fill-length P x vx bytes n xs rest b in
         record {
-          xs = fill x n xs;
-          ys = [];
+          said = both (fill x n xs) [];
           rest = rest;
-          says = record { first-few = omega (arith, e, b .few); second-few = omega arith; firsts = fill-valid P x vx bytes n xs rest b; seconds = tt };
-          has = omega (arith, lines-length P Q (fill x n xs) [], e, b .within);
+          says = record { first-few = omega (arith, e, b .few); second-few = omega arith; firsts-valid = fill-valid P x vx bytes n xs rest b; seconds-valid = tt };
+          has = omega (arith, lines-length P Q (both (fill x n xs) []), e, b .within);
           are = b .are
               ∙ sym (flat-first (count (P .key) n) (map (P .show) xs) rest)
               ∙ ap (λ (l : List A). flatten (count (P .key) n ∷ map (P .show) l) ++ rest) (sym (fill-take P x vx bytes n xs rest b))
               ∙ ap (λ (m : ℕ). flatten (count (P .key) m ∷ map (P .show) (take (length xs) (fill x n xs))) ++ rest) (sym e)
-              ∙ ap (λ (r : List (List ℕ)). flatten r ++ rest) (sym (take-first P Q (fill x n xs) [] (length xs) (omega (arith, e, b .within))));
+              ∙ ap (λ (r : List (List ℕ)). flatten r ++ rest) (sym (take-first P Q (both (fill x n xs) []) (length xs) (omega (arith, e, b .within))));
         }
 
     second-starts : (bytes : List ℕ) (xs : List A) (s : List ℕ) → Begins P bytes (length xs) xs s → (n : ℕ) (ys : List B) (rest : List ℕ) → Begins Q s n ys rest
-        → Starts P Q bytes (suc (length xs + suc (length ys)))
+        → Starts (parts P Q) bytes (suc (length xs + suc (length ys)))
     second-starts bytes xs s a n ys rest b =
         let e : length (fill y n ys) ≡ n = fill-length Q y vy s n ys rest b in
         record {
-          xs = xs;
-          ys = fill y n ys;
+          said = both xs (fill y n ys);
           rest = rest;
-          says = record { first-few = a .few; second-few = omega (arith, e, b .few); firsts = a .valid; seconds = fill-valid Q y vy s n ys rest b };
-          has = omega (arith, lines-length P Q xs (fill y n ys), e, b .within);
+          says = record { first-few = a .few; second-few = omega (arith, e, b .few); firsts-valid = a .valid; seconds-valid = fill-valid Q y vy s n ys rest b };
+          has = omega (arith, lines-length P Q (both xs (fill y n ys)), e, b .within);
           are = a .are
               ∙ ap (λ (r : List ℕ). count (P .key) (length xs) ++ (flatten (map (P .show) xs) ++ r)) (b .are)
               ∙ sym (flat-second (count (P .key) (length xs)) (count (Q .key) n) (map (P .show) xs) (map (Q .show) ys) rest)
               ∙ ap (λ (l : List B). flatten (count (P .key) (length xs) ∷ (map (P .show) xs ++ (count (Q .key) n ∷ map (Q .show) l))) ++ rest) (sym (fill-take Q y vy s n ys rest b))
               ∙ ap (λ (m : ℕ). flatten (count (P .key) (length xs) ∷ (map (P .show) xs ++ (count (Q .key) m ∷ map (Q .show) (take (length ys) (fill y n ys))))) ++ rest) (sym e)
-              ∙ ap (λ (r : List (List ℕ)). flatten r ++ rest) (sym (take-second P Q xs (fill y n ys) (length ys)));
+              ∙ ap (λ (r : List (List ℕ)). flatten r ++ rest) (sym (take-second P Q (both xs (fill y n ys)) (length ys)));
         }
 
-    pub right-starts : (bytes : List ℕ) (k : ℕ) → Right bytes k → Starts P Q bytes k
+    pub right-starts : (bytes : List ℕ) (k : ℕ) → Right bytes k → Starts (parts P Q) bytes k
     right-starts bytes k (none e) = rw e (none-starts bytes)
     right-starts bytes k (first n xs rest b e) = rw e (first-starts bytes n xs rest b)
     right-starts bytes k (second xs s a n ys rest b e) = rw e (second-starts bytes xs s a n ys rest b)
-
-  -- fewer lines are right too
-  pub starts-less : (bytes : List ℕ) (j k : ℕ) → j ≤ k → Starts P Q bytes k → Starts P Q bytes j
-  starts-less bytes j k h s =
-      let m : List (List ℕ) = lines P Q (s .xs) (s .ys) in
-      record {
-        xs = s .xs;
-        ys = s .ys;
-        rest = flatten (drop j (take k m)) ++ s .rest;
-        says = s .says;
-        has = omega (arith, s .has);
-        are = s .are
-            ∙ ap (λ (r : List (List ℕ)). flatten r ++ s .rest) (sym (take-append-drop j (take k m)))
-            ∙ ap (λ (r : List ℕ). r ++ s .rest) (flatten-append (take j (take k m)) (drop j (take k m)))
-            ∙ append-assoc (flatten (take j (take k m))) (flatten (drop j (take k m))) (s .rest)
-            ∙ ap (λ (r : List (List ℕ)). flatten r ++ (flatten (drop j (take k m)) ++ s .rest)) (take-take j k m h);
-      }

@@ -9,7 +9,7 @@ use lib.ListN.{length, take, drop, length-append, length-take, take-append-drop}
 use lib.Seq.{length-take-le, take-append-add, take-all}
 use borrow.Author.Tests.{leb-true, leb-false}
 use Rattle.surface_rules.proofs.Laws.Lists.{flatten-append}
-use Rattle.text_rules.specs.Text.{Part, lines, Says, TextOf}
+use Rattle.text_rules.specs.Text.{Format, TextOf}
 use Rattle.text_rules.specs.Fault.{Starts, Fault}
 use Rattle.text_rules.specs.Room.{ReadInto}
 
@@ -20,7 +20,7 @@ flatten-less k l =
     ap (λ (m : List (List ℕ)). length (flatten m)) (sym (take-append-drop k l)) ∙ ap length (flatten-append (take k l) (drop k l)) ∙ length-append (flatten (take k l)) (flatten (drop k l)) in
     omega (arith, e)
 
-module _ {A B : Type 0} (P : Part A) (Q : Part B) (most : ℕ) (longest : (bytes : List ℕ) (xs : List A) (ys : List B) → TextOf P Q bytes xs ys → length bytes ≤ most) (bytes : List ℕ) where
+module _ {S : Type 0} (F : Format S) (most : ℕ) (longest : (bytes : List ℕ) (s : S) → TextOf F bytes s → length bytes ≤ most) (bytes : List ℕ) where
   -- a byte more than the longest text has
   abbrev pub front : List ℕ
   front = take (suc most) bytes
@@ -29,50 +29,48 @@ module _ {A B : Type 0} (P : Part A) (Q : Part B) (most : ℕ) (longest : (bytes
     front-length : length front ≡ suc most
     front-length = length-take-le (suc most) bytes more
 
-    lines-few : (xs : List A) (ys : List B) (k : ℕ) → Says P Q xs ys → length (flatten (take k (lines P Q xs ys))) ≤ most
-    lines-few xs ys k s =
-        let m : length (flatten (lines P Q xs ys)) ≤ most = longest (flatten (lines P Q xs ys)) xs ys (record { says = s; is = refl }) in
-        omega (arith, m, flatten-less k (lines P Q xs ys))
+    lines-few : (s : S) (k : ℕ) → F .Says s → length (flatten (take k (F .lines s))) ≤ most
+    lines-few s k h =
+        let m : length (flatten (F .lines s)) ≤ most = longest (flatten (F .lines s)) s (record { says = h; is = refl }) in
+        omega (arith, m, flatten-less k (F .lines s))
 
     -- as many lines are right in it as in all of the bytes,
-    starts-front : (k : ℕ) → Starts P Q bytes k → Starts P Q front k
+    starts-front : (k : ℕ) → Starts F bytes k → Starts F front k
     starts-front k s =
-        let f : List ℕ = flatten (take k (lines P Q (s .xs) (s .ys))) in
-        let m : length f ≤ most = lines-few (s .xs) (s .ys) k (s .says) in
+        let f : List ℕ = flatten (take k (F .lines (s .said))) in
+        let m : length f ≤ most = lines-few (s .said) k (s .says) in
         let d : suc most ≡ length f + (suc most - length f) = omega arith in
         record {
-          xs = s .xs;
-          ys = s .ys;
+          said = s .said;
           rest = take (suc most - length f) (s .rest);
           says = s .says;
           has = s .has;
           are = ap (take (suc most)) (s .are) ∙ ap (λ (n : ℕ). take n (f ++ s .rest)) d ∙ take-append-add f (s .rest) (suc most - length f);
         }
 
-    starts-whole : (k : ℕ) → Starts P Q front k → Starts P Q bytes k
+    starts-whole : (k : ℕ) → Starts F front k → Starts F bytes k
     starts-whole k s = record {
-      xs = s .xs;
-      ys = s .ys;
+      said = s .said;
       rest = s .rest ++ drop (suc most) bytes;
       says = s .says;
       has = s .has;
       are = sym (take-append-drop (suc most) bytes) ∙ ap (λ (l : List ℕ). l ++ drop (suc most) bytes) (s .are)
-          ∙ append-assoc (flatten (take k (lines P Q (s .xs) (s .ys)))) (s .rest) (drop (suc most) bytes);
+          ∙ append-assoc (flatten (take k (F .lines (s .said)))) (s .rest) (drop (suc most) bytes);
     }
 
     -- so both have the same fault
-    fault-front : {line : ℕ} → Fault P Q bytes line → Fault P Q front line
+    fault-front : {line : ℕ} → Fault F bytes line → Fault F front line
     fault-front {line} f = record {
-      none = λ xs ys t. let m : length front ≤ most = longest front xs ys t in omega (arith, m, front-length);
+      none = λ s t. let m : length front ≤ most = longest front s t in omega (arith, m, front-length);
       before = f .before;
       next = f .next;
       right = starts-front (f .before) (f .right);
       wrong = λ s. f .wrong (starts-whole line s);
     }
 
-    pub fault-whole : {line : ℕ} → Fault P Q front line → Fault P Q bytes line
+    pub fault-whole : {line : ℕ} → Fault F front line → Fault F bytes line
     fault-whole {line} f = record {
-      none = λ xs ys t. let m : length bytes ≤ most = longest bytes xs ys t in omega (arith, m, more);
+      none = λ s t. let m : length bytes ≤ most = longest bytes s t in omega (arith, m, more);
       before = f .before;
       next = f .next;
       right = starts-whole (f .before) (f .right);
@@ -83,17 +81,17 @@ module _ {A B : Type 0} (P : Part A) (Q : Part B) (most : ℕ) (longest : (bytes
   short : length bytes ≤ most → front ≡ bytes
   short h = take-all (suc most) bytes (omega arith)
 
-  front-all : (xs : List A) (ys : List B) → TextOf P Q bytes xs ys → front ≡ bytes
-  front-all xs ys t = short (longest bytes xs ys t)
+  front-all : (s : S) → TextOf F bytes s → front ≡ bytes
+  front-all s t = short (longest bytes s t)
 
-  text-first : (xs : List A) (ys : List B) → TextOf P Q bytes xs ys → TextOf P Q front xs ys
-  text-first xs ys t = subst (λ (l : List ℕ). TextOf P Q l xs ys) (sym (front-all xs ys t)) t
+  text-first : (s : S) → TextOf F bytes s → TextOf F front s
+  text-first s t = subst (λ (l : List ℕ). TextOf F l s) (sym (front-all s t)) t
 
-  fault-first : (line : ℕ) → Fault P Q bytes line → Fault P Q front line
+  fault-first : (line : ℕ) → Fault F bytes line → Fault F front line
   fault-first line f = go (leb (length bytes) most) refl
     where
-      go : (b : Bool) → leb (length bytes) most ≡ b → Fault P Q front line
-      go true e = subst (λ (l : List ℕ). Fault P Q l line) (sym (short (leb-true (length bytes) most e))) f
+      go : (b : Bool) → leb (length bytes) most ≡ b → Fault F front line
+      go true e = subst (λ (l : List ℕ). Fault F l line) (sym (short (leb-true (length bytes) most e))) f
       go false e = fault-front (leb-false (length bytes) most e) f
 
 -- what stands in a room is an input that may have been read into it
@@ -101,19 +99,19 @@ pub read-itself : {room : List ℕ} {n : ℕ} → n ≤ length room → ReadInto
 read-itself {room} {n} h = record { read = sym (take-all (length room) (take n room) (omega (arith, length-take n room))) }
 
 -- a room that is longer than the longest text has as much of the input as is needed
-module _ {A B : Type 0} {P : Part A} {Q : Part B} {most : ℕ} (longest : (bytes : List ℕ) (xs : List A) (ys : List B) → TextOf P Q bytes xs ys → length bytes ≤ most)
+module _ {S : Type 0} {F : Format S} {most : ℕ} (longest : (bytes : List ℕ) (s : S) → TextOf F bytes s → length bytes ≤ most)
     {room input : List ℕ} {n : ℕ} (roomy : most < length room) (held : ReadInto room n input) where
-  no-longer : (bytes : List ℕ) (xs : List A) (ys : List B) → TextOf P Q bytes xs ys → length bytes ≤ length room - 1
-  no-longer bytes xs ys t = omega (arith, longest bytes xs ys t, roomy)
+  no-longer : (bytes : List ℕ) (s : S) → TextOf F bytes s → length bytes ≤ length room - 1
+  no-longer bytes s t = omega (arith, longest bytes s t, roomy)
 
   in-room : take (suc (length room - 1)) input ≡ take n room
   in-room = let e : suc (length room - 1) ≡ length room = omega (arith, roomy) in ap (λ (m : ℕ). take m input) e ∙ sym (held .read)
 
-  pub room-text : {xs : List A} {ys : List B} → TextOf P Q input xs ys → TextOf P Q (take n room) xs ys
-  room-text {xs} {ys} t = subst (λ (l : List ℕ). TextOf P Q l xs ys) in-room (text-first P Q (length room - 1) no-longer input xs ys t)
+  pub room-text : {s : S} → TextOf F input s → TextOf F (take n room) s
+  room-text {s} t = subst (λ (l : List ℕ). TextOf F l s) in-room (text-first F (length room - 1) no-longer input s t)
 
-  pub room-whole : {xs : List A} {ys : List B} → TextOf P Q input xs ys → take n room ≡ input
-  room-whole {xs} {ys} t = sym in-room ∙ front-all P Q (length room - 1) no-longer input xs ys t
+  pub room-whole : {s : S} → TextOf F input s → take n room ≡ input
+  room-whole {s} t = sym in-room ∙ front-all F (length room - 1) no-longer input s t
 
-  pub room-fault : {line : ℕ} → Fault P Q input line → Fault P Q (take n room) line
-  room-fault {line} f = subst (λ (l : List ℕ). Fault P Q l line) in-room (fault-first P Q (length room - 1) no-longer input line f)
+  pub room-fault : {line : ℕ} → Fault F input line → Fault F (take n room) line
+  room-fault {line} f = subst (λ (l : List ℕ). Fault F l line) in-room (fault-first F (length room - 1) no-longer input line f)

@@ -76,13 +76,14 @@ module _ {A B : Type 0} (f : List A → List ℕ) (g : List B → List ℕ) wher
           pub wrong-second : (i : ℕ) → stops i ≡ outline (rows readQ t u) → Says (Wrong (n + 3 + i))
           wrong-second i h = fails (n + 3 + i) (taking.wrong-second P Q readP readQ text n r p s q t u o i h)
 
-          module _ (end : ℕ) (e : leaves (drop end text) ≡ outline (rows readQ t u)) where
-            pub text-left : end < length text → Says (Wrong (n + t + 3))
+          -- where the second part ends, in bytes of which the text may be only the rest
+          module _ (bytes : List ℕ) (end : ℕ) (e : leaves (drop end bytes) ≡ outline (rows readQ t u)) where
+            pub text-left : end < length bytes → Says (Wrong (n + t + 3))
             text-left h =
-                fails (n + t + 3) (taking.left-over P Q readP readQ text n r p s q t u o (drop end text) e (getD text end 0) _ (drop-cons text end 0 h))
+                fails (n + t + 3) (taking.left-over P Q readP readQ text n r p s q t u o (drop end bytes) e (getD bytes end 0) _ (drop-cons bytes end 0 h))
 
-            pub all-read : length text ≤ end → a ≡ over (f (values (rows readP n r))) firsts → b ≡ over (g (values (rows readQ t u))) seconds → Says (Whole n t)
+            pub all-read : length bytes ≤ end → a ≡ over (f (values (rows readP n r))) firsts → b ≡ over (g (values (rows readQ t u))) seconds → Says (Whole n t)
             unfolding Scanned
             all-read h c d =
-                rw (taking.whole-text P Q readP readQ text n r p s q t u o (drop end text) e (drop-of-length-le text h))
-                (counted (values (rows readP n r)) (values (rows readQ t u)) n t (taking.leaves-length readP n r s q) (taking.leaves-length readQ t u (drop end text) e), c, d)
+                rw (taking.whole-text P Q readP readQ text n r p s q t u o (drop end bytes) e (drop-of-length-le bytes h))
+                (counted (values (rows readP n r)) (values (rows readQ t u)) n t (taking.leaves-length readP n r s q) (taking.leaves-length readQ t u (drop end bytes) e), c, d)

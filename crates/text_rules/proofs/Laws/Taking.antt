@@ -5,7 +5,7 @@ use Prim.Native.Nat.{ℕ, zero, suc, _+_, _<_, _≤_}
 use native.Mathlib.Omega.{arith}
 use lib.ListN.{length}
 use Rattle.text_digits.specs.Workings.Reading.{Read, wrong, got}
-use Rattle.text_rules.specs.Text.{Part}
+use Rattle.text_rules.specs.Text.{Part, parts}
 use Rattle.text_rules.specs.Fault.{Fault}
 use Rattle.text_rules.specs.Workings.Parse.{Rows, stuck, all, more, rowThen, rows, stops, leaves, outline, values, readCount, said, fault, ending, withSeconds, withCount, withFirsts, fromCount, parse}
 use Rattle.text_rules.proofs.Laws.Lines.{lines-length}
@@ -111,6 +111,6 @@ module _ {A B : Type 0} (P : Part A) (Q : Part B) (readP : List ℕ → Read A) 
           whole-text h = to-end ∙ ap (ending firsts seconds) h
 
 -- no text is longer than its counts allow, so no fault is later
-pub fault-near : {A B : Type 0} (P : Part A) (Q : Part B) {bytes : List ℕ} {line : ℕ} → Fault P Q bytes line → line ≤ P .most + Q .most + 3
+pub fault-near : {A B : Type 0} (P : Part A) (Q : Part B) {bytes : List ℕ} {line : ℕ} → Fault (parts P Q) bytes line → line ≤ P .most + Q .most + 3
 fault-near P Q f =
-    omega (arith, f .next, f .right .has, lines-length P Q (f .right .xs) (f .right .ys), f .right .says .first-few, f .right .says .second-few)
+    omega (arith, f .next, f .right .has, lines-length P Q (f .right .said), f .right .says .first-few, f .right .says .second-few)

@@ -121,8 +121,11 @@ unfolding sizeIn
 some zero n = omega arith
 some (suc f) n = at-least (ltb n 10) (sizeIn f (n / 10))
 
+pub size-some : (n : ℕ) → 1 ≤ size n
+size-some n = some n n
+
 digits-some : (n : ℕ) → 1 ≤ length (decimal n)
-digits-some n = omega (arith, length-places 10 (size n) n, some n n)
+digits-some n = omega (arith, length-places 10 (size n) n, size-some n)
 
 pub triangle-length : (t : Three) → 8 ≤ length (triangles .show t)
 triangle-length t = omega (arith, row-length t= decimal t, digits-some (t .first), digits-some (t .second), digits-some (t .third))

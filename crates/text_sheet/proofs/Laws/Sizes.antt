@@ -5,14 +5,15 @@ use Prim.Native.Nat.{ℕ, zero, suc, _+_, _*_, _<_, _≤_}
 use native.Mathlib.Omega.{arith}
 use lib.ListN.{length, getD, length-append}
 use Rattle.surface_rules.specs.Threes.{Three, three, threes}
+use Rattle.surface_rules.proofs.Laws.Lists.{flatten-append}
 use Rattle.surface_rules.proofs.Laws.Threes.{threes-length}
 use Rattle.text_digits.specs.Numeral.{size, decimal}
 use Rattle.text_digits.proofs.Laws.Exactly.{length-places, ended-length}
 use Rattle.text_digits.proofs.Laws.Sizes.{size-most}
-use Rattle.text_rules.specs.Text.{feed, count}
+use Rattle.text_rules.specs.Text.{feed, count, both, parts}
 use Rattle.text_rules.specs.Text as texts
 use Rattle.text_rules.proofs.Laws.Lines.{text-flat}
-use Rattle.text_sheet.specs.Sheet.{comma, t=, points=, triangles=, row, points, triangles, text}
+use Rattle.text_sheet.specs.Sheet.{comma, t=, points=, triangles=, row, points, triangles, head, Sheet, sheetOf, sheet, text}
 use Rattle.text_sheet.proofs.Laws.Exactly.{point-length}
 
 -- ---- lines
@@ -70,12 +71,12 @@ triangles-length (suc n) (x ∷ y ∷ z ∷ l) h =
 -- ---- a text
 
 pub lists-length : (ps ts : List Three)
-    → length (texts.text points triangles ps ts) ≡ 19 + size (length ps) + size (length ts) + 29 * length ps + length (flatten (map (triangles .show) ts))
+    → length (texts.text (parts points triangles) (both ps ts)) ≡ 19 + size (length ps) + size (length ts) + 29 * length ps + length (flatten (map (triangles .show) ts))
 lists-length ps ts =
     let p : List ℕ = flatten (map (points .show) ps) in
     let q : List ℕ = flatten (map (triangles .show) ts) in
     let c : List ℕ = count triangles= (length ts) in
-    ap length (text-flat points triangles ps ts)
+    ap length (text-flat points triangles (both ps ts))
     ∙ length-append (count points= (length ps)) (p ++ (c ++ (q ++ [])))
     ∙ omega (
       arith,
@@ -87,17 +88,25 @@ lists-length ps ts =
       points-length ps,
     )
 
-module _ (n t : ℕ) (words corners : List ℕ) (h : length words ≡ 3 * n) (k : length corners ≡ 3 * t) where
-  -- its four parts
-  pub text-parts : count points= n ++ (flatten (map (points .show) (threes words)) ++ (count triangles= t ++ flatten (map (triangles .show) (threes corners)))) ≡ text words corners
-  text-parts =
-      sym (text-flat points triangles (threes words) (threes corners)
-      ∙ rw (threes-length n words h, threes-length t corners k, append-nil (flatten (map (triangles .show) (threes corners)))))
+-- a head, and what stands below it
+pub sheet-flat : (s : Sheet) → texts.text sheet s ≡ flatten (head (s .head)) ++ texts.text (parts points triangles) (s .body)
+sheet-flat s = flatten-append (head (s .head)) (parts points triangles .lines (s .body))
 
-  pub text-length : length (text words corners) ≡ 19 + size n + size t + 29 * n + 5 * t + length (digitsOf corners)
+module _ (pitch n t : ℕ) (words corners : List ℕ) (h : length words ≡ 3 * n) (k : length corners ≡ 3 * t) where
+  -- its head and its four parts
+  pub text-parts : flatten (head pitch) ++ (count points= n ++ (flatten (map (points .show) (threes words)) ++ (count triangles= t ++ flatten (map (triangles .show) (threes corners)))))
+      ≡ text pitch words corners
+  text-parts =
+      sym (sheet-flat (sheetOf pitch (threes words) (threes corners))
+      ∙ ap (λ (r : List ℕ). flatten (head pitch) ++ r) (text-flat points triangles (both (threes words) (threes corners))
+      ∙ rw (threes-length n words h, threes-length t corners k, append-nil (flatten (map (triangles .show) (threes corners))))))
+
+  pub text-length : length (text pitch words corners) ≡ length (flatten (head pitch)) + (19 + size n + size t + 29 * n + 5 * t + length (digitsOf corners))
   text-length =
-      lists-length (threes words) (threes corners)
-      ∙ rw (threes-length n words h, threes-length t corners k) (omega (arith, triangles-length t corners k))
+      ap length (sheet-flat (sheetOf pitch (threes words) (threes corners)))
+      ∙ length-append (flatten (head pitch)) (texts.text (parts points triangles) (both (threes words) (threes corners)))
+      ∙ ap (λ (m : ℕ). length (flatten (head pitch)) + m) (lists-length (threes words) (threes corners)
+      ∙ rw (threes-length n words h, threes-length t corners k) (omega (arith, triangles-length t corners k)))
 
 -- numbers of 16 bits have at most five digits each
 pub digits-most : (l : List ℕ) → ((i : ℕ) → i < length l → getD l i 0 < 65536) → length (digitsOf l) ≤ 5 * length l

@@ -11,14 +11,14 @@ use Rattle.surface_rules.proofs.Laws.Over.{front-in}
 use Rattle.text_sheet.specs.Sheet.{text}
 use Rattle.text_write.specs.Outcome.{WriteOutcome, writeRefusal, writes}
 
-module _ (words corners buffer : List ℕ) where
-  writes-within : writes words corners buffer .count ≤ length (writes words corners buffer .bytes)
+module _ (pitch : ℕ) (words corners buffer : List ℕ) where
+  writes-within : writes pitch words corners buffer .count ≤ length (writes pitch words corners buffer .bytes)
   unfolding writes
-  writes-within = go (refusing (writeRefusal words corners buffer)) refl
+  writes-within = go (refusing (writeRefusal pitch words corners buffer)) refl
     where
-      go : (t : Bool) → refusing (writeRefusal words corners buffer) ≡ t → writes words corners buffer .count ≤ length (writes words corners buffer .bytes)
+      go : (t : Bool) → refusing (writeRefusal pitch words corners buffer) ≡ t → writes pitch words corners buffer .count ≤ length (writes pitch words corners buffer .bytes)
       go true e = rw e (omega arith)
-      go false e = rw e (front-in (text words corners) buffer (over (text words corners) buffer) (length (text words corners)) refl refl)
+      go false e = rw e (front-in (text pitch words corners) buffer (over (text pitch words corners) buffer) (length (text pitch words corners)) refl refl)
 
-  pub written-within : (o : WriteOutcome) → o ≡ writes words corners buffer → o .count ≤ length (o .bytes)
+  pub written-within : (o : WriteOutcome) → o ≡ writes pitch words corners buffer → o .count ≤ length (o .bytes)
   written-within o e = subst (λ (p : WriteOutcome). p .count ≤ length (p .bytes)) (sym e) writes-within

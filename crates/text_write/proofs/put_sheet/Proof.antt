@@ -1,7 +1,7 @@
--- `put_sheet` lays the four parts of a text, each behind the last.
+-- `put_sheet` lays the head of a text and its four parts, each behind the last.
 use native.Mathlib.Omega.{arith}
 use borrow.Author.Needs.{needs}
-use Rattle.text_write.proofs.Laws.Whole.{words-whole, corners-whole, points-few, triangles-few, corners-served, parts-room, sheet-laid}
+use Rattle.text_write.proofs.Laws.Whole.{pitch-is, words-whole, corners-whole, points-few, triangles-few, corners-served, parts-room, sheet-laid}
 use Rattle.text_write.proofs.put_sheet.Statement.{statement}
 use Rattle.text_write.proofs.put_sheet.Tie as tie
 
@@ -11,8 +11,11 @@ entry o = search
 abbrev counted : tie.After-number-points → tie.After-of
 counted p = search
 
-abbrev numbered : tie.After-put-count → tie.After-number-points
+abbrev numbered : tie.After-put-head → tie.After-number-points
 numbered p = search
+
+abbrev top : tie.After-put-count → tie.After-put-head
+top p = search
 
 abbrev first : tie.After-put-points → tie.After-put-count
 first p = search
@@ -31,31 +34,39 @@ put-sheet-spec =
     (λ c κs.
     let o : tie.After-of = search in
     (omega (arith, points-few (entry o .pre .0) (o .of .ensures)), omega (arith, o .of .ensures .0, entry o .pre .1)))
+    (λ c κs.
+    let o = counted (search) in
+    (pitch-is (entry o .pre .0) (o .of .ensures), omega (arith, parts-room (entry o .pre .0) (o .of .ensures))))
     (λ c. search needs)
     (λ c κs.
-    let p : tie.After-number-points = search in
-    let o = counted p in
-    (omega (arith, points-few (entry o .pre .0) (o .of .ensures)), omega (arith, parts-room (entry o .pre .0) (o .of .ensures))))
+    let h : tie.After-put-head = search in
+    let o = counted (numbered h) in
+    (omega (arith, points-few (entry o .pre .0) (o .of .ensures)), omega (arith, parts-room (entry o .pre .0) (o .of .ensures), h .put-head .ensures .1)))
     (λ c κs.
     let p : tie.After-put-count = search in
-    let o = counted (numbered p) in
-    (words-whole (entry o .pre .0) (o .of .ensures), omega (arith, parts-room (entry o .pre .0) (o .of .ensures), p .put-count .ensures .1)))
+    let h = top p in
+    let o = counted (numbered h) in (
+      words-whole (entry o .pre .0) (o .of .ensures),
+      omega (arith, parts-room (entry o .pre .0) (o .of .ensures), h .put-head .ensures .1, p .put-count .ensures .1),
+    ))
     (λ c. search needs)
     (λ c κs.
     let q : tie.After-put-points = search in
     let p = first q in
-    let o = counted (numbered p) in (
+    let h = top p in
+    let o = counted (numbered h) in (
       omega (arith, triangles-few (entry o .pre .0) (o .of .ensures)),
-      omega (arith, parts-room (entry o .pre .0) (o .of .ensures), p .put-count .ensures .1, q .put-points .ensures .1),
+      omega (arith, parts-room (entry o .pre .0) (o .of .ensures), h .put-head .ensures .1, p .put-count .ensures .1, q .put-points .ensures .1),
     ))
     (λ c κs.
     let s : tie.After-put-count2 = search in
     let q = middle s in
     let p = first q in
-    let n = numbered p in
+    let h = top p in
+    let n = numbered h in
     let o = counted n in (
       (corners-whole (entry o .pre .0) (o .of .ensures), corners-served (entry o .pre .0) (o .of .ensures) _ (n .number-points .ensures)),
-      omega (arith, parts-room (entry o .pre .0) (o .of .ensures), p .put-count .ensures .1, q .put-points .ensures .1, s .put-count2 .ensures .1),
+      omega (arith, parts-room (entry o .pre .0) (o .of .ensures), h .put-head .ensures .1, p .put-count .ensures .1, q .put-points .ensures .1, s .put-count2 .ensures .1),
     ))
     (λ c. search needs)
     (λ c. search needs)
@@ -64,6 +75,6 @@ put-sheet-spec =
     let s = second t in
     let q = middle s in
     let p = first q in
-    let o = counted (numbered p) in
-    sheet-laid (entry o .pre .0) (o .of .ensures) (p .put-count .ensures .1) (q .put-points .ensures .1) (s .put-count2 .ensures .1) (t .put-triangles .ensures .1)
-    (p .put-count .ensures .0) (q .put-points .ensures .0) (s .put-count2 .ensures .0) (t .put-triangles .ensures .0)))
+    let h = top p in
+    let o = counted (numbered h) in
+    sheet-laid (entry o .pre .0) (o .of .ensures) (h .put-head .ensures) (p .put-count .ensures) (q .put-points .ensures) (s .put-count2 .ensures) (t .put-triangles .ensures)))

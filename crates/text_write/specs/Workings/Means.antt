@@ -6,7 +6,7 @@ use lib.ListN.{length, getD}
 use Rattle.base_answers.specs.declared.Answer.the-variants.{Done}
 use Rattle.surface_rules.specs.declared.Found.the-variants.{Nothing}
 use Rattle.surface_rules.specs.Smallest.{least}
-use Rattle.surface_rules.specs.Refusals.{countRefusal, unnamed}
+use Rattle.surface_rules.specs.Refusals.{pitchRefusal, countRefusal, unnamed}
 use Rattle.surface_rules.specs.Threes.{threes}
 use Rattle.text_sheet.specs.Sheet.{points, triangles, text}
 use Rattle.text_line.specs.Workings.Means.{Has}
@@ -27,7 +27,8 @@ abbrev pub triangleLines : List ℕ → List ℕ
 triangleLines corners = flatten (map (triangles .show) (threes corners))
 
 -- what was checked before anything is written
-pub record Ready (words corners buffer : List ℕ) : Type 0 where
+pub record Ready (pitch : ℕ) (words corners buffer : List ℕ) : Type 0 where
+  pub pitched : pitchRefusal pitch ≡ Done
   pub counts : countRefusal (length words) (length corners) ≡ Done
-  pub room : length (text words corners) ≤ length buffer
+  pub room : length (text pitch words corners) ≤ length buffer
   pub named : least (unnamed corners (length words / 3)) (length corners) ≡ Nothing

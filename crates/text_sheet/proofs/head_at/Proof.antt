@@ -1,0 +1,26 @@
+-- `head_at` finds one of three lines, or none.
+use borrow.Author.Needs.{needs}
+use Rattle.text_sheet.proofs.Laws.Found.{head-short, head-other, head-keyless, head-numberless, head-two, head-five, head-ten, head-pitchless}
+use Rattle.text_sheet.proofs.head_at.Statement.{statement}
+use Rattle.text_sheet.proofs.head_at.Tie as tie
+
+pub head-at-spec : {M : Type 1} → statement M
+head-at-spec =
+    tie.close
+    (tie.spec
+    (λ c. search head-short)
+    (λ c. search needs)
+    (λ c. search head-other)
+    (λ c. search needs)
+    (λ c κs. search needs)
+    (λ c. search needs)
+    (λ c. search needs)
+    (λ c. search head-keyless)
+    (λ c κs. search needs)
+    (λ c. search needs)
+    (λ c. search needs)
+    (λ c. search head-numberless)
+    (λ c. search head-two)
+    (λ c. search head-five)
+    (λ c. search head-ten)
+    (λ c. search head-pitchless))
