@@ -186,7 +186,8 @@ static void make_fan(size_t apex) {
 static void print_kind(const char *kind, struct generator *generator, void (*make)(struct generator *)) {
     make(generator);
     for (size_t w = 1; w < WORKS; w++) works[w].most = 0;
-    measure_on(generator);
+    /* the set is made anew each time, and one that is damaged may be refused before the table is made */
+    for (int times = 0; times < 20; times++) measure_on(generator);
     printf("%-26s", kind);
     for (size_t w = 0; w < WORKS; w++)
         if (works[w].work == work_patch || works[w].work == work_judge || works[w].work == work_list_text || works[w].work == work_judge_texts)
