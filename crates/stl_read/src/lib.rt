@@ -32,7 +32,8 @@ pub fn sized(length: usize, count: u32) -> Answer
     Answer::Misfit
 }
 
-// Hands words and corners over, where there is room. Every corner of a file names a point, so that is not asked.
+// Hands words and corners over, where there is room. Every corner of a file names a point, so that is not asked. The corners go first: the
+// other way round the compiler keeps one place less in registers while points are gathered, an instruction more for each corner.
 fn hand_over(ws: &[u32], cs: &[u16], words: &mut [u32], corners: &mut [u16]) -> ReadSheet
     ensures { λ r. ⌜ readOutcome r (left words) (left corners) ≡ handed (was ws) (was cs) (was words) (was corners) ⌝ }
 {
@@ -40,8 +41,8 @@ fn hand_over(ws: &[u32], cs: &[u16], words: &mut [u32], corners: &mut [u16]) -> 
     if short.refuses() {
         return text_read::refused(short);
     }
-    text_sheet::copy_words(ws, words);
     text_sheet::copy_corners(cs, corners);
+    text_sheet::copy_words(ws, words);
     ReadSheet {
         answer: Answer::Done,
         pitch: 1,

@@ -2,7 +2,7 @@
 // answers. A key is read here too.
 ghost use mathlib.Core.Path.{_≡_};
 ghost use Prim.Native.Nat.{_<_};
-ghost use lib.ListN.{drop};
+ghost use lib.ListN.{length, drop};
 ghost use Rattle.base_types.specs.Lent.{was};
 ghost use Rattle.text_digits.specs.Numeral.{byteOf, size};
 ghost use Rattle.text_digits.specs.Workings.Reading.{readKey, met};
@@ -19,23 +19,25 @@ pub enum Place {
     Not,
 }
 
-// The bytes of `key` at a place.
+// The bytes of `key`, which has some, at a place. Whether the text is long enough for them is asked once.
 pub fn key_at(text: &[u8], at: usize, key: &[u8]) -> Place
+    requires { ⌜ 0 < length (now key) ⌝ }
     ensures { λ r. ⌜ met (was text) r ≡ readKey (was key) (drop at (was text)) ⌝ }
 {
-    let mut i = at;
+    if text.len() < key.len() {
+        return Place::Not;
+    }
+    if text.len() - key.len() < at {
+        return Place::Not;
+    }
     let mut k: usize = 0;
     while k < key.len() {
-        if text.len() <= i {
+        if text[at + k] != key[k] {
             return Place::Not;
         }
-        if text[i] != key[k] {
-            return Place::Not;
-        }
-        i += 1;
         k += 1;
     }
-    Place::Past(i)
+    Place::Past(at + key.len())
 }
 
 // The byte of a digit below 16.

@@ -63,7 +63,7 @@ pub fn head_at(text: &[u8]) -> Head
 
 // A line of a key and a count.
 pub fn count_at(text: &[u8], at: usize, key: &[u8], limit: usize) -> Number
-    requires { ⌜ limit < 100000 ⌝ }
+    requires { ⌜ (0 < length (now key)) × (limit < 100000) ⌝ }
     ensures { λ r. ⌜ (seen (was text) r ≡ readCount (was key) limit (drop at (was text))) × UpTo (length (was text)) r ⌝ }
 {
     let Place::Past(i) = text_digits::key_at(text, at, key) else {

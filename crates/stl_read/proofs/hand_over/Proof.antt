@@ -27,13 +27,13 @@ hand-over-spec =
     (λ c κs. search needs)
     (λ c κs. search needs)
     (λ c. search short-handed)
-    (λ c κs. fit (search) .0)
     (λ c κs. fit (search) .1)
+    (λ c κs. fit (search) .0)
     (λ c. search needs)
     (λ c. search needs)
     (λ c.
-    let p : tie.After-copy-corners = search in
     let w : tie.After-copy-words = search in
+    let p : tie.After-copy-corners = search in
     let o : Long = search in
     let r = o .before in
     let s = entry o .args in
