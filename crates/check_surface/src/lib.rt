@@ -8,8 +8,8 @@ use base_types::Pitch;
 use base_types::Surface;
 use surface_rules::Found;
 
-// Refusals 3 to 8 at that pitch, once 1 and 2 were not given, with a table of turns that is long enough for this surface. Where none is given the table
-// is filled.
+// Refusals 3 to 8 at that pitch, once 1 and 2 were not given, with a table of turns that is long enough for this surface. Where none is
+// given the table is filled.
 pub fn check(
     words: &[u32],
     corners: &[u16],

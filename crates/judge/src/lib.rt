@@ -16,8 +16,8 @@ use base_types::Surface;
 use fill_scratch::FEW;
 use judge_answer::Judged;
 
-// Judges the set of these declared states and triangles for the surface with these words and corners, on the grid of that pitch: leaves the grid, the ring
-// vertices and the ring lengths; or refuses and leaves everything as it was.
+// Judges the set of these declared states and triangles for the surface with these words and corners, on the grid of that pitch: leaves the
+// grid, the ring vertices and the ring lengths; or refuses and leaves everything as it was.
 pub fn judge(
     words: &[u32],
     corners: &[u16],

@@ -11,9 +11,9 @@ use base_answers::Answer;
 use base_types::Pitch;
 use judge_answer::Judged;
 
-// Refusals 3 to 9 at that pitch, or what the verdict is taken on: the grid, the loops and the rims. The loops are listed apart from the lent buffers
-// first, in room that is long enough. The verdict is another function's, which the caller calls: what this one needs on the stack is gone
-// when that begins.
+// Refusals 3 to 9 at that pitch, or what the verdict is taken on: the grid, the loops and the rims. The loops are listed apart from the
+// lent buffers first, in room that is long enough. The verdict is another function's, which the caller calls: what this one needs on the
+// stack is gone when that begins.
 pub fn find_with(
     words: &[u32],
     corners: &[u16],

@@ -15,8 +15,8 @@ use base_types::Surface;
 use fill_scratch::FEW;
 use patch_surface::Patched;
 
-// Finds the loops of the surface with these words and corners and patches them, on the grid of that pitch: leaves the grid, the ring vertices and lengths, the
-// states and weights, and the patch corners; or refuses and leaves everything as it was.
+// Finds the loops of the surface with these words and corners and patches them, on the grid of that pitch: leaves the grid, the ring
+// vertices and lengths, the states and weights, and the patch corners; or refuses and leaves everything as it was.
 pub fn patch(
     words: &[u32],
     corners: &[u16],

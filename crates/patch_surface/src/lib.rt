@@ -18,8 +18,8 @@ pub struct Patched {
     pub corners: usize,
 }
 
-// Refusals 3 to 8 at that pitch, and what comes before the course: the grid, the loops, and the rims marked among the states; with a table of turns, a
-// path and places that are long enough.
+// Refusals 3 to 8 at that pitch, and what comes before the course: the grid, the loops, and the rims marked among the states; with a table
+// of turns, a path and places that are long enough.
 pub fn find_with(
     words: &[u32],
     corners: &[u16],

@@ -52,9 +52,9 @@ fn hear_texts(sheet: &[u8], set: &[u8]) -> Answer
     }
 }
 
-// The answer on a sheet that was taken in, and on the text of a set: a program's input, or as much of it as its room holds, the first m bytes.
-// The room is longer than the longest text, so that a longer one is seen to be longer. The sheet's corners may name no point: a wrong line
-// of the set comes first.
+// The answer on a sheet that was taken in, and on the text of a set: a program's input, or as much of it as its room holds, the first m
+// bytes. The room is longer than the longest text, so that a longer one is seen to be longer. The sheet's corners may name no point: a
+// wrong line of the set comes first.
 pub fn hear(sheet: Intake, words: &[u32], corners: &[u16], room: &[u8], m: usize) -> Answer
     requires { ⌜ Taken sheet (now words) (now corners) ⌝ }
     requires { ⌜ (limits.set-text < length (now room)) × (m ≤ length (now room)) ⌝ }

@@ -80,8 +80,8 @@ fn tell(word: u32, whole: &mut i32, rest: &mut u32, pitch: Pitch) -> u32
     }
 }
 
-// Surveys a surface at that pitch, as `survey` does: the grid, the ring vertices and the ring lengths are left in the lent buffers; the number
-// of the answer is returned, and its place, how many loops there are and how many vertices their rings have are left too.
+// Surveys a surface at that pitch, as `survey` does: the grid, the ring vertices and the ring lengths are left in the lent buffers; the
+// number of the answer is returned, and its place, how many loops there are and how many vertices their rings have are left too.
 #[no_mangle]
 pub extern "C" fn wazelpunt_survey(
     words: &[u32],
@@ -105,8 +105,8 @@ pub extern "C" fn wazelpunt_survey(
     said.number()
 }
 
-// Patches a surface at that pitch, as `patch` does: the grid, the ring vertices and lengths, the states and weights, and the patch corners are left
-// in the lent buffers; the number of the answer is returned, and its place and the three counts are left too.
+// Patches a surface at that pitch, as `patch` does: the grid, the ring vertices and lengths, the states and weights, and the patch corners
+// are left in the lent buffers; the number of the answer is returned, and its place and the three counts are left too.
 #[no_mangle]
 pub extern "C" fn wazelpunt_patch(
     words: &[u32],
@@ -146,8 +146,9 @@ pub extern "C" fn wazelpunt_patch(
     answer.number()
 }
 
-// Judges a patch set for a surface at that pitch, as `judge` does: the grid, the ring vertices and the ring lengths are left in the lent buffers; the
-// number of the answer is returned, and its place, how many loops there are and how many vertices their rings have are left too.
+// Judges a patch set for a surface at that pitch, as `judge` does: the grid, the ring vertices and the ring lengths are left in the lent
+// buffers; the number of the answer is returned, and its place, how many loops there are and how many vertices their rings have are left
+// too.
 #[no_mangle]
 pub extern "C" fn wazelpunt_judge(
     words: &[u32],
@@ -197,8 +198,8 @@ pub extern "C" fn wazelpunt_read(
     told.number()
 }
 
-// Writes the text of a sheet of that pitch, as `write` does: it is left in the lent buffer; the number of the answer is returned, and its place and how
-// many bytes the text has are left too.
+// Writes the text of a sheet of that pitch, as `write` does: it is left in the lent buffer; the number of the answer is returned, and its
+// place and how many bytes the text has are left too.
 #[no_mangle]
 pub extern "C" fn wazelpunt_write(
     words: &[u32],
