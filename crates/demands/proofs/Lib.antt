@@ -3,6 +3,7 @@ pub mod Programs
 pub mod Files
 pub mod Answers
 pub mod Kept
+pub mod Grid
 pub mod Closing
 pub mod Passable
 pub mod Sets

@@ -24,7 +24,7 @@ use Rattle.text_rules.proofs.Theorems.{Known, one-text}
 use Rattle.text_rules.proofs.Laws.Cut.{fault-whole}
 use Rattle.text_sheet.specs.Sheet.{sheet, sheetOf, pitchSaid, wordsSaid, cornersSaid}
 use Rattle.text_sheet.proofs.Laws.Texts.{text-once, text-or-fault}
-use Rattle.text_sheet.proofs.Theorems.{points-pitch, line-later, longest, longest-met}
+use Rattle.text_sheet.proofs.Theorems.{points-pitch, line-later, wrong-pitch, longest, longest-met}
 use Rattle.text_read.specs.Outcome.{ReadOutcome, Reads, deliver}
 use Rattle.text_write.specs.Outcome.{writes}
 use Rattle.text_write.proofs.Laws.Again.{written-whole}
@@ -149,6 +149,7 @@ texts-demand = record {
   one-text = λ bytes other s t u. one-text sheet t u;
   points-pitch = λ bytes s t. points-pitch t;
   line-later = λ pitch p n below line f. line-later p n f;
+  wrong-pitch = λ pitch. wrong-pitch;
   longest = λ bytes s t. longest t;
   longest-met = longest-met;
   wrong-line = λ bytes words corners o r line d. told-wrong bytes words corners o r line d;

@@ -1,10 +1,11 @@
 -- The demands, a theorem each; the other files have their proofs.
 use mathlib.Core.Path.{_≡_}
-use mathlib.Core.Bool.{false}
+use mathlib.Core.Bool.{true, false}
 use mathlib.Core.List.{List, [], map}
 use Prim.Native.Nat.{ℕ}
 use lib.IntN.{ℤ}
 use Rattle.base_answers.specs.Numbers.{refusing}
+use Rattle.base_types.specs.Pitches.{isPitch}
 use Rattle.surface_rules.specs.Edges.{Sound}
 use Rattle.loop_rules.specs.Loops.{loops, ring}
 use Rattle.survey_rules.specs.Outcome as survey
@@ -12,12 +13,14 @@ use Rattle.fill_edges.specs.Filling.{Filled}
 use Rattle.patch_surface.specs.Outcome as patcher
 use Rattle.judge_surface.specs.Outcome.{Judges}
 use Rattle.demands.specs.Answers.{AnswersDemand}
+use Rattle.demands.specs.Grid.{GridDemand}
 use Rattle.demands.specs.Loops.{LoopsDemand}
 use Rattle.demands.specs.Texts.{TextsDemand}
 use Rattle.demands.specs.Closing.{ClosingDemand}
 use Rattle.demands.specs.Sets.{CheckerDemand, PatcherDemand}
 use Rattle.demands.specs.Pieces.{GroupsDemand, PiecesDemand}
 use Rattle.demands.proofs.Answers.{answers-demand}
+use Rattle.demands.proofs.Grid.{grid-demand}
 use Rattle.demands.proofs.Kept.{loops-demand}
 use Rattle.demands.proofs.Texts.{texts-demand}
 use Rattle.demands.proofs.Closing.{closing-demand}
@@ -29,7 +32,11 @@ use Rattle.demands.proofs.Pieces.{groups-demand, pieces-demand}
 pub demand-1 : AnswersDemand
 demand-1 = answers-demand
 
--- 2. Each open edge lies in one loop, and no loop meets a vertex twice.
+-- 2. Every coordinate goes to the nearest multiple of the pitch, a tie to the even one; the rest is exact; and grids have these numbers.
+pub demand-2-grid : (pitch : ℕ) → isPitch pitch ≡ true → GridDemand pitch
+demand-2-grid = grid-demand
+
+-- Each open edge lies in one loop, and no loop meets a vertex twice.
 pub demand-2-loops : (corners : List ℕ) → Sound corners → LoopsDemand corners
 demand-2-loops = loops-demand
 

@@ -1,4 +1,5 @@
 pub mod Answers
+pub mod Grid
 pub mod Loops
 pub mod Closing
 pub mod Sets

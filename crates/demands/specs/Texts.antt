@@ -45,6 +45,8 @@ pub record TextsDemand : Type 0 where
   -- "With a pitch line every later line number goes up by one": a fault of what stands below the line has its number and one more.
   pub line-later : (pitch : ℕ) → isPitch pitch ≡ true → (pitch ≡ 1 → ⊥) → (below : List ℕ) (line : ℕ)
       → Fault (parts points triangles) below line → Fault sheet (count pitch= pitch ++ below) (suc line)
+  -- "In a text such a line, or `pitch=1`, is a wrong line": one of 1 or of a number that is no pitch is, whatever stands below it.
+  pub wrong-pitch : (pitch : ℕ) → (isPitch pitch ≡ true → pitch ≡ 1) → (below : List ℕ) → Fault sheet (count pitch= pitch ++ below) 1
   -- "The longest text has 47,140 bytes."
   pub longest : (bytes : List ℕ) (s : Sheet) → TextOf sheet bytes s → length bytes ≤ limits.sheet-text
   pub longest-met : (bytes : List ℕ) × (s : Sheet) × TextOf sheet bytes s × (length bytes ≡ limits.sheet-text)

@@ -4,4 +4,5 @@ pub mod Parts
 pub mod Quotients
 pub mod Near
 pub mod Placing
+pub mod Answered
 pub mod Ends

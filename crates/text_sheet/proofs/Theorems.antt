@@ -7,20 +7,22 @@ use native.Mathlib.Omega.{arith}
 use lib.ListN.{length, getD, replicate, length-append, length-replicate}
 use Rattle.base_answers.specs.declared.Answer.the-variants.{Done}
 use Rattle.base_types.specs.Pitches.{isPitch}
+use Rattle.base_types.proofs.Laws.Pitches.{number-most}
 use Rattle.base_limits.specs.Limits as limits
 use Rattle.base_limits.proofs.Figures.{sheet-text-is}
 use Rattle.surface_rules.specs.Refusals.{countRefusal}
 use Rattle.surface_rules.specs.Threes.{Three, three, threes, flat}
 use Rattle.surface_rules.proofs.Laws.Thens.{Fitting, counts-fit}
 use Rattle.surface_rules.proofs.Laws.Threes.{threes-length, flat-threes}
-use Rattle.text_digits.specs.Numeral.{size, sizeIn}
-use Rattle.text_digits.specs.Workings.Reading.{readKey, readDecimal, until}
+use Rattle.text_digits.specs.Numeral.{size, sizeIn, decimal}
+use Rattle.text_digits.specs.Workings.Reading.{got, readKey, readDecimal, until}
 use Rattle.text_digits.proofs.Laws.Sizes.{size-four, size-below}
 use Rattle.text_rules.specs.Text.{All, TextOf, feed, count, Both, both, under}
 use Rattle.text_rules.specs.Text as texts
 use Rattle.text_rules.specs.Fault.{Fault}
 use Rattle.text_rules.specs.Workings.Parse.{readCount}
 use Rattle.text_rules.proofs.Theorems as theorems
+use Rattle.text_rules.proofs.Laws.Counts.{count-exact}
 use Rattle.text_rules.proofs.Laws.Lists.{all-replicate}
 use Rattle.text_rules.proofs.Laws.Taking.{no-first}
 use Rattle.text_rules.proofs.Laws.Headed.{text-below, text-above, fault-below, bare-text}
@@ -29,7 +31,7 @@ use Rattle.text_sheet.specs.Workings.Heads.{HeadAt}
 use Rattle.text_sheet.specs.Workings.Parse.{readPoint, readTriangle}
 use Rattle.text_sheet.proofs.Laws.Sizes.{triangle-size, lists-length, sheet-flat}
 use Rattle.text_sheet.proofs.Laws.Heads.{below, head-line, line-is, head-long, head-most, heads-apart, bare-one}
-use Rattle.text_sheet.proofs.Laws.Found.{Unpitched, head-absent, head-unread, head-unnamed, text-under, fault-alone}
+use Rattle.text_sheet.proofs.Laws.Found.{Unpitched, head-absent, head-unread, text-under, fault-alone}
 use Rattle.text_sheet.proofs.Laws.Texts.{fault-is, text-once}
 
 -- ---- the text of words and corners
@@ -101,24 +103,30 @@ bare-pitch u = text-under (head-absent u)
 pub bare-line : {bytes : List ℕ} {line : ℕ} → Unpitched bytes → Fault below bytes line → Fault sheet bytes line
 bare-line u = fault-alone (head-absent u) refl
 
--- What begins with `pitch=` and with no pitch line is wrong at line 1: of another pitch, with a leading zero, or unended.
+-- What begins with `pitch=` and with no pitch line is wrong at line 1.
 module _ (rest : List ℕ) where
   wrong-first : HeadAt (pitch= ++ rest) 1 0 → Fault sheet (pitch= ++ rest) 1
   unfolding readCount readKey
   wrong-first h = fault-alone h refl (fault-is (no-first points triangles readPoint readTriangle (pitch= ++ rest) refl))
 
-  pub wrong-pitch : Unpitched (pitch= ++ rest) → Fault sheet (pitch= ++ rest) 1
-  wrong-pitch u = wrong-first (head-absent u)
+  pub unpitched-wrong : Unpitched (pitch= ++ rest) → Fault sheet (pitch= ++ rest) 1
+  unpitched-wrong u = wrong-first (head-absent u)
 
--- `pitch=1`, `pitch=3`, `pitch=02`, and a `pitch=2` that no line feed ends
-pub pitch-one-wrong : (rest : List ℕ) → Fault sheet (pitch= ++ (49 ∷ feed ∷ rest)) 1
-unfolding readCount readKey readDecimal until sizeIn
-pitch-one-wrong rest = wrong-first _ (head-unnamed {n = 1} {rest = rest} refl (λ d. omega arith) (λ d. omega arith) (λ d. omega arith))
+-- "In a text such a line, or `pitch=1`, is a wrong line": 1, or a number that is no pitch
+pub wrong-pitch : {n : ℕ} → (isPitch n ≡ true → n ≡ 1) → (rest : List ℕ) → Fault sheet (count pitch= n ++ rest) 1
+unfolding count
+wrong-pitch {n} h rest = unpitched-wrong ((decimal n ++ (feed ∷ [])) ++ rest) none
+  where
+    -- whatever other line begins so has the same number
+    read : (m : ℕ) (r : List ℕ) → m ≤ n + 10 → readCount pitch= (n + 10) (count pitch= m ++ r) ≡ got m r
+    read m r = count-exact pitch= (n + 10) .finds m r
 
-pub pitch-three-wrong : (rest : List ℕ) → Fault sheet (pitch= ++ (51 ∷ feed ∷ rest)) 1
-unfolding readCount readKey readDecimal until sizeIn
-pitch-three-wrong rest = wrong-first _ (head-unnamed {n = 3} {rest = rest} refl (λ d. omega arith) (λ d. omega arith) (λ d. omega arith))
+    none : Unpitched (count pitch= n ++ rest)
+    none m r v o e =
+        let d : got n rest ≡ got m r = sym (read n rest (omega arith)) ∙ ap (readCount pitch= (n + 10)) e ∙ read m r (omega (arith, number-most v)) in
+        let q : n ≡ m = cc in o (sym q ∙ h (rw q v))
 
+-- one with a leading zero, `pitch=02`, and a `pitch=2` that no line feed ends
 pub leading-zero-wrong : (rest : List ℕ) → Fault sheet (pitch= ++ (48 ∷ 50 ∷ feed ∷ rest)) 1
 unfolding readCount readKey readDecimal until sizeIn
 leading-zero-wrong rest = wrong-first _ (head-unread refl)

@@ -10,6 +10,8 @@ ghost use Rattle.text_hex.specs.Workings.Tables.{Marked};
 ghost use Rattle.text_rules.specs.Workings.Parse.{readCount, rows, outline, values};
 ghost use Rattle.text_sheet.specs.Workings.Heads.{HeadAt};
 ghost use Rattle.text_sheet.specs.Workings.Parse.{readPoint, readTriangle, seenRow, RowBy, PassBy, passed, Room};
+use base_types::Named;
+use base_types::Pitch;
 use base_types::Surface;
 use text_digits::Number;
 use text_digits::Place;
@@ -32,7 +34,7 @@ pub struct Head {
     pub at: usize,
 }
 
-// The head of a text: one of three lines, or none.
+// The head of a text: the line of a pitch other than 1, or none.
 pub fn head_at(text: &[u8]) -> Head
     ensures { λ r. ⌜ HeadAt (was text) (r .pitch) (r .at) ⌝ }
 {
@@ -49,16 +51,14 @@ pub fn head_at(text: &[u8]) -> Head
     let Number::Is(pitch, next) = text_decimal::decimal_at(text, i, b'\n', 10) else {
         return Head { pitch: 1, at: 0 };
     };
-    if pitch == 2 {
-        return Head { pitch, at: next };
+    // 1 is told by no line
+    if pitch == 1 {
+        return Head { pitch, at: 0 };
     }
-    if pitch == 5 {
-        return Head { pitch, at: next };
+    match Pitch::of(pitch) {
+        Named::Nothing => Head { pitch: 1, at: 0 },
+        Named::Is(_) => Head { pitch, at: next },
     }
-    if pitch == 10 {
-        return Head { pitch, at: next };
-    }
-    Head { pitch: 1, at: 0 }
 }
 
 // A line of a key and a count.

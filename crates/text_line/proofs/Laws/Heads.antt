@@ -6,13 +6,14 @@ use Prim.Native.Nat.{ℕ, _+_, _<_, _≤_}
 use native.Mathlib.Omega.{arith}
 use lib.ListN.{length}
 use Rattle.base_types.specs.Pitches.{isPitch}
+use Rattle.base_types.proofs.Laws.Pitches.{number-most}
 use Rattle.surface_rules.specs.Buffers.{laid}
 use Rattle.surface_rules.proofs.Laws.Laid.{laid-none}
 use Rattle.text_digits.proofs.Laws.Digit.{size-one}
 use Rattle.text_digits.proofs.Laws.Sizes.{size-two}
 use Rattle.text_rules.specs.Text.{count}
 use Rattle.text_sheet.specs.Sheet.{pitch=, head}
-use Rattle.text_sheet.proofs.Laws.Heads.{pitch-few, head-none, head-flat, head-long}
+use Rattle.text_sheet.proofs.Laws.Heads.{head-none, head-flat, head-long}
 
 module _ {n : ℕ} where
   -- how long it is: pitch 1 has none, and of the others 10 alone has two digits
@@ -24,11 +25,11 @@ module _ {n : ℕ} where
   head-ten-long e = omega (arith, head-long {n = n} (λ d. omega arith), size-two n (omega arith) (omega arith))
 
   pub head-other-long : isPitch n ≡ true → (n ≡ 1 → ⊥) → (n ≡ 10 → ⊥) → 8 ≡ length (flatten (head n))
-  head-other-long h d e = omega (arith, head-long d, size-one n (omega (arith, pitch-few h, e)))
+  head-other-long h d e = omega (arith, head-long d, size-one n (omega (arith, number-most h, e)))
 
   -- what a line of a count asks for
   pub head-room : {long : ℕ} → isPitch n ≡ true → length (flatten (head n)) ≤ long → (n ≡ 1 → ⊥) → (n < 10000) × (0 + length (count pitch= n) ≤ long)
-  head-room h l d = (omega (arith, pitch-few h), omega (arith, ap length (head-flat d)))
+  head-room h l d = (omega (arith, number-most h), omega (arith, ap length (head-flat d)))
 
   -- and it lies at the start
   pub head-none-laid : (buffer : List ℕ) → n ≡ 1 → (buffer ≡ laid 0 (flatten (head n)) buffer) × (0 ≡ length (flatten (head n)))

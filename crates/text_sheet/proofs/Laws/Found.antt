@@ -9,8 +9,12 @@ use lib.Dec.{eqb}
 use lib.ListN.{length, take, drop, getD, length-append, length-drop, take-append-drop}
 use lib.Seq.{length-take-le, take-at, drop-at}
 use borrow.Author.Tests.{eqb-true, eqb-false}
-use Rattle.base_types.specs.Pitches.{isPitch}
-use Rattle.base_types.proofs.Laws.Pitches.{pitch-none}
+use Rattle.base_types.specs.Pitches.{isPitch, Names}
+use Rattle.base_types.specs.declared.Pitch.{Pitch}
+use Rattle.base_types.specs.declared.Named.{Named}
+use Rattle.base_types.specs.declared.Named.the-variants.{Nothing}
+use Rattle.base_types.specs.declared.Named.the-variants as named
+use Rattle.base_types.proofs.Laws.Pitches.{pitch-is, not-pitch, named-none, named-is}
 use Rattle.surface_rules.specs.Threes.{Three}
 use Rattle.text_digits.specs.Workings.Reading.{Read, wrong, got, readKey, readDecimal, seen, met, UpTo}
 use Rattle.text_digits.specs.declared.Number.{Number}
@@ -26,7 +30,7 @@ use Rattle.text_rules.proofs.Laws.Headed.{text-below, fault-below, text-bare, f
 use Rattle.text_sheet.specs.Sheet.{pitch=, head, sheet}
 use Rattle.text_sheet.specs.Workings.Heads.{HeadAt}
 use Rattle.text_sheet.proofs.Laws.Told.{number-is, number-not, number-by, count-not, count-is}
-use Rattle.text_sheet.proofs.Laws.Heads.{below, head-none, head-line, head-flat, head-long, line-is, line-long, line-read, not-pitch, heads-apart, bare-one}
+use Rattle.text_sheet.proofs.Laws.Heads.{below, head-none, head-line, head-flat, head-long, line-is, line-long, line-read, heads-apart, bare-one}
 
 -- ---- finding it
 
@@ -64,11 +68,12 @@ module _ {bytes : List ℕ} where
   pub head-unread : readCount pitch= 10 bytes ≡ wrong → HeadAt bytes 1 0
   head-unread h = head-absent (λ n rest v o e. wrong-not-got (sym h ∙ line-read v e))
 
-  pub head-unnamed : {n : ℕ} {rest : List ℕ} → readCount pitch= 10 bytes ≡ got n rest → (n ≡ 2 → ⊥) → (n ≡ 5 → ⊥) → (n ≡ 10 → ⊥) → HeadAt bytes 1 0
-  head-unnamed {n} h a b c =
-      head-absent (λ m rest v o e. let d : got n _ ≡ got m rest = sym h ∙ line-read v e in let q : n ≡ m = cc in not-pitch n (rw q v) (pitch-none (rw q o) a b c))
+  -- of which no line tells where it is 1 or no pitch
+  pub head-unnamed : {n : ℕ} {rest : List ℕ} → readCount pitch= 10 bytes ≡ got n rest → (isPitch n ≡ true → n ≡ 1) → HeadAt bytes 1 0
+  head-unnamed {n} h a =
+      head-absent (λ m rest v o e. let d : got n _ ≡ got m rest = sym h ∙ line-read v e in let q : n ≡ m = cc in o (sym q ∙ a (rw q v)))
 
-  -- which is a pitch other than 1
+  -- and which stands there as any other pitch
   pub head-found : {n at : ℕ} → at ≤ length bytes → readCount pitch= 10 bytes ≡ got n (drop at bytes) → isPitch n ≡ true → (n ≡ 1 → ⊥) → HeadAt bytes n at
   head-found {n} {at} w h v o =
       let e : bytes ≡ count pitch= n ++ drop at bytes = count-exact pitch= 10 .true-to bytes n (drop at bytes) h .1 in
@@ -93,23 +98,15 @@ module _ (bytes : List ℕ) (p : Place) (h : met bytes p ≡ readKey pitch= byte
     head-numberless f = head-unread (number-not bytes counted f)
 
     module _ {n at : ℕ} (f : r ≡ Is n at) where
-      pub head-pitchless : (n ≡ 2 → ⊥) → (n ≡ 5 → ⊥) → (n ≡ 10 → ⊥) → HeadAt bytes 1 0
-      head-pitchless = head-unnamed (number-is bytes counted f)
+      pub head-one : n ≡ 1 → HeadAt bytes n 0
+      head-one o = subst (λ (k : ℕ). HeadAt bytes k 0) (sym o) (head-unnamed (number-is bytes counted f) (λ v. o))
 
-      pitched : (k : ℕ) → UpTo (length bytes) r → n ≡ k → isPitch k ≡ true → eqb k 1 ≡ false → HeadAt bytes n at
-      pitched k u q v o = head-found (number-by u f) (number-is bytes counted f) (rw q v) (eqb-false n 1 (rw q o))
+      module _ {m : Named} (k : Names n m) where
+        pub head-pitchless : m ≡ Nothing → HeadAt bytes 1 0
+        head-pitchless z = head-unnamed (number-is bytes counted f) (λ v. absurd (not-pitch n v (named-none n k z)))
 
-      pub head-two : UpTo (length bytes) r → n ≡ 2 → HeadAt bytes n at
-      unfolding isPitch
-      head-two u q = pitched 2 u q refl refl
-
-      pub head-five : UpTo (length bytes) r → n ≡ 5 → HeadAt bytes n at
-      unfolding isPitch
-      head-five u q = pitched 5 u q refl refl
-
-      pub head-ten : UpTo (length bytes) r → n ≡ 10 → HeadAt bytes n at
-      unfolding isPitch
-      head-ten u q = pitched 10 u q refl refl
+        pub head-pitched : UpTo (length bytes) r → {q : Pitch} → m ≡ named.Is q → (n ≡ 1 → ⊥) → HeadAt bytes n at
+        head-pitched u {q} z o = head-found (number-by u f) (number-is bytes counted f) (ap isPitch (named-is n q k z) ∙ pitch-is q) o
 
 -- so every text has one
 pub head-of : (bytes : List ℕ) → (n : ℕ) × (at : ℕ) × HeadAt bytes n at
@@ -120,10 +117,8 @@ head-of bytes = go (readCount pitch= 10 bytes) refl
         let o = count-exact pitch= 10 .true-to bytes n rest h .1 in
         let k : ℕ = length (count pitch= n) in
         (n, k, head-found (omega (arith, ap length o, length-append (count pitch= n) rest)) (h ∙ ap (got n) (sym (ap (drop k) o ∙ drop-at (count pitch= n) rest k refl))) v (eqb-false n 1 e))
-    known n rest h true true v e =
-        let d = eqb-true n 1 e in (1, 0, head-unnamed h (λ q. omega arith) (λ q. omega arith) (λ q. omega arith))
-    known n rest h false t v e =
-        (1, 0, head-absent (λ m r w o q. let d : got n rest ≡ got m r = sym h ∙ line-read w q in let z : n ≡ m = cc in not-pitch m w (rw z at v)))
+    known n rest h true true v e = (1, 0, head-unnamed h (λ w. eqb-true n 1 e))
+    known n rest h false t v e = (1, 0, head-unnamed h (λ w. absurd (not-pitch n w v)))
 
     go : (r : Read ℕ) → readCount pitch= 10 bytes ≡ r → (n : ℕ) × (at : ℕ) × HeadAt bytes n at
     go wrong h = (1, 0, head-unread h)

@@ -5,11 +5,11 @@ use mathlib.Core.Logic.{_⊎_, inl, inr}
 use mathlib.Core.List.{List, [], _∷_, _++_, flatten, append-nil}
 use Prim.Native.Nat.{ℕ, _+_, _≤_}
 use native.Mathlib.Omega.{arith}
-use lib.Dec.{eqb, leb}
+use lib.Dec.{eqb}
 use lib.ListN.{length}
-use borrow.Author.Tests.{ne-eqb, eqb-true, eqb-false, leb-true, leb-false}
+use borrow.Author.Tests.{ne-eqb, eqb-true, eqb-false}
 use Rattle.base_types.specs.Pitches.{isPitch}
-use Rattle.base_types.proofs.Laws.Pitches.{pitch-none}
+use Rattle.base_types.proofs.Laws.Pitches.{number-most}
 use Rattle.surface_rules.specs.Threes.{Three}
 use Rattle.text_digits.specs.Numeral.{size}
 use Rattle.text_digits.specs.Workings.Reading.{got}
@@ -25,18 +25,6 @@ use Rattle.text_sheet.proofs.Laws.Sizes.{count-length}
 -- what stands below a head
 abbrev pub below : Format (Both Three Three)
 below = parts points triangles
-
--- ---- the numbers of pitches
-
-pub not-pitch : (n : ℕ) → isPitch n ≡ true → isPitch n ≡ false → ⊥
-not-pitch n a b = let z : true ≡ false = sym a ∙ b in let y : _≡_ {A = ℕ} 0 1 = cc in omega arith
-
-pub pitch-few : {n : ℕ} → isPitch n ≡ true → n ≤ 10
-pitch-few {n} h = go (leb n 10) refl
-  where
-    go : (t : Bool) → leb n 10 ≡ t → n ≤ 10
-    go true e = leb-true n 10 e
-    go false e = let l = leb-false n 10 e in absurd (not-pitch n h (pitch-none (λ d. omega arith) (λ d. omega arith) (λ d. omega arith) (λ d. omega arith)))
 
 -- ---- the lines of heads
 
@@ -73,13 +61,13 @@ head-most n h = go (eqb n 1) refl
   where
     go : (t : Bool) → eqb n 1 ≡ t → length (flatten (head n)) ≤ 9
     go true d = rw (eqb-true n 1 d, head-none) (omega arith)
-    go false d = omega (arith, head-long (eqb-false n 1 d), size-below 1 n (omega (arith, pitch-few h)))
+    go false d = omega (arith, head-long (eqb-false n 1 d), size-below 1 n (omega (arith, number-most h)))
 
 -- ---- no two begin alike
 
 -- what begins with a pitch line is read as such
 pub line-read : {n : ℕ} {bytes rest : List ℕ} → isPitch n ≡ true → bytes ≡ count pitch= n ++ rest → readCount pitch= 10 bytes ≡ got n rest
-line-read {n} {bytes} {rest} h e = ap (readCount pitch= 10) e ∙ count-exact pitch= 10 .finds n rest (pitch-few h)
+line-read {n} {bytes} {rest} h e = ap (readCount pitch= 10) e ∙ count-exact pitch= 10 .finds n rest (number-most h)
 
 got-same : {m n : ℕ} {a b : List ℕ} → got m a ≡ got n b → m ≡ n
 got-same e = cc

@@ -1,6 +1,6 @@
--- `head_at` finds one of three lines, or none.
+-- `head_at` finds the line of a pitch other than 1, or none.
 use borrow.Author.Needs.{needs}
-use Rattle.text_sheet.proofs.Laws.Found.{head-short, head-other, head-keyless, head-numberless, head-two, head-five, head-ten, head-pitchless}
+use Rattle.text_sheet.proofs.Laws.Found.{head-short, head-other, head-keyless, head-numberless, head-one, head-pitchless, head-pitched}
 use Rattle.text_sheet.proofs.head_at.Statement.{statement}
 use Rattle.text_sheet.proofs.head_at.Tie as tie
 
@@ -20,7 +20,9 @@ head-at-spec =
     (λ c. search needs)
     (λ c. search needs)
     (λ c. search head-numberless)
-    (λ c. search head-two)
-    (λ c. search head-five)
-    (λ c. search head-ten)
-    (λ c. search head-pitchless))
+    (λ c. search head-one)
+    (λ c κs. search needs)
+    (λ c. search needs)
+    (λ c. search needs)
+    (λ c. search head-pitchless)
+    (λ c. search head-pitched))
