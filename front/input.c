@@ -14,7 +14,8 @@
 
 const char input_closed[] = "standard input is closed";
 const char input_unknown[] = "the library printed what is not known here";
-const char input_pitched[] = "--pitch is for STL files, and this is the text of a sheet, which says its own pitch; leave --pitch out";
+const char input_pitched[] = "--pitch is for STL files, and this is the text of a sheet, which says its own pitch: pitch=5 on its first "
+                             "line for one, or no such line for 1; leave --pitch out";
 
 /* The longest file of facets is longer than the longest text of a sheet, and either may be given. */
 static uint8_t sheet_room[WAZELPUNT_STL_BYTES + 1];

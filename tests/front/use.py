@@ -136,7 +136,8 @@ def try_wrong_pitches(bench):
     # behind -- it is a name
     bench.wrong_use('list', '--', '--pitch', '5', says=[b'--pitch: No such file', b'5: No such file'])
     # the text says its own, also where it would be the same; whatever else is given is done
-    own = b'--pitch is for STL files, and this is the text of a sheet, which says its own pitch'
+    own = (b'--pitch is for STL files, and this is the text of a sheet, which says its own pitch: pitch=5 on its first line for one, '
+           b'or no such line for 1')
     for name, pitch in (('plate.sheet', '1'), ('plate.sheet', '5'), ('schoolroom.sheet', '5'), ('schoolroom.sheet', '1'),
                         ('refused.sheet', '2')):
         for command in ('list', 'check', 'rewrite', 'draw'):
