@@ -30,7 +30,7 @@ use Rattle.program_rewrite.specs.Rewriting.{Rewrites}
 use Rattle.program_import.specs.Importing.{Imports}
 use Rattle.program_judge.specs.Hears.{HearsLine}
 use Rattle.program_list.specs.Lists.{Prints}
-use Rattle.demands.specs.Answers.{Check, otherPitch, wordCount, cornerCount, shortBuffer, unnamedCorner, stateCount, table, Answered, AnswersDemand}
+use Rattle.demands.specs.Answers.{Check, otherPitch, wordCount, cornerCount, shortBuffer, unnamedCorner, stateCount, table, writeChecks, Answered, AnswersDemand}
 use Rattle.demands.proofs.Checks.{answerOf, answerBy, answered, last-of, pitch-is, counts-are, table-is, table-refuses, chosen, then-once}
 use Rattle.demands.proofs.Files.{sizing, reading-file, importing-refused, importing}
 use Rattle.demands.proofs.Programs.{sheet-texts, set-texts, hearing-set-wrong, hearing, rewriting-refused, rewriting, printing}
@@ -110,12 +110,12 @@ reading bytes words corners o r s t =
     (record { answer = Done; pitch = pitchSaid s; word-count = length (wordsSaid s); corner-count = length (cornersSaid s); words = over (wordsSaid s) words; corners = over (cornersSaid s) corners }) o (λ a. refl) refl (r .of-text s t)
 
 writing : (pitch : ℕ) (words corners buffer : List ℕ)
-    → Answered (otherPitch pitch ∷ wordCount words ∷ cornerCount corners ∷ shortBuffer (length buffer ∷ []) (length (text pitch words corners) ∷ []) ∷ unnamedCorner words corners ∷ []) (λ a. record { answer = a; count = 0; bytes = buffer }) (λ p. p .answer) (writes pitch words corners buffer)
+    → Answered (writeChecks pitch words corners buffer) (λ a. record { answer = a; count = 0; bytes = buffer }) (λ p. p .answer) (writes pitch words corners buffer)
 unfolding writes writeRefusal
 writing pitch words corners buffer =
     let lent : List ℕ = length buffer ∷ [] in
     let needs : List ℕ = length (text pitch words corners) ∷ [] in
-    chosen (otherPitch pitch ∷ wordCount words ∷ cornerCount corners ∷ shortBuffer lent needs ∷ unnamedCorner words corners ∷ []) (λ i. refl, (λ i. refl, (λ i. refl, (λ i. refl, (λ i. refl, tt))))) (writeRefusal pitch words corners buffer)
+    chosen (writeChecks pitch words corners buffer) (λ i. refl, (λ i. refl, (λ i. refl, (λ i. refl, (λ i. refl, tt))))) (writeRefusal pitch words corners buffer)
     (pitch-is pitch (thenCheck (countRefusal (length words) (length corners)) (thenCheck (bufferRefusal lent needs) (unnamedRefusal corners (length words / 3))))
     ∙ ap (thenCheck (answerBy (otherPitch pitch)))
     (counts-are words corners (thenCheck (bufferRefusal lent needs) (unnamedRefusal corners (length words / 3))) ∙ ap (λ (x : Answer). thenCheck (answerBy (wordCount words)) (thenCheck (answerBy (cornerCount corners)) x)) (read-is lent needs words corners)))

@@ -38,6 +38,7 @@ use Rattle.survey_rules.specs.Outcome as survey
 use Rattle.patch_surface.specs.Outcome as patcher
 use Rattle.judge_surface.specs.Outcome.{JudgesCounted, JudgesIf, Judges}
 use Rattle.demands.specs.Grid.{away, Stands, Gridded, GridDemand}
+use Rattle.demands.proofs.Sets.{patch-done}
 
 module _ (pitch : ℕ) (some : 0 < pitch) (most : pitch ≤ 10) where
   -- ---- one coordinate
@@ -123,16 +124,10 @@ module _ (pitch : ℕ) (some : 0 < pitch) (most : pitch ≤ 10) where
             by true r n = absurd (true≢false (sym r ∙ n))
             by false r n = gridded words corners (survey.lent b) (survey.needs words corners) (ap refusing e ∙ r) (b .grid)
 
-    module _ (b : patcher.Buffers) (o : patcher.Outcome) where
-      abbrev patchRefusal : Answer
-      patchRefusal = refusal pitch words corners (patcher.lent b) (patcher.needs words corners)
-
-      patched : patcher.Patches pitch words corners b o → refusing (o .answer) ≡ false → Gridded pitch words (o .left .grid)
-      patched = go (refusing patchRefusal) refl
-        where
-          go : (t : Bool) → refusing patchRefusal ≡ t → patcher.PatchesIf t patchRefusal pitch words corners b o → refusing (o .answer) ≡ false → Gridded pitch words (o .left .grid)
-          go true r e n = absurd (true≢false (sym r ∙ ap (λ (x : patcher.Outcome). refusing (x .answer)) (sym e) ∙ n))
-          go false r (fates, course, e) n = subst (λ (x : patcher.Outcome). Gridded pitch words (x .left .grid)) (sym e) (gridded words corners (patcher.lent b) (patcher.needs words corners) r (b .grid))
+    patched : (b : patcher.Buffers) (o : patcher.Outcome) → patcher.Patches pitch words corners b o → refusing (o .answer) ≡ false → Gridded pitch words (o .left .grid)
+    patched b o h n =
+        let (r, (fates, course, e)) = patch-done pitch words corners b o h n in
+        subst (λ (x : patcher.Outcome). Gridded pitch words (x .left .grid)) (sym e) (gridded words corners (patcher.lent b) (patcher.needs words corners) r (b .grid))
 
     module _ (states set : List ℕ) (b : survey.Buffers) (o : survey.Outcome) where
       abbrev judgeRefusal : Answer

@@ -3,10 +3,10 @@ pub mod Programs
 pub mod Files
 pub mod Answers
 pub mod Kept
-pub mod Grid
 pub mod Closing
 pub mod Passable
 pub mod Sets
+pub mod Grid
 pub mod Pieces
 pub mod Texts
 pub mod Theorems

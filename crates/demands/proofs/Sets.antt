@@ -184,9 +184,13 @@ module _ (pitch : ℕ) (words corners : List ℕ) (b : patcher.Buffers) (o : pat
           let c : length (laidBy (ringList corners) fates) ≤ 3 * length (flatten (ringList corners)) = laid-length (gridOf pitch words) corners [] (rimList (gridOf pitch words) corners) (ringList corners) fates course in
           omega (arith, vertices-in-all corners sound, vertices-few corners sound)
 
-  pub patcher-demand : patcher.Patches pitch words corners b o → refusing (o .answer) ≡ false → PatcherDemand pitch words corners o
-  patcher-demand h n = go (refusing refuses) refl h
+  -- where the outcome is no refusal the table gave none, and the course was run
+  pub patch-done : patcher.Patches pitch words corners b o → refusing (o .answer) ≡ false → (refusing refuses ≡ false) × patcher.PatchesIf false refuses pitch words corners b o
+  patch-done h n = go (refusing refuses) refl h
     where
-      go : (t : Bool) → refusing refuses ≡ t → patcher.PatchesIf t refuses pitch words corners b o → PatcherDemand pitch words corners o
+      go : (t : Bool) → refusing refuses ≡ t → patcher.PatchesIf t refuses pitch words corners b o → (refusing refuses ≡ false) × patcher.PatchesIf false refuses pitch words corners b o
       go true r e = absurd (true≢false (sym r ∙ ap refusing (sym (ap (λ (x : patcher.Outcome). x .answer) e)) ∙ n))
-      go false r (fates, course, e) = done-demand r fates course e
+      go false r d = (r, d)
+
+  pub patcher-demand : patcher.Patches pitch words corners b o → refusing (o .answer) ≡ false → PatcherDemand pitch words corners o
+  patcher-demand h n = let (r, (fates, course, e)) = patch-done h n in done-demand r fates course e

@@ -142,6 +142,12 @@ lineAndSheet line pitch words corners = wrongLine line ∷ sheetChecks pitch wor
 abbrev pub table : ℕ → List ℕ → List ℕ → List ℕ → List ℕ → List Check
 table pitch words corners lent needs = otherPitch pitch ∷ wordCount words ∷ cornerCount corners ∷ shortBuffer lent needs ∷ sheetChecks pitch words corners
 
+-- 17 first; then "writing gives 1, 2, 3 (text buffer too short for this text ...; number 1) and 4"
+abbrev pub writeChecks : ℕ → List ℕ → List ℕ → List ℕ → List Check
+writeChecks pitch words corners buffer =
+    otherPitch pitch ∷ wordCount words ∷ cornerCount corners ∷ shortBuffer (length buffer ∷ []) (length (text pitch words corners) ∷ [])
+    ∷ unnamedCorner words corners ∷ []
+
 -- ---- what is demanded
 
 -- how many lines the text of a sheet has: "With a pitch line every later line number goes up by one"
@@ -182,10 +188,8 @@ pub record AnswersDemand : Type 0 where
       → (s : Sheet) → TextOf sheet bytes s
       → Answered (shortBuffer (length words ∷ length corners ∷ []) (length (wordsSaid s) ∷ length (cornersSaid s) ∷ []) ∷ unnamedCorner (wordsSaid s) (cornersSaid s) ∷ [])
       (λ a. intake.notRead a words corners) (λ p. p .answer) o
-  -- 17 first; then "writing gives 1, 2, 3 (text buffer too short for this text ...; number 1) and 4"
   pub writing : (pitch : ℕ) (words corners buffer : List ℕ)
-      → Answered (otherPitch pitch ∷ wordCount words ∷ cornerCount corners ∷ shortBuffer (length buffer ∷ []) (length (text pitch words corners) ∷ []) ∷ unnamedCorner words corners ∷ [])
-      (λ a. record { answer = a; count = 0; bytes = buffer }) (λ p. p .answer) (writes pitch words corners buffer)
+      → Answered (writeChecks pitch words corners buffer) (λ a. record { answer = a; count = 0; bytes = buffer }) (λ p. p .answer) (writes pitch words corners buffer)
   -- a patch set's text: 10, counted on after the lines before it, and 3 (states 1, corners 2)
   pub reading-set-wrong : (bytes : List ℕ) (before : ℕ) (states corners : List ℕ) (o : sets.SetOutcome) → sets.ReadsSet bytes before states corners o
       → (line : ℕ) → Fault set bytes line → o ≡ sets.notRead (Line (before + line)) states corners
