@@ -1,6 +1,6 @@
 /* Wazelpunt in a viewer: reads a sheet from the file that is named, or from standard input, patches it, and prints what is to be drawn: the
-   pitch, the points on the grid, the triangles, and each loop with its state, its ring and its patch. The file is a sheet text or a binary
-   STL.
+   pitch, the points on the grid, the triangles, and each loop with its state, where it comes from, its ring and its patch. The file is a
+   sheet text or a binary STL.
 
        cc viewer.c -lwazelpunt -o viewer && ./viewer plate.sheet
 
@@ -12,15 +12,13 @@
 
 #include <wazelpunt.h>
 
-/* A sheet and what is found of it. Buffers for the largest sheet take 68 KB, so they are static and not on the stack. */
+/* A sheet and what is found of it. Buffers for the largest sheet take 113 KB, so they are static and not on the stack. */
 static struct {
     uint32_t words[WAZELPUNT_WORDS];
     uint16_t corners[WAZELPUNT_CORNERS];
     int32_t grid[WAZELPUNT_GRID_FOR(WAZELPUNT_WORDS)];
     uint16_t rings[WAZELPUNT_RINGS_FOR(WAZELPUNT_CORNERS)];
-    uint16_t lengths[WAZELPUNT_LENGTHS_FOR(WAZELPUNT_CORNERS)];
-    uint16_t states[WAZELPUNT_STATES_FOR(WAZELPUNT_CORNERS)];
-    uint64_t weights[WAZELPUNT_WEIGHTS_FOR(WAZELPUNT_CORNERS)];
+    uint64_t records[WAZELPUNT_RECORDS_FOR(WAZELPUNT_CORNERS)];
     uint16_t patches[WAZELPUNT_PATCHES_FOR(WAZELPUNT_CORNERS)];
     size_t words_count, corners_count, loops, vertices, laid;
     uint32_t pitch;
@@ -94,12 +92,11 @@ static uint32_t take(size_t length, size_t *place)
     uint32_t number = read_sheet(length, place);
     if (number != WAZELPUNT_DONE) return number;
     return wazelpunt_patch(sheet.words, sheet.words_count, sheet.corners, sheet.corners_count, sheet.grid, LENGTH(sheet.grid), sheet.rings,
-                           LENGTH(sheet.rings), sheet.lengths, LENGTH(sheet.lengths), sheet.states, LENGTH(sheet.states), sheet.weights,
-                           LENGTH(sheet.weights), sheet.patches, LENGTH(sheet.patches), place, &sheet.loops, &sheet.vertices, &sheet.laid,
-                           sheet.pitch);
+                           LENGTH(sheet.rings), sheet.records, LENGTH(sheet.records), sheet.patches, LENGTH(sheet.patches), place,
+                           &sheet.loops, &sheet.vertices, &sheet.laid, sheet.pitch);
 }
 
-static const char *state_name(uint16_t state)
+static const char *state_name(uint64_t state)
 {
     switch (state) {
     case WAZELPUNT_PATCHED: return "patched";
@@ -109,15 +106,24 @@ static const char *state_name(uint16_t state)
     }
 }
 
+/* Prints what is kept of a loop. To point at it on the screen the half-edge that it is listed from is enough: half-edge h is edge h % 3 of
+   triangle h / 3. */
+static void draw_record(size_t loop, const struct wazelpunt_record *record)
+{
+    printf("loop %zu: %s; weight %" PRIu64 "; run %" PRIu64 "; in piece %" PRIu64 ", from half-edge %" PRIu64 " of triangle %" PRIu64
+           "; ring", loop, state_name(record->state), record->weight, record->run, record->piece, record->first, record->first / 3);
+}
+
 /* Prints the loops. Rings and patches stand one after another, so each loop begins where the one before ends. */
 static void draw_loops(void)
 {
     const uint16_t *ring = sheet.rings, *patch = sheet.patches;
     for (size_t loop = 0; loop < sheet.loops; loop++) {
-        size_t length = sheet.lengths[loop];
+        const struct wazelpunt_record record = wazelpunt_record_at(sheet.records, LENGTH(sheet.records), loop);
+        size_t length = (size_t)record.length;
         /* a cover of a ring has two triangles fewer than the ring has vertices */
-        size_t triangles = sheet.states[loop] == WAZELPUNT_PATCHED ? length - 2 : 0;
-        printf("loop %zu: %s; weight %" PRIu64 "; ring", loop, state_name(sheet.states[loop]), sheet.weights[loop]);
+        size_t triangles = record.state == WAZELPUNT_PATCHED ? length - 2 : 0;
+        draw_record(loop, &record);
         for (size_t i = 0; i < length; i++) printf(" %u", (unsigned)ring[i]);
         putchar('\n');
         for (size_t i = 0; i < triangles; i++, patch += 3)

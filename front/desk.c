@@ -1,5 +1,8 @@
 #include "desk.h"
 
+/* How many numbers the records of all loops of a sheet have at most. */
+enum { RECORDS = WAZELPUNT_RECORDS_FOR(WAZELPUNT_CORNERS) };
+
 struct answer desk_read(const struct text *sheet, struct desk *desk)
 {
     struct answer answer;
@@ -8,30 +11,21 @@ struct answer desk_read(const struct text *sheet, struct desk *desk)
     return answer;
 }
 
-struct answer desk_survey(const struct text *sheet, struct desk *desk)
-{
-    struct answer answer = desk_read(sheet, desk);
-    struct loops *loops = &desk->loops;
-    loops->count = loops->vertices = loops->laid = 0;
-    if (answer.number == WAZELPUNT_DONE) {
-        answer.number = wazelpunt_survey(desk->words, desk->word_count, desk->corners, desk->corner_count, desk->grid, WAZELPUNT_WORDS,
-                                         loops->rings, WAZELPUNT_CORNERS, loops->lengths, WAZELPUNT_TRIANGLES, &answer.place,
-                                         &loops->count, &loops->vertices, desk->pitch);
-    }
-    return answer;
-}
-
 struct answer desk_patch(const struct text *sheet, struct desk *desk)
 {
+    static uint64_t records[RECORDS];
     struct answer answer = desk_read(sheet, desk);
     struct loops *loops = &desk->loops;
     loops->count = loops->vertices = loops->laid = 0;
     if (answer.number == WAZELPUNT_DONE) {
         answer.number = wazelpunt_patch(desk->words, desk->word_count, desk->corners, desk->corner_count, desk->grid, WAZELPUNT_WORDS,
-                                        loops->rings, WAZELPUNT_CORNERS, loops->lengths, WAZELPUNT_TRIANGLES,
-                                        loops->states, WAZELPUNT_TRIANGLES, loops->weights, WAZELPUNT_TRIANGLES,
-                                        loops->patches, WAZELPUNT_SET_CORNERS, &answer.place, &loops->count, &loops->vertices,
-                                        &loops->laid, desk->pitch);
+                                        loops->rings, WAZELPUNT_CORNERS, records, RECORDS, loops->patches,
+                                        WAZELPUNT_SET_CORNERS, &answer.place, &loops->count, &loops->vertices, &loops->laid,
+                                        desk->pitch);
+    }
+    for (size_t loop = 0; loop < loops->count; loop++) {
+        struct wazelpunt_record record = wazelpunt_record_at(records, RECORDS, loop);
+        record_enter(loops, loop, &record);
     }
     return answer;
 }

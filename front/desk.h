@@ -1,4 +1,4 @@
-/* A sheet and a set as the library reads and surveys them, for what is not printed: pictures, explanations, summaries. */
+/* A sheet and a set as the library reads, patches and judges them, for what is not printed: pictures, explanations, summaries. */
 #ifndef DESK_H
 #define DESK_H
 
@@ -22,9 +22,8 @@ struct set {
     size_t corner_count;
 };
 
-/* Reads a sheet, and then patches it, or only finds its loops and leaves them without states, weights and patches. */
+/* Reads a sheet and patches it. */
 struct answer desk_patch(const struct text *sheet, struct desk *desk);
-struct answer desk_survey(const struct text *sheet, struct desk *desk);
 
 /* Reads a sheet alone. */
 struct answer desk_read(const struct text *sheet, struct desk *desk);

@@ -15,9 +15,9 @@
 /* The picture's own width is never more than this. */
 enum { WIDEST = 2 * PANEL_WIDTH };
 
-/* How many columns the picture has, which panel is next, and whether it is a plan. */
+/* How many columns the picture has, which panel is next, whether it is a plan, and whether it is marked where loops begin. */
 static size_t columns, panel;
-static bool plan;
+static bool plan, marked;
 
 /* ---- The legend ---- */
 
@@ -82,6 +82,10 @@ static void put_legend(const struct drawn *sheet, bool hides, size_t without)
     }
     if (hides) {
         put_entry("<path class=\"rim hidden\" d=\"M0-4.5h24\"/>", "hidden");
+    }
+    if (marked && sheet->loops > 0) {
+        put_entry("<g class=\"mark\"><path class=\"shaft\" d=\"M3-4.5h21m-8-4l8 4-8 4\"/>"
+                  "<circle class=\"tail\" cx=\"3\" cy=\"-4.5\" r=\"2.4\"/></g>", "first half-edge");
     }
     if (sheet->pitch != 1) {
         snprintf(text, sizeof text, "pitch %u", (unsigned)sheet->pitch);
@@ -189,7 +193,10 @@ void draw_sheet(const struct drawn *sheet)
     put_faces(sheet, plan);
     put_points(sheet, view.sizes[0] + view.sizes[1] + view.sizes[2] == 0);
     bool hides = put_loops(sheet);
-    size_t without = put_all_numbers(sheet);
+    if (marked) {
+        put_marks(sheet);
+    }
+    size_t without = put_all_numbers(sheet, marked);
     put_legend(sheet, hides, without);
     output("</g>\n");
 }
@@ -264,8 +271,18 @@ static void put_style(void)
            ".flag{font-size:11px;font-weight:bold;text-anchor:middle;fill:#fff}\n"
            ".open-flag{fill:#c4001d;stroke:#c4001d}\n"
            ".long-flag{fill:#c25700;stroke:#c25700}\n"
-           ".stem{stroke-width:1.4}\n"
-           "</style>\n"
+           ".stem{stroke-width:1.4}\n");
+    if (marked) {
+        output(".mark{fill:none;stroke:#0b57d0;stroke-width:2.2;stroke-linejoin:round;stroke-linecap:round}\n"
+               ".halo{stroke:#fff;stroke-width:4.6}\n"
+               ".fine{stroke-width:1.3}\n"
+               ".fine .halo{stroke-width:2.6}\n"
+               ".dots{stroke-dasharray:.1 4.5}\n"
+               ".tail{fill:#0b57d0;stroke:#fff;stroke-width:.8}\n"
+               ".tag{fill:#fff;stroke:#777;stroke-width:.6}\n"
+               ".tie{stroke:#777;stroke-width:.8}\n");
+    }
+    output("</style>\n"
            "<defs>\n"
            "<pattern id=\"open\" width=\"5\" height=\"5\" patternUnits=\"userSpaceOnUse\" patternTransform=\"rotate(45)\">"
            "<path fill=\"#c4001d\" d=\"M0 0h2v5h-2z\"/></pattern>\n"
@@ -274,9 +291,10 @@ static void put_style(void)
            "</defs>\n");
 }
 
-void draw_begin(size_t sheets, bool from_above)
+void draw_begin(size_t sheets, bool from_above, bool marks)
 {
     plan = from_above;
+    marked = marks;
     panel = 0;
     columns = 1;
     while (columns * columns < sheets) {

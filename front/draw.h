@@ -16,13 +16,16 @@ struct drawn {
     const uint16_t *rings;     /* the vertices of all rings, loop after loop */
     const uint16_t *lengths;   /* of the rings */
     const uint16_t *states;    /* of the loops */
+    const uint16_t *firsts;    /* the half-edges that the loops begin with, each from the first vertex of its ring to the second */
+    const uint16_t *pieces;    /* that the loops lie in */
+    const uint64_t *runs;      /* of the loops */
     const uint16_t *patches;   /* the corners of all patch triangles */
     size_t laid;               /* how many patch corners there are */
 };
 
 /* The head of a picture with so many panels: all of one size, in as many columns as rows or one more, filled row by row. With `plan` the
-   sheets are seen straight from above, else from the front above. */
-void draw_begin(size_t sheets, bool plan);
+   sheets are seen straight from above, else from the front above. With `marks` it is marked where each loop begins. */
+void draw_begin(size_t sheets, bool plan, bool marks);
 
 /* The next panel. */
 void draw_sheet(const struct drawn *sheet);

@@ -29,17 +29,6 @@ static int64_t turn(struct spot a, struct spot b, struct spot c)
 
 /* ---- What each is ---- */
 
-static int64_t square_root(int64_t of)
-{
-    int64_t root = 0;
-    for (int64_t bit = (int64_t)1 << 31; bit > 0; bit /= 2) {
-        if ((root + bit) * (root + bit) <= of) {
-            root += bit;
-        }
-    }
-    return root;
-}
-
 /* How light the seen side is, by its slope: from 0, turned away from a light at the left above the shoulder, to SHADES - 1. */
 static unsigned shade_of(const uint16_t *corners, bool back)
 {

@@ -15,12 +15,20 @@ enum { CROWD = 60 };
 static struct box loop_boxes[WAZELPUNT_TRIANGLES], taken[WAZELPUNT_TRIANGLES];
 static size_t taken_count;
 
-/* What is written at a loop, and how large it is. The patch is the loop's own, of length - 2 triangles, where the loop is patched. */
+/* Whether it is marked where loops begin; and if so the lines that no label may lie on: the marks, and the stems of labels. */
+static bool marked;
+static struct {
+    struct dot from, to;
+} lines[2 * WAZELPUNT_TRIANGLES];
+static size_t line_count;
+
+/* What is written at a loop, and how large it is. The patch is the loop's own, of length - 2 triangles, where the loop is patched. A flag
+   has a stem, and so has a number that stands apart from its loop. */
 struct label {
     const uint16_t *ring, *patch;
     size_t number, length;
     uint16_t state;
-    bool flag;
+    bool flag, apart;
     char text[32];
     int64_t width, height;
 };
@@ -89,7 +97,28 @@ static bool ring_surrounds(const uint16_t *ring, size_t length, const struct box
     return inside;
 }
 
-/* Whether a label may stand there: within the panel, so far from all other labels, and on no loop but its own and rims. */
+static void add_line(struct dot from, struct dot to)
+{
+    if (marked) {
+        lines[line_count].from = from;
+        lines[line_count++].to = to;
+    }
+}
+
+/* Whether one of those lines goes through a box, or passes it so near. */
+static bool is_on_line(const struct box *box, int64_t apart)
+{
+    struct box room = {box->left - apart, box->top - apart, box->right + apart, box->bottom + apart};
+    for (size_t i = 0; i < line_count; i++) {
+        if (edge_meets(lines[i].from, lines[i].to, &room)) {
+            return true;
+        }
+    }
+    return false;
+}
+
+/* Whether a label may stand there: within the panel, so far from all other labels, on none of the lines, and on no loop but its own and
+   rims. */
 static bool is_free(const struct drawn *sheet, const struct label *label, const struct box *box, int64_t apart)
 {
     struct box room = {box->left - apart, box->top - apart / 2, box->right + apart, box->bottom + apart / 2};
@@ -100,6 +129,9 @@ static bool is_free(const struct drawn *sheet, const struct label *label, const 
         if (overlap(&room, &taken[i])) {
             return false;
         }
+    }
+    if (is_on_line(box, label->flag ? 0 : 10)) {
+        return false;
     }
     const uint16_t *ring = sheet->rings;
     for (size_t i = 0; i < sheet->loops; ring += sheet->lengths[i], i++) {
@@ -119,7 +151,7 @@ static bool find_beside(const struct drawn *sheet, const struct label *label, co
         int64_t across = (own->right - own->left + label->width) / 2 + gap, down = (own->bottom - own->top + label->height) / 2 + gap;
         *box = box_about((own->left + own->right) / 2 + ways[i][0] * across, (own->top + own->bottom) / 2 + ways[i][1] * down, label->width,
                          label->height);
-        if (is_free(sheet, label, box, !label->flag && sheet->loops > CROWD ? 400 : 20)) {
+        if (is_free(sheet, label, box, !label->flag && !marked && sheet->loops > CROWD ? 400 : 20)) {
             return true;
         }
     }
@@ -176,18 +208,29 @@ static bool find_within(const struct drawn *sheet, const struct label *label, st
     return is_free(sheet, label, box, 20);
 }
 
-static bool find_place(const struct drawn *sheet, const struct label *label, struct box *box)
+/* Looks for a place at a rim: beside where it begins, if that is marked, or at its lowest vertex. */
+static bool find_at_rim(const struct drawn *sheet, const struct label *label, struct box *box)
 {
-    struct box own = loop_boxes[label->number];
-    if (label->state == WAZELPUNT_RIM) {
-        own = lowest_of(label);
-        return find_beside(sheet, label, &own, 20, box);
-    }
-    if (find_within(sheet, label, box)) {
+    struct mark mark = mark_of(sheet, label->number);
+    struct box middle = box_about((mark.from.x + mark.to.x) / 2, (mark.from.y + mark.to.y) / 2, 0, 0), lowest = lowest_of(label);
+    return (marked && (find_beside(sheet, label, &middle, 30, box) || find_beside(sheet, label, &middle, 60, box))) ||
+           find_beside(sheet, label, &lowest, 20, box);
+}
+
+/* Numbers stand at their loops, or a bit further off where loops are marked; flags stand still further off, if they have to. */
+static bool find_place(const struct drawn *sheet, struct label *label, struct box *box)
+{
+    bool rim = label->state == WAZELPUNT_RIM;
+    if (rim ? find_at_rim(sheet, label, box) : find_within(sheet, label, box)) {
         return true;
     }
-    for (int64_t gap = label->flag ? 120 : 10; gap <= (label->flag ? 1200 : 10); gap += 120) {
-        if (find_beside(sheet, label, &own, gap, box)) {
+    if (rim && !marked) {
+        return false;
+    }
+    int64_t least = label->flag ? 120 : 10, most = label->flag ? 1200 : marked ? 400 : 10, step = label->flag ? 120 : 30;
+    for (int64_t gap = least; gap <= most; gap += step) {
+        if (find_beside(sheet, label, &loop_boxes[label->number], gap, box)) {
+            label->apart = gap > 40;
             return true;
         }
     }
@@ -210,19 +253,29 @@ static struct dot nearest_of(const struct label *label, struct dot middle)
     return nearest;
 }
 
+static void put_stem(const struct label *label, const struct box *box, struct dot middle)
+{
+    static const char *const stems[] = {"tie", "stem long-flag", "stem open-flag"};
+    static const char *const boards[] = {"tag", "long-flag", "open-flag"};
+    size_t kind = !label->flag ? 0 : label->state == WAZELPUNT_LONG ? 1 : 2;
+    struct dot nearest = nearest_of(label, middle);
+    add_line(middle, nearest);
+    output("<path class=\"%s\" d=\"", stems[kind]);
+    put_move(middle);
+    put_line(middle, nearest);
+    output("\"/><rect class=\"%s\"", boards[kind]);
+    put_length("x", box->left);
+    put_length("y", box->top);
+    put_length("width", label->width);
+    put_length("height", label->height);
+    output(" rx=\"3\"/>");
+}
+
 static void put_label(const struct label *label, const struct box *box)
 {
     struct dot middle = {(box->left + box->right) / 2, (box->top + box->bottom) / 2};
-    if (label->flag) {
-        output("<path class=\"stem %s-flag\" d=\"", state_name(label->state));
-        put_move(middle);
-        put_line(middle, nearest_of(label, middle));
-        output("\"/><rect class=\"%s-flag\"", state_name(label->state));
-        put_length("x", box->left);
-        put_length("y", box->top);
-        put_length("width", label->width);
-        put_length("height", label->height);
-        output(" rx=\"3\"/>");
+    if (label->flag || label->apart) {
+        put_stem(label, box, middle);
     }
     output("<text class=\"%s\"", label->flag ? "flag" : label->state == WAZELPUNT_RIM ? "number rim-number" : "number");
     put_length("x", middle.x);
@@ -234,7 +287,8 @@ static void put_label(const struct label *label, const struct box *box)
 /* The flags are short where there are so many that long ones would hide the sheet. */
 static struct label make_label(const struct drawn *sheet, const uint16_t *ring, const uint16_t *patch, size_t number, bool brief)
 {
-    struct label label = {ring, patch, number, sheet->lengths[number], sheet->states[number], stays_open(sheet->states[number]), "", 0, 0};
+    uint16_t state = sheet->states[number];
+    struct label label = {ring, patch, number, sheet->lengths[number], state, stays_open(state), false, "", 0, 0};
     bool words = label.flag && !brief;
     snprintf(label.text, sizeof label.text, "%zu%s%s", number, words ? " " : "", words ? state_name(label.state) : "");
     label.width = (int64_t)strlen(label.text) * (label.flag ? 64 : 52) + (label.flag ? 80 : 10);
@@ -269,12 +323,17 @@ static size_t put_numbers(const struct drawn *sheet, uint16_t state, bool brief)
     return without;
 }
 
-size_t put_all_numbers(const struct drawn *sheet)
+size_t put_all_numbers(const struct drawn *sheet, bool marks)
 {
     size_t open = count_state(sheet->states, sheet->loops, WAZELPUNT_OPEN);
     bool brief = open + count_state(sheet->states, sheet->loops, WAZELPUNT_LONG) > 24;
-    taken_count = 0;
+    marked = marks;
+    taken_count = line_count = 0;
     set_loop_boxes(sheet);
+    for (size_t i = 0; i < sheet->loops; i++) {
+        struct mark mark = mark_of(sheet, i);
+        add_line(mark.from, mark.to);
+    }
     output("<g class=\"numbers\">\n");
     size_t without = put_numbers(sheet, WAZELPUNT_OPEN, brief) + put_numbers(sheet, WAZELPUNT_LONG, brief) + put_numbers(sheet, 0, brief);
     output("</g>\n");

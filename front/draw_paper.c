@@ -5,6 +5,17 @@
 
 #include "output.h"
 
+int64_t square_root(int64_t of)
+{
+    int64_t root = 0;
+    for (int64_t bit = (int64_t)1 << 31; bit > 0; bit /= 2) {
+        if ((root + bit) * (root + bit) <= of) {
+            root += bit;
+        }
+    }
+    return root;
+}
+
 void put_tenths(int64_t tenths)
 {
     int64_t size = size_of(tenths);

@@ -39,6 +39,9 @@ static inline int sign_of(int64_t a)
     return (a > 0) - (a < 0);
 }
 
+/* The greatest whole number whose square is at most this. */
+int64_t square_root(int64_t of);
+
 /* A number of tenths, and two of them. */
 void put_tenths(int64_t tenths);
 void put_pair(int64_t x, int64_t y);

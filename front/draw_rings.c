@@ -1,5 +1,6 @@
 #include "draw_rings.h"
 
+#include "desk.h"
 #include "draw_faces.h"
 #include "listing.h"
 #include "output.h"
@@ -35,11 +36,11 @@ static void put_piece(struct trace *trace, struct dot a, struct dot b, struct pi
     trace->joined = piece.to == WHOLE;
 }
 
-/* A path of all that is seen of a ring, or of all that is hidden; false if there is none. */
-static bool put_trace(const uint16_t *ring, size_t length, const char *class, bool behind)
+/* A path of all that is seen of the first edges of a ring, so many, or of all that is hidden; false if there is none. */
+static bool put_trace(const uint16_t *ring, size_t length, size_t edges, const char *class, bool behind)
 {
     struct trace trace = {class, false, false};
-    for (size_t i = 0; i < length; i++) {
+    for (size_t i = 0; i < edges; i++) {
         uint16_t from = ring[i], to = ring[(i + 1) % length];
         struct piece seen = {0, 0};
         const struct piece *hidden;
@@ -77,10 +78,10 @@ static bool put_loop(const uint16_t *ring, size_t length, uint16_t state, size_t
             put_line(dots[ring[i - 1]], dots[ring[i]]);
         }
         output("z\"/>\n");
-        put_trace(ring, length, "casing", false);
+        put_trace(ring, length, length, "casing", false);
     }
-    put_trace(ring, length, "seen", false);
-    bool hides = put_trace(ring, length, hidden_class(state), true);
+    put_trace(ring, length, length, "seen", false);
+    bool hides = put_trace(ring, length, length, hidden_class(state), true);
     output("</g>\n");
     return hides;
 }
@@ -97,4 +98,69 @@ bool put_loops(const struct drawn *sheet)
         }
     }
     return hides;
+}
+
+/* ---- Where loops begin ---- */
+
+/* How long the head of an arrow is at most, and how large the dot at its tail, in tenths; it is thin on shorter edges than this. */
+enum { HEAD = 80, TAIL = 24, SHORT = 160 };
+
+struct mark mark_of(const struct drawn *sheet, size_t loop)
+{
+    size_t first = sheet->firsts[loop];
+    struct mark mark = {{sheet->corners[first], sheet->corners[edge_after(first)]}, {0, 0}, {0, 0}};
+    mark.from = dots[mark.ends[0]];
+    mark.to = dots[mark.ends[1]];
+    return mark;
+}
+
+static int64_t length_of(const struct mark *mark)
+{
+    int64_t x = mark->to.x - mark->from.x, y = mark->to.y - mark->from.y;
+    return square_root(x * x + y * y);
+}
+
+/* The head: two lines that meet at the end of the edge. */
+static void put_head(const struct mark *mark, const char *class)
+{
+    int64_t length = length_of(mark), head = lesser(HEAD, length * 2 / 5);
+    if (head < 15) {
+        return;
+    }
+    struct dot along = {(mark->to.x - mark->from.x) * head / length, (mark->to.y - mark->from.y) * head / length};
+    struct dot left = {mark->to.x - along.x + along.y / 2, mark->to.y - along.y - along.x / 2};
+    struct dot right = {mark->to.x - along.x - along.y / 2, mark->to.y - along.y + along.x / 2};
+    output("<path class=\"%s\" d=\"", class);
+    put_move(left);
+    put_line(left, mark->to);
+    put_line(mark->to, right);
+    output("\"/>\n");
+}
+
+static void put_mark(const struct drawn *sheet, size_t loop)
+{
+    struct mark mark = mark_of(sheet, loop);
+    unsigned first = sheet->firsts[loop];
+    output("<g class=\"mark%s\"><title>loop %zu, in piece %u, run %llu: ", length_of(&mark) < SHORT ? " fine" : "", loop,
+           sheet->pieces[loop], (unsigned long long)sheet->runs[loop]);
+    output("half-edge %u of triangle %u, from point %u to point %u</title>\n", first, first / 3, mark.ends[0], mark.ends[1]);
+    put_trace(mark.ends, 2, 1, "halo", false);
+    put_head(&mark, "halo");
+    put_trace(mark.ends, 2, 1, "shaft", false);
+    put_trace(mark.ends, 2, 1, "shaft dots", true);
+    put_head(&mark, "head");
+    output("<circle class=\"tail\"");
+    put_length("cx", mark.from.x);
+    put_length("cy", mark.from.y);
+    put_length("r", lesser(TAIL, greater(length_of(&mark) / 6, 10)));
+    output("/></g>\n");
+}
+
+void put_marks(const struct drawn *sheet)
+{
+    output("<g class=\"marks\">\n");
+    for (size_t i = 0; i < sheet->loops; i++) {
+        put_mark(sheet, i);
+    }
+    output("</g>\n");
 }

@@ -55,7 +55,7 @@ static const char all[] =
     "wazelpunt: find the gaps in a triangle surface and close them\n"
     "\n"
     "  wazelpunt list [SHEET...]             the loops of sheets and their patches\n"
-    "      [--quiet] [--json [--patches]] [--closed] [--pitch N]\n"
+    "      [--quiet] [--loops] [--json [--patches]] [--closed] [--pitch N]\n"
     "  wazelpunt check SHEET [PATCHES]       judge a patch set for a sheet\n"
     "  wazelpunt check --beside SHEET...     judge the set beside each sheet\n"
     "      [--quiet] [--json] [--closed] [--pitch N]\n"
@@ -64,7 +64,7 @@ static const char all[] =
     "  wazelpunt import [FILE...]            binary STL files as texts of sheets\n"
     "      [--quiet] [--pitch N]\n"
     "  wazelpunt draw [SHEET...]             a picture (SVG) of sheets and patches\n"
-    "      [--quiet] [--plan] [--pitch N]\n"
+    "      [--quiet] [--plan] [--loops] [--pitch N]\n"
     "  wazelpunt example [patches]           a sample sheet, or its patch set\n"
     "  wazelpunt help [COMMAND]              this, or more on a command\n"
     "  wazelpunt --version                   the version\n"
@@ -90,13 +90,17 @@ static const char all[] =
     STATUS_ORDER_CLOSED;
 
 static const char list[] =
-    "wazelpunt list [--quiet] [--json [--patches]] [--closed] [--pitch N] [SHEET...]\n"
+    "wazelpunt list [--quiet] [--loops] [--json [--patches]] [--closed] [--pitch N]\n"
+    "               [SHEET...]\n"
     "\n"
     "Lists the loops of open edges of sheets, and the triangles that close them.\n"
     SHEETS
     HEADINGS
     "\n"
     "  -q, --quiet    say nothing of a sheet that is listed\n"
+    "      --loops    say of each loop in which piece it lies, how long it is, and\n"
+    "                 where it begins; without this that is said of loops that stay\n"
+    "                 open, of at most five of a state\n"
     "      --json     an object a line for each sheet, instead of its listing\n"
     "      --patches  with --json: each loop also has the triangles that close it\n"
     "      --closed   end with status 3 if a loop that is no rim stays open\n"
@@ -105,14 +109,22 @@ static const char list[] =
     "A listing:\n"
     "  answer=0,0     the answer's number and place: 0,0 is done\n"
     "  loops=2        how many loops there are; they are counted from 0\n"
-    "  loop=3,1,100   a loop: how many edges it has, its state, its patch's weight\n"
-    "  ring=4,3,5     the points around it\n"
+    "  loop=3,1,100,4,0,40\n"
+    "                 a loop: how many edges it has, its state, its patch's weight,\n"
+    "                 the half-edge that it begins with, its piece, its run\n"
+    "  ring=4,3,5     the points around it, the two of that half-edge first\n"
     "  patch=4,5,3    a triangle that closes it; a line for each\n"
+    "\n"
+    "Triangle t has the half-edges 3t, 3t+1 and 3t+2, each from a corner to the next.\n"
+    "A piece is all triangles that hang together by edges; pieces are counted from 0\n"
+    "in the order of their first triangles. The run of a loop is how far it goes on\n"
+    "the grid: in x, in y and in z, edge by edge, all added, in plate units.\n"
     "\n"
     STATES
     "\n"
     "Examples:\n"
     "  wazelpunt list plate.sheet\n"
+    "  wazelpunt list --loops plate.sheet >/dev/null\n"
     "  wazelpunt list --pitch 5 part.stl\n"
     "  wazelpunt list --quiet --closed *.sheet >listings && echo all holes are closed\n"
     "\n"
@@ -229,7 +241,7 @@ static const char import[] =
     STATUS_ORDER;
 
 static const char draw[] =
-    "wazelpunt draw [--quiet] [--plan] [--pitch N] [SHEET...]\n"
+    "wazelpunt draw [--quiet] [--plan] [--loops] [--pitch N] [SHEET...]\n"
     "\n"
     "Draws sheets with their loops and patches: one picture, in SVG, on standard\n"
     "output.\n"
@@ -239,6 +251,9 @@ static const char draw[] =
     "\n"
     "  -q, --quiet    say nothing of a sheet that is drawn\n"
     "      --plan     seen straight from above\n"
+    "      --loops    with an arrow along the half-edge that each loop begins with,\n"
+    "                 and all numbers of loops that have room; and say of each loop\n"
+    "                 what list --loops says\n"
     PITCH
     "\n"
     STATES
@@ -246,6 +261,7 @@ static const char draw[] =
     "Examples:\n"
     "  wazelpunt draw plate.sheet >plate.svg\n"
     "  wazelpunt draw --plan *.sheet >all.svg\n"
+    "  wazelpunt draw --quiet --loops plate.sheet >loops.svg\n"
     "\n"
     STATUSES
     STATUS_ORDER;

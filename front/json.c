@@ -125,8 +125,10 @@ void json_listed(const struct text *sheet, const struct loops *loops, bool patch
     output(",\"loops\":[");
     for (size_t loop = 0; loop < loops->count; loop++) {
         size_t cover = cover_of(loops->lengths[loop], loops->states[loop]);
-        output("%s{\"length\":%u,\"state\":%u,\"name\":\"%s\",\"weight\":%llu,\"ring\":", loop == 0 ? "" : ",", loops->lengths[loop],
+        output("%s{\"length\":%u,\"state\":%u,\"name\":\"%s\",\"weight\":%llu", loop == 0 ? "" : ",", loops->lengths[loop],
                loops->states[loop], state_name(loops->states[loop]), (unsigned long long)loops->weights[loop]);
+        output(",\"first\":%u,\"piece\":%u,\"run\":%llu,\"ring\":", loops->firsts[loop], loops->pieces[loop],
+               (unsigned long long)loops->runs[loop]);
         put_numbers(ring, loops->lengths[loop]);
         if (patches) {
             put_patches(laid, cover);

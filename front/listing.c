@@ -65,24 +65,35 @@ bool answer_take(const uint8_t *bytes, size_t count, struct answer *answer)
     return take_answer(&reading, answer);
 }
 
-/* The line `loop=length,state,weight` of the loop that comes next. */
-static bool take_measures(struct reading *reading, struct loops *loops)
+void record_enter(struct loops *loops, size_t loop, const struct wazelpunt_record *record)
 {
-    uint64_t length, state, weight;
-    if (!take_word(reading, "loop=") || !take_number(reading, WAZELPUNT_CORNERS - loops->vertices, &length) || length < 3 ||
-        !take_word(reading, ",") || !take_number(reading, WAZELPUNT_RIM, &state) || state < WAZELPUNT_PATCHED ||
-        !take_word(reading, ",") || !take_number(reading, UINT64_MAX, &weight) || !take_word(reading, "\n")) {
+    loops->lengths[loop] = (uint16_t)record->length;
+    loops->states[loop] = (uint16_t)record->state;
+    loops->weights[loop] = record->weight;
+    loops->firsts[loop] = (uint16_t)record->first;
+    loops->pieces[loop] = (uint16_t)record->piece;
+    loops->runs[loop] = record->run;
+}
+
+/* The line `loop=length,state,weight,first,piece,run` of the loop that comes next. */
+static bool take_record(struct reading *reading, struct loops *loops)
+{
+    struct wazelpunt_record record = {0};
+    if (!take_word(reading, "loop=") || !take_number(reading, WAZELPUNT_CORNERS - loops->vertices, &record.length) || record.length < 3 ||
+        !take_word(reading, ",") || !take_number(reading, WAZELPUNT_RIM, &record.state) || record.state < WAZELPUNT_PATCHED ||
+        !take_word(reading, ",") || !take_number(reading, UINT64_MAX, &record.weight) ||
+        !take_word(reading, ",") || !take_number(reading, WAZELPUNT_CORNERS - 1, &record.first) ||
+        !take_word(reading, ",") || !take_number(reading, WAZELPUNT_TRIANGLES - 1, &record.piece) ||
+        !take_word(reading, ",") || !take_number(reading, UINT64_MAX, &record.run) || !take_word(reading, "\n")) {
         return false;
     }
-    loops->lengths[loops->count] = (uint16_t)length;
-    loops->states[loops->count] = (uint16_t)state;
-    loops->weights[loops->count] = weight;
+    record_enter(loops, loops->count, &record);
     return true;
 }
 
 static bool take_loop(struct reading *reading, struct loops *loops)
 {
-    if (!take_measures(reading, loops)) {
+    if (!take_record(reading, loops)) {
         return false;
     }
     size_t length = loops->lengths[loops->count];
@@ -168,19 +179,17 @@ bool loops_stay_open(const struct loops *loops)
     return count_in(loops, WAZELPUNT_LONG) + count_in(loops, WAZELPUNT_OPEN) > 0;
 }
 
-/* Loops of a state that stay open, and where the first of them are. */
+/* Loops of a state that stay open, by the numbers of the first of them. */
 static void add_open(struct phrase *phrase, const char *before, const struct loops *loops, uint16_t state, const char *how)
 {
-    const uint16_t *ring = loops->rings;
     size_t count = count_in(loops, state);
     size_t named = 0;
-    phrase_add(phrase, "%s%zu %s, LEFT OPEN: ", before, count, how);
+    phrase_add(phrase, "%s%zu %s, LEFT OPEN: loop%s ", before, count, how, count == 1 ? "" : "s");
     for (size_t loop = 0; loop < loops->count && named < MOST_NAMED; loop++) {
         if (loops->states[loop] == state) {
-            phrase_add(phrase, "%sloop %zu at %u, %u, %u", named == 0 ? "" : ", ", loop, ring[0], ring[1], ring[2]);
+            phrase_add(phrase, "%s%zu", named == 0 ? "" : ", ", loop);
             named++;
         }
-        ring += loops->lengths[loop];
     }
     if (count > named) {
         phrase_add(phrase, " and %zu more", count - named);
@@ -219,5 +228,30 @@ void loops_add(struct phrase *phrase, const struct loops *loops, bool has_triang
     }
     if (count_in(loops, WAZELPUNT_OPEN) > 0) {
         add_open(phrase, before, loops, WAZELPUNT_OPEN, "without an allowed cover");
+    }
+}
+
+static void say_loop(const struct loops *loops, size_t loop, const uint16_t *ring, const char *triangle)
+{
+    static char said[256];
+    struct phrase phrase = {said, sizeof said, 0};
+    unsigned first = loops->firsts[loop];
+    phrase_add(&phrase, "loop %zu, %s, in piece %u", loop, state_name(loops->states[loop]), loops->pieces[loop]);
+    phrase_add_many(&phrase, ": ", loops->lengths[loop], "edge");
+    phrase_add_many(&phrase, ", run ", loops->runs[loop], "plate unit");
+    phrase_add(&phrase, "; begins with half-edge %u of %s %u, from point %u to point %u", first, triangle, first / 3, ring[0], ring[1]);
+    say_more("%s", said);
+}
+
+void loops_say(const struct loops *loops, bool all, const char *triangle)
+{
+    const uint16_t *ring = loops->rings;
+    size_t named[WAZELPUNT_RIM + 1] = {0};
+    for (size_t loop = 0; loop < loops->count; loop++) {
+        uint16_t state = loops->states[loop];
+        if (all || (stays_open(state) && named[state]++ < MOST_NAMED)) {
+            say_loop(loops, loop, ring, triangle);
+        }
+        ring += loops->lengths[loop];
     }
 }

@@ -17,11 +17,17 @@ struct loops {
     uint16_t lengths[WAZELPUNT_TRIANGLES];
     uint16_t states[WAZELPUNT_TRIANGLES];
     uint64_t weights[WAZELPUNT_TRIANGLES];
+    uint16_t firsts[WAZELPUNT_TRIANGLES];    /* the half-edge that each is listed from, which runs from its first vertex to its second */
+    uint16_t pieces[WAZELPUNT_TRIANGLES];    /* the piece that each lies in */
+    uint64_t runs[WAZELPUNT_TRIANGLES];      /* how long each is on the grid, in plate units */
     uint16_t rings[WAZELPUNT_CORNERS];       /* loop after loop */
     size_t vertices;
     uint16_t patches[WAZELPUNT_SET_CORNERS]; /* the corners of all triangles laid, loop after loop */
     size_t laid;
 };
+
+/* Enters the record of a loop. */
+void record_enter(struct loops *loops, size_t loop, const struct wazelpunt_record *record);
 
 /* Takes the answer out of printed bytes; false if they do not begin with an answer's line. */
 bool answer_take(const uint8_t *bytes, size_t count, struct answer *answer);
@@ -47,5 +53,9 @@ bool loops_stay_open(const struct loops *loops);
 
 /* Adds what became of the loops: `2 loops: 1 rim; 1 closed with 1 triangle`. */
 void loops_add(struct phrase *phrase, const struct loops *loops, bool has_triangles);
+
+/* Says a line of each loop, or only of those that loops_add names, in their order: in which piece it lies, how long it is and where it
+   begins. A triangle of the sheet is called `triangle` or `facet`. */
+void loops_say(const struct loops *loops, bool all, const char *triangle);
 
 #endif

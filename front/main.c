@@ -21,7 +21,9 @@
 
 /* ---- A call ---- */
 
-enum options { QUIET = 1, JSON = 2, PATCHES = 4, CLOSED = 8, BESIDE = 16, PLAN = 32, HELP = 64, VERSION = 128, AT_PITCH = 256 };
+enum options {
+    QUIET = 1, JSON = 2, PATCHES = 4, CLOSED = 8, BESIDE = 16, PLAN = 32, LOOPS = 64, HELP = 128, VERSION = 256, AT_PITCH = 512
+};
 
 struct call {
     const struct command *command;
@@ -172,6 +174,7 @@ static enum status tell_loops(const struct call *call, const struct text *of_set
         } else {
             say("%s%s: %s passes: %s", name, made_of(), said_name(of_set->name), said);
         }
+        loops_say(loops, has(call, LOOPS), sheet.stl != NULL ? "facet" : "triangle");
     }
     return has(call, CLOSED) && loops_stay_open(loops) ? STATUS_OPEN : STATUS_DONE;
 }
@@ -277,7 +280,7 @@ static char *name_beside(const char *name)
 /* The loops with the states that the set declares, which passed. */
 static enum status tell_passed(const struct call *call)
 {
-    desk_survey(&sheet, &desk);
+    desk_patch(&sheet, &desk);
     set_read(&set, lines_ended(&sheet), &declared);
     memcpy(desk.loops.states, declared.states, declared.state_count * sizeof declared.states[0]);
     if (has(call, JSON)) {
@@ -340,6 +343,9 @@ static void draw_desk(const char *name)
         .rings = loops->rings,
         .lengths = loops->lengths,
         .states = loops->states,
+        .firsts = loops->firsts,
+        .pieces = loops->pieces,
+        .runs = loops->runs,
         .patches = loops->patches,
         .laid = loops->laid,
     };
@@ -366,7 +372,7 @@ static enum status draw_one(const struct call *call, const char *name)
         return tell_answer(call, NULL, answer);
     }
     if (alone) {
-        draw_begin(1, has(call, PLAN));
+        draw_begin(1, has(call, PLAN), has(call, LOOPS));
     }
     draw_desk(title);
     if (alone) {
@@ -434,7 +440,7 @@ static enum status draw(const struct call *call)
     if (sheets.count == 1) {
         return draw_one(&sheets, sheets.names[0]);
     }
-    draw_begin(sheets.count, has(call, PLAN));
+    draw_begin(sheets.count, has(call, PLAN), has(call, LOOPS));
     enum status status = each(&sheets, draw_one);
     draw_end();
     return status;
@@ -490,11 +496,11 @@ static enum status help(const struct call *call)
 }
 
 static const struct command commands[] = {
-    {"list", QUIET | JSON | PATCHES | CLOSED | AT_PITCH, list},
+    {"list", QUIET | JSON | PATCHES | CLOSED | LOOPS | AT_PITCH, list},
     {"check", QUIET | JSON | CLOSED | BESIDE | AT_PITCH, check},
     {"rewrite", QUIET | AT_PITCH, rewrite},
     {"import", QUIET | AT_PITCH, import},
-    {"draw", QUIET | PLAN | AT_PITCH, draw},
+    {"draw", QUIET | PLAN | LOOPS | AT_PITCH, draw},
     {"example", 0, example},
     {"help", 0, help},
 };
@@ -508,9 +514,9 @@ struct option {
 };
 
 static const struct option known[] = {
-    {"--quiet", "-q", QUIET}, {"--json", "", JSON},    {"--patches", "", PATCHES}, {"--closed", "", CLOSED},
-    {"--beside", "", BESIDE}, {"--plan", "", PLAN},    {"--help", "-h", HELP},     {"--version", "-V", VERSION},
-    {"--pitch", "", AT_PITCH},
+    {"--quiet", "-q", QUIET},     {"--json", "", JSON},      {"--patches", "", PATCHES}, {"--closed", "", CLOSED},
+    {"--beside", "", BESIDE},     {"--plan", "", PLAN},      {"--loops", "", LOOPS},     {"--help", "-h", HELP},
+    {"--version", "-V", VERSION}, {"--pitch", "", AT_PITCH},
 };
 
 static const struct option *find_option(const char *word)

@@ -55,7 +55,7 @@ extern "C" {
 #endif
 
 /* The version of this header. */
-#define WAZELPUNT_VERSION "2.0.0"
+#define WAZELPUNT_VERSION "3.0.0"
 
 /* What a surface may have at most. */
 #define WAZELPUNT_POINTS 1024
@@ -68,8 +68,9 @@ extern "C" {
 #define WAZELPUNT_SET_TRIANGLES 3072
 #define WAZELPUNT_SET_CORNERS 9216
 
-/* The edges of the longest loop that is patched, and how far the grid reaches from 0 on either side. */
+/* The edges of the longest loop that is patched, the numbers of a loop's record, and how far the grid reaches from 0 on either side. */
 #define WAZELPUNT_LONGEST 64
+#define WAZELPUNT_RECORD 7
 #define WAZELPUNT_GREATEST 32767
 
 /* The bytes of the longest text of a sheet and of a patch set, and room that is enough for every listing and for every answer's line. */
@@ -84,12 +85,12 @@ extern "C" {
 #define WAZELPUNT_STL_FRONT 84
 #define WAZELPUNT_STL_FACET_BYTES 50
 
-/* How many numbers each lent buffer needs for a surface of so many words and corners, as refusal 3 counts the buffers: 1 to 6. */
+/* How many numbers each lent buffer needs for a surface of so many words and corners. As refusal 3 counts the buffers, grid is 1 and rings
+   2; 3 is lengths where a surface is surveyed or judged and records where it is patched, and patches is 4. */
 #define WAZELPUNT_GRID_FOR(words_count) (words_count)
 #define WAZELPUNT_RINGS_FOR(corners_count) (corners_count)
 #define WAZELPUNT_LENGTHS_FOR(corners_count) ((corners_count) / 3)
-#define WAZELPUNT_STATES_FOR(corners_count) ((corners_count) / 3)
-#define WAZELPUNT_WEIGHTS_FOR(corners_count) ((corners_count) / 3)
+#define WAZELPUNT_RECORDS_FOR(corners_count) (WAZELPUNT_RECORD * ((corners_count) / 3))
 #define WAZELPUNT_PATCHES_FOR(corners_count) (3 * (corners_count))
 
 /* The numbers of the answers, and what their places count: 1 to 10, 16 and 17 are refusals, 11 to 15 verdicts on a patch set. */
@@ -121,6 +122,35 @@ enum wazelpunt_state {
     WAZELPUNT_OPEN = 3,    /* left open, since it has no allowed cover */
     WAZELPUNT_RIM = 4      /* the rim of its piece, at any length: it is never patched */
 };
+
+/* What the patcher keeps of a loop: seven numbers, in this order one after the other, and the loops' in listed order. */
+struct wazelpunt_record {
+    uint64_t length; /* how many edges it has: at least 3 */
+    uint64_t state;  /* enum wazelpunt_state */
+    uint64_t weight; /* what its patch weighs; 0 in every state but WAZELPUNT_PATCHED */
+    uint64_t count;  /* 0 */
+    uint64_t first;  /* the half-edge that it is listed from: it runs from the first vertex of its ring to the second */
+    uint64_t piece;  /* the piece that it lies in; pieces are numbered from 0 in the order of their smallest triangles */
+    uint64_t run;    /* how long it is on the grid: over its edges, the three absolute differences added */
+};
+
+/* The record of a loop, out of so many numbers of records. Where they hold no such record all seven numbers are 0: no loop has the
+   length 0. */
+static inline struct wazelpunt_record wazelpunt_record_at(const uint64_t *records, size_t records_length, size_t loop)
+{
+    struct wazelpunt_record record = {0, 0, 0, 0, 0, 0, 0};
+    if (loop < records_length / WAZELPUNT_RECORD) {
+        const uint64_t *kept = records + WAZELPUNT_RECORD * loop;
+        record.length = kept[0];
+        record.state = kept[1];
+        record.weight = kept[2];
+        record.count = kept[3];
+        record.first = kept[4];
+        record.piece = kept[5];
+        record.run = kept[6];
+    }
+    return record;
+}
 
 /* A sentence for the number of an answer. It stands on its own, without a capital letter and a full stop, and is never null. */
 static inline const char *wazelpunt_sentence(uint32_t number)
@@ -205,15 +235,14 @@ uint32_t wazelpunt_survey(const uint32_t *words, size_t words_count, const uint1
                           int32_t *grid, size_t grid_length, uint16_t *rings, size_t rings_length, uint16_t *lengths,
                           size_t lengths_length, size_t *place, size_t *loops, size_t *vertices, uint32_t pitch);
 
-/* Finds the loops of a surface and patches them. Returns 0 or a refusal 17 or 1 to 8, with its place. Lent are grid, rings and lengths
-   as above, states and weights (4 and 5: corners_count / 3 each) and patches (6: 3 * corners_count). On 0 they hold the same as
-   above, for each loop its state (1 patched, 2 long, 3 no allowed cover, 4 the rim of its piece, which is never patched) and the
-   weight of its patch, and the corners of all patch triangles in the order in which they are laid; each from its start, and what
-   lies behind is as it was. *laid becomes the count of patch corners. On a refusal all is as it was and the three counts are 0. */
+/* Finds the loops of a surface and patches them. Returns 0 or a refusal 17 or 1 to 8, with its place. Lent are grid and rings as above
+   (1 and 2), records (3: WAZELPUNT_RECORD numbers a triangle, 7 * (corners_count / 3)) and patches (4: 3 * corners_count). On 0 they hold
+   the grid, the ring vertices of all loops in listed order, the record of each loop (struct wazelpunt_record; wazelpunt_record_at reads
+   one out), and the corners of all patch triangles in the order in which they are laid; each from its start, and what lies behind is as
+   it was. *laid becomes the count of patch corners. On a refusal all is as it was and the three counts are 0. */
 uint32_t wazelpunt_patch(const uint32_t *words, size_t words_count, const uint16_t *corners, size_t corners_count,
-                         int32_t *grid, size_t grid_length, uint16_t *rings, size_t rings_length, uint16_t *lengths,
-                         size_t lengths_length, uint16_t *states, size_t states_length, uint64_t *weights,
-                         size_t weights_length, uint16_t *patches, size_t patches_length, size_t *place, size_t *loops,
+                         int32_t *grid, size_t grid_length, uint16_t *rings, size_t rings_length, uint64_t *records,
+                         size_t records_length, uint16_t *patches, size_t patches_length, size_t *place, size_t *loops,
                          size_t *vertices, size_t *laid, uint32_t pitch);
 
 /* Judges a patch set for a surface: a state for each loop (4 for the rim of each piece, and for no other), and the corners of the

@@ -11,6 +11,8 @@
         print(loop.state.name, loop.ring, loop.weight, loop.patches)
         # RIM (0, 1, 2) 0 ()
         # PATCHED (4, 3, 5) 100 ((4, 5, 3),)
+    hole = patched.loops[1]
+    hole.first, hole.piece, hole.run             # (4, 0, 40): it begins with half-edge 4, of triangle 1, from point 4 to point 3
     surface.judge(patched.patch_set).passed      # True
 
     with open("plate.sheet", "rb") as file:
@@ -54,14 +56,14 @@ import sys
 from typing import Any, Dict, Iterable, Iterator, List, Optional, Tuple
 
 __all__ = [
-    "ANSWER_BYTES", "CORNERS", "Coordinate", "GREATEST", "LISTING_BYTES", "LONGEST", "Loop", "POINTS", "PatchSet", "Patched", "Refusal",
-    "SET_BYTES", "SET_CORNERS", "SET_STATES", "SET_TRIANGLES", "SHEET_BYTES", "STL_BYTES", "STL_FACET_BYTES", "STL_FRONT", "State",
-    "Surface", "Survey", "TRIANGLES", "VERSION", "Verdict", "WORDS", "coordinate", "facets", "floats_are_default", "import_stl",
+    "ANSWER_BYTES", "CORNERS", "Coordinate", "GREATEST", "LISTING_BYTES", "LONGEST", "Loop", "POINTS", "PatchSet", "Patched", "RECORD",
+    "Refusal", "SET_BYTES", "SET_CORNERS", "SET_STATES", "SET_TRIANGLES", "SHEET_BYTES", "STL_BYTES", "STL_FACET_BYTES", "STL_FRONT",
+    "State", "Surface", "Survey", "TRIANGLES", "VERSION", "Verdict", "WORDS", "coordinate", "facets", "floats_are_default", "import_stl",
     "judge_texts", "list_text", "rewrite_text", "size_stl",
 ]
 
 # As in include/wazelpunt.h.
-VERSION = "2.0.0"
+VERSION = "3.0.0"
 POINTS = 1024
 TRIANGLES = 1024
 WORDS = 3072
@@ -70,6 +72,7 @@ SET_STATES = 1024
 SET_TRIANGLES = 3072
 SET_CORNERS = 9216
 LONGEST = 64
+RECORD = 7
 GREATEST = 32767
 SHEET_BYTES = 47140
 SET_BYTES = 56347
@@ -142,9 +145,17 @@ _FUNCTIONS = (
 )
 
 
+def _is_older(library: ctypes.CDLL) -> bool:
+    """Whether a library is from before loops had records. Such a one takes two buffers more, and so its results and its pitch, if it knows
+    any, four places later. It is done with nothing at pitch 1 there; one of today finds a pointer for its pitch, which is none: 17."""
+    nothing = [(ctypes.c_uint64 * 1)(), ctypes.c_size_t()] * 6
+    results = [ctypes.byref(ctypes.c_size_t()) for _ in range(8)]
+    return library.wazelpunt_patch(*nothing, *results, ctypes.c_uint32(1)) != 17
+
+
 def _load() -> ctypes.CDLL:
     """The library, from the first place that has it."""
-    names = ["libwazelpunt.so.2", "libwazelpunt.so"]
+    names = ["libwazelpunt.so.3", "libwazelpunt.so"]
     folder = os.path.dirname(os.path.abspath(__file__))
     folders = [folder]
     if folder.endswith("/share/wazelpunt/python"):  # where `make install` puts it
@@ -158,10 +169,8 @@ def _load() -> ctypes.CDLL:
             for function in _FUNCTIONS:
                 getattr(library, "wazelpunt_" + function).restype = ctypes.c_uint32
             library.wazelpunt_facet.restype = ctypes.c_size_t
-            # one from before there were pitches would take every one for 1
-            nothing = ctypes.c_uint32(), ctypes.byref(ctypes.c_int32()), ctypes.byref(ctypes.c_uint32()), ctypes.c_uint32()
-            if library.wazelpunt_coordinate(*nothing) != 17:
-                raise OSError(f"{name}: it is older than this module, and knows no pitch")
+            if _is_older(library):
+                raise OSError(f"{name}: it is older than this module, and keeps no records of loops")
             return library
         except (OSError, AttributeError) as problem:
             # the system's sentences name the file
@@ -352,12 +361,24 @@ class Survey:
 
 @dataclasses.dataclass(frozen=True)
 class Loop:
-    """A loop, what became of it, what its patch weighs, and the triangles that are laid in it, which are none but in state PATCHED."""
+    """A loop: the vertices of its ring, its record, and the triangles that are laid in it, which are none but in state PATCHED.
+
+    The record is length, state, weight, count, first, piece and run.
+    """
 
     ring: Tuple[int, ...]
-    state: State
-    weight: int
+    state: State  #: what became of it
+    weight: int  #: what its patch weighs; 0 in every state but PATCHED
+    count: int  #: 0
+    first: int  #: the half-edge that it is listed from, one of triangle first // 3: it runs from ring[0] to ring[1]
+    piece: int  #: the piece that it lies in; they are numbered from 0 in the order of their smallest triangles
+    run: int  #: how long it is on the grid, in plate units: over its edges, the three absolute differences added
     patches: Tuple[Triple, ...]
+
+    @property
+    def length(self) -> int:
+        """How many edges it has."""
+        return len(self.ring)
 
     @property
     def stays_open(self) -> bool:
@@ -403,11 +424,11 @@ class Verdict:
         return self.passed
 
 
-def _rings(rings: _Slice, lengths: _Slice, loops: int) -> Tuple[Tuple[int, ...], ...]:
+def _rings(rings: _Slice, lengths: List[int]) -> Tuple[Tuple[int, ...], ...]:
     """Each loop's ring: they stand one after another."""
     found = []
     at = 0
-    for length in lengths.array[:loops]:
+    for length in lengths:
         found.append(tuple(rings.array[at : at + length]))
         at += length
     return tuple(found)
@@ -546,22 +567,22 @@ class Surface:
         lent = self._lent()
         loops, _ = _get("survey", *self._given(), *lent, counts=2, last=self._pitch(pitch))
         grid, rings, lengths = lent
-        return Survey(_by_three(grid.array[: grid.count]), _rings(rings, lengths, loops))
+        return Survey(_by_three(grid.array[: grid.count]), _rings(rings, lengths.array[:loops]))
 
     def patch(self, *, pitch: Optional[int] = None) -> Patched:
         """Finds the loops and patches them. Refusals 17, 1, 2 and 4 to 8."""
-        triangles = len(self.corners) // 3
-        lent = self._lent()
-        states, weights = _lent(ctypes.c_uint16, triangles), _lent(ctypes.c_uint64, triangles)
+        grid, rings, _ = self._lent()
+        records = _lent(ctypes.c_uint64, RECORD * (len(self.corners) // 3))
         patches = _lent(ctypes.c_uint16, 3 * len(self.corners))
-        count, _, laid = _get("patch", *self._given(), *lent, states, weights, patches, counts=3, last=self._pitch(pitch))
-        grid, rings, lengths = lent
+        count, _, laid = _get("patch", *self._given(), grid, rings, records, patches, counts=3, last=self._pitch(pitch))
+        numbers = records.array[: RECORD * count]
         triangles_left = iter(_by_three(patches.array[:laid]))
         loops = []
-        for ring, state, weight in zip(_rings(rings, lengths, count), states.array, weights.array):
+        for number, ring in enumerate(_rings(rings, numbers[::RECORD])):
+            length, state, *record = numbers[RECORD * number : RECORD * (number + 1)]
             # a cover of a ring has two triangles fewer than the ring has vertices
-            cover = len(ring) - 2 if state == State.PATCHED else 0
-            loops.append(Loop(ring, State(state), weight, tuple(next(triangles_left) for _ in range(cover))))
+            cover = length - 2 if state == State.PATCHED else 0
+            loops.append(Loop(ring, State(state), *record, tuple(next(triangles_left) for _ in range(cover))))
         return Patched(_by_three(grid.array[: grid.count]), tuple(loops))
 
     def judge(self, patch_set: PatchSet, *, pitch: Optional[int] = None) -> Verdict:
@@ -571,7 +592,7 @@ class Surface:
         number, place, loops, _ = _ask("judge", *self._given(), *set_given, *lent, counts=2, last=self._pitch(pitch))
         if 1 <= number <= 10 or number == 17:
             raise Refusal(number, place)
-        return Verdict(number, place, _rings(lent[1], lent[2], loops))
+        return Verdict(number, place, _rings(lent[1], lent[2].array[:loops]))
 
     def _pitch(self, other: Optional[int]) -> Any:
         return _pitch_number(self.pitch if other is None else other)

@@ -1,6 +1,6 @@
 /* The rules of the scope in C, written for speed and without tricks: no vector instructions by hand, and tables only of digits, where
-   numbers are read and written. Edges are paired, and loops, pieces and rims found in linear time; the lightest cover is found by the table
-   over stretches, with a triangle's weight computed anew at every step. */
+   numbers are read and written. Edges are paired, and loops, pieces, runs and rims found in linear time; the lightest cover is found by the
+   table over stretches, with a triangle's weight computed anew at every step. */
 #include <stdlib.h>
 #include <string.h>
 
@@ -12,7 +12,7 @@ enum {
     WORDS = 3 * POINTS,
     CORNERS = 3 * TRIANGLES,
     LONGEST = 64,
-    BUFFERS = 6,
+    RECORD = 7,
     /* a patch has fewer diagonals than its loop has edges, so all of them are fewer than the corners */
     EDGES = 2 * CORNERS,
     /* what stands for no half-edge and for no piece, and in its stead at an open half-edge that a walk has passed */
@@ -118,11 +118,18 @@ static uint32_t refuse_counts(size_t words_count, size_t corners_count, uint32_t
     return answer(0, 0, place);
 }
 
-static uint32_t refuse_buffers(const struct surface *surface, const size_t *lent, size_t buffers, size_t *place) {
+/* How long the lent buffers are. The third has lengths or records, and needs so many numbers a triangle. Where no patch is laid there is no
+   fourth; SIZE_MAX stands for its length. */
+struct lent {
+    size_t grid, rings, third, a_triangle, patches;
+};
+
+static uint32_t refuse_buffers(const struct surface *surface, const struct lent *lent, size_t *place) {
     size_t triangles = surface->corners_count / 3;
-    const size_t needed[BUFFERS] = {surface->words_count, 3 * triangles, triangles, triangles, triangles, 9 * triangles};
-    for (size_t b = 0; b < buffers; b++)
-        if (lent[b] < needed[b]) return answer(3, b + 1, place);
+    if (lent->grid < surface->words_count) return answer(3, 1, place);
+    if (lent->rings < 3 * triangles) return answer(3, 2, place);
+    if (lent->third < lent->a_triangle * triangles) return answer(3, 3, place);
+    if (lent->patches < 9 * triangles) return answer(3, 4, place);
     return answer(0, 0, place);
 }
 
@@ -155,9 +162,9 @@ static uint32_t refuse_words(const struct surface *surface, size_t *place) {
 }
 
 /* The first refusal, 17 or from 1 to 8; where there is none, the half-edges are chained and paired. */
-static uint32_t refuse_surface(const struct surface *surface, const size_t *lent, size_t buffers, struct edges *edges, size_t *place) {
+static uint32_t refuse_surface(const struct surface *surface, const struct lent *lent, struct edges *edges, size_t *place) {
     uint32_t number = refuse_counts(surface->words_count, surface->corners_count, surface->pitch, place);
-    if (number == 0) number = refuse_buffers(surface, lent, buffers, place);
+    if (number == 0) number = refuse_buffers(surface, lent, place);
     if (number == 0) number = refuse_corners(surface, place);
     if (number != 0) return number;
     size_t twice = chain_edges(edges, surface);
@@ -203,11 +210,11 @@ struct loops {
     uint16_t *lengths;
     size_t count;
     size_t vertices;
-    /* the vertices of the path, and for each vertex its place there, or NONE */
+    /* the half-edges of the path, and for each vertex the place of the one that starts there, or NONE */
     uint16_t path[CORNERS];
     uint16_t at[POINTS];
-    /* for each loop a triangle of its piece: where its cycle begins, since a walk never leaves the piece */
-    uint16_t home[TRIANGLES];
+    /* for each loop the half-edge that it is listed from; that one's triangle is in the loop's piece, since a walk never leaves it */
+    uint16_t first[TRIANGLES];
 };
 
 static uint32_t following(uint32_t h) {
@@ -221,14 +228,14 @@ static uint32_t next_open(const uint16_t *twin, uint32_t h) {
 }
 
 /* Lists the end of the path from there on as a loop. */
-static void cut_off(struct loops *loops, size_t from, size_t length, uint32_t home) {
+static void cut_off(struct loops *loops, const uint16_t *corners, size_t from, size_t length) {
     uint16_t *ring = loops->rings + loops->vertices;
     for (size_t p = from; p < length; p++) {
-        uint16_t vertex = loops->path[p];
+        uint16_t vertex = corners[loops->path[p]];
         loops->at[vertex] = NONE;
         *ring++ = vertex;
     }
-    loops->home[loops->count] = (uint16_t)home;
+    loops->first[loops->count] = loops->path[from];
     loops->lengths[loops->count++] = (uint16_t)(length - from);
     loops->vertices += length - from;
 }
@@ -239,12 +246,12 @@ static void walk_cycle(struct loops *loops, const uint16_t *corners, uint16_t *t
     do {
         twin[h] = PASSED;
         loops->at[vertex] = (uint16_t)length;
-        loops->path[length++] = (uint16_t)vertex;
+        loops->path[length++] = (uint16_t)h;
         h = next_open(twin, h);
         vertex = corners[h];
         uint32_t met = loops->at[vertex];
         if (met != NONE) {
-            cut_off(loops, met, length, first / 3);
+            cut_off(loops, corners, met, length);
             length = met;
         }
     } while (h != first);
@@ -266,11 +273,11 @@ uint32_t baseline_survey(const uint32_t *words, size_t words_count, const uint16
                          int32_t *grid, size_t grid_length, uint16_t *rings, size_t rings_length, uint16_t *lengths,
                          size_t lengths_length, size_t *place, size_t *loops, size_t *vertices, uint32_t pitch) {
     const struct surface surface = {words, words_count, corners, corners_count, pitch};
-    const size_t lent[3] = {grid_length, rings_length, lengths_length};
+    const struct lent lent = {grid_length, rings_length, lengths_length, 1, SIZE_MAX};
     struct edges edges;
     struct loops found;
     *loops = *vertices = 0;
-    uint32_t number = refuse_surface(&surface, lent, 3, &edges, place);
+    uint32_t number = refuse_surface(&surface, &lent, &edges, place);
     if (number != 0) return number;
     place_on_grid(&surface, grid);
     found.rings = rings;
@@ -281,10 +288,10 @@ uint32_t baseline_survey(const uint32_t *words, size_t words_count, const uint16
     return 0;
 }
 
-/* ---- Rims ---- */
+/* ---- Pieces and rims ---- */
 
-/* The pieces that have loops. Of each, the loop with the greatest run so far, where its ring begins, and its run, which is reckoned only
-   when the piece turns out to have a second loop. */
+/* The pieces that were entered, numbered in that order. Of each, the loop with the greatest run so far, or NONE, where its ring begins, and
+   its run, which the checker reckons only when the piece turns out to have a second loop. */
 struct pieces {
     size_t count;
     /* for each triangle its piece, or NONE */
@@ -294,6 +301,11 @@ struct pieces {
     uint16_t start[TRIANGLES];
     uint32_t run[TRIANGLES];
 };
+
+static void start_pieces(struct pieces *pieces, const struct surface *surface) {
+    pieces->count = 0;
+    memset(pieces->of, 0xff, surface->corners_count / 3 * sizeof *pieces->of);
+}
 
 /* Gives the number of the piece that is entered to a triangle and to all that are joined to it through shared edges. */
 static void flood(struct pieces *pieces, const uint16_t *twin, uint32_t triangle) {
@@ -313,6 +325,13 @@ static void flood(struct pieces *pieces, const uint16_t *twin, uint32_t triangle
     }
 }
 
+static void enter_piece(struct pieces *pieces, const uint16_t *twin, uint32_t triangle, uint16_t best, size_t start) {
+    flood(pieces, twin, triangle);
+    pieces->best[pieces->count] = best;
+    pieces->start[pieces->count] = (uint16_t)start;
+    pieces->run[pieces->count++] = NO_RUN;
+}
+
 static uint32_t run_of(const int32_t *grid, const uint16_t *ring, size_t length) {
     const int32_t *from = grid + 3 * (size_t)ring[length - 1];
     uint32_t run = 0;
@@ -322,13 +341,6 @@ static uint32_t run_of(const int32_t *grid, const uint16_t *ring, size_t length)
         from = to;
     }
     return run;
-}
-
-static void enter_piece(struct pieces *pieces, const uint16_t *twin, uint32_t triangle, size_t loop, size_t start) {
-    flood(pieces, twin, triangle);
-    pieces->best[pieces->count] = (uint16_t)loop;
-    pieces->start[pieces->count] = (uint16_t)start;
-    pieces->run[pieces->count++] = NO_RUN;
 }
 
 /* A loop after the first of its piece takes the place of the best so far if its run is greater. */
@@ -342,14 +354,13 @@ static void contest(struct pieces *pieces, size_t piece, const struct loops *loo
     pieces->run[piece] = greatest;
 }
 
-/* Marks the rims where there are two loops or more. */
+/* Marks the rims where there are two loops or more. Which number a piece has does not matter here. */
 static void compare_runs(uint8_t *marks, const struct loops *loops, const struct surface *surface, const uint16_t *twin, const int32_t *grid) {
     struct pieces pieces;
-    pieces.count = 0;
-    memset(pieces.of, 0xff, surface->corners_count / 3 * sizeof *pieces.of);
+    start_pieces(&pieces, surface);
     for (size_t l = 0, start = 0; l < loops->count; start += loops->lengths[l++]) {
-        size_t home = loops->home[l];
-        if (pieces.of[home] == NONE) enter_piece(&pieces, twin, (uint32_t)home, l, start);
+        uint32_t home = loops->first[l] / 3u;
+        if (pieces.of[home] == NONE) enter_piece(&pieces, twin, home, (uint16_t)l, start);
         else contest(&pieces, pieces.of[home], loops, l, start, grid);
     }
     memset(marks, 0, loops->count);
@@ -360,6 +371,64 @@ static void compare_runs(uint8_t *marks, const struct loops *loops, const struct
 static void mark_rims(uint8_t *marks, const struct loops *loops, const struct surface *surface, const uint16_t *twin, const int32_t *grid) {
     marks[0] = 1;
     if (loops->count > 1) compare_runs(marks, loops, surface, twin, grid);
+}
+
+/* ---- Records ---- */
+
+/* The numbers of a record, in their order. */
+enum { LENGTH, STATE, WEIGHT, COUNT, FIRST, PIECE, RUN };
+
+/* Lays a loop's record, as yet without a state and a weight. */
+static void lay_record(uint64_t *record, uint64_t length, uint64_t first, uint64_t piece, uint64_t run) {
+    record[LENGTH] = length;
+    record[STATE] = 0;
+    record[WEIGHT] = 0;
+    record[COUNT] = 0;
+    record[FIRST] = first;
+    record[PIECE] = piece;
+    record[RUN] = run;
+}
+
+/* Enters the pieces by their smallest triangles, ascending, up to the one that has this triangle, and gives its number. No triangle before
+   `next` is without a piece. */
+static size_t piece_of(struct pieces *pieces, const uint16_t *twin, uint32_t triangle, uint32_t *next) {
+    while (pieces->of[triangle] == NONE) {
+        while (pieces->of[*next] != NONE) ++*next;
+        enter_piece(pieces, twin, *next, NONE, 0);
+    }
+    return pieces->of[triangle];
+}
+
+/* Lays the records of all loops by their pieces, those of rims with their state. */
+static void lay_by_pieces(uint64_t *records, const struct loops *loops, const struct surface *surface, const uint16_t *twin,
+                          const int32_t *grid) {
+    struct pieces pieces;
+    uint32_t next = 0;
+    const uint16_t *ring = loops->rings;
+    start_pieces(&pieces, surface);
+    for (size_t l = 0; l < loops->count; l++) {
+        size_t length = loops->lengths[l], piece = piece_of(&pieces, twin, loops->first[l] / 3u, &next);
+        uint32_t run = run_of(grid, ring, length);
+        lay_record(records + RECORD * l, length, loops->first[l], piece, run);
+        if (pieces.best[piece] == NONE || run > pieces.run[piece]) {
+            pieces.best[piece] = (uint16_t)l;
+            pieces.run[piece] = run;
+        }
+        ring += length;
+    }
+    for (size_t p = 0; p < pieces.count; p++)
+        if (pieces.best[p] != NONE) records[RECORD * pieces.best[p] + STATE] = RIM;
+}
+
+/* A loop that is the only one is its piece's rim, and triangle 0 is in piece 0. */
+static void lay_records(uint64_t *records, const struct loops *loops, const struct surface *surface, const uint16_t *twin,
+                        const int32_t *grid) {
+    if (loops->count == 1 && loops->first[0] < 3) {
+        lay_record(records, loops->lengths[0], loops->first[0], 0, run_of(grid, loops->rings, loops->lengths[0]));
+        records[STATE] = RIM;
+    } else if (loops->count > 0) {
+        lay_by_pieces(records, loops, surface, twin, grid);
+    }
 }
 
 /* ---- Cover ---- */
@@ -505,52 +574,45 @@ static uint16_t *patch_three(const int32_t *grid, const uint16_t *ring, uint64_t
     return patch + 3;
 }
 
-static uint16_t *patch_loop(struct hole *hole, const uint16_t *ring, size_t length, uint16_t *state, uint64_t *weight,
-                            uint16_t *patch) {
-    *state = 1;
-    if (length == 3) return patch_three(hole->grid, ring, weight, patch);
-    *state = 2;
-    *weight = 0;
+static uint16_t *patch_loop(struct hole *hole, const uint16_t *ring, size_t length, uint64_t *record, uint16_t *patch) {
+    record[STATE] = 1;
+    if (length == 3) return patch_three(hole->grid, ring, &record[WEIGHT], patch);
+    record[STATE] = 2;
     if (length > LONGEST) return patch;
     enter_ring(hole, ring, length);
     find_bars(hole);
     leave_ring(hole);
     int64_t least = fill_table(hole);
-    *state = 3;
+    record[STATE] = 3;
     if (least == NO_COVER) return patch;
-    *state = 1;
-    *weight = (uint64_t)least;
+    record[STATE] = 1;
+    record[WEIGHT] = (uint64_t)least;
     return lay_stretch(hole, 0, length - 1, patch);
 }
 
 uint32_t baseline_patch(const uint32_t *words, size_t words_count, const uint16_t *corners, size_t corners_count,
-                        int32_t *grid, size_t grid_length, uint16_t *rings, size_t rings_length, uint16_t *lengths,
-                        size_t lengths_length, uint16_t *states, size_t states_length, uint64_t *weights,
-                        size_t weights_length, uint16_t *patches, size_t patches_length, size_t *place, size_t *loops,
+                        int32_t *grid, size_t grid_length, uint16_t *rings, size_t rings_length, uint64_t *records,
+                        size_t records_length, uint16_t *patches, size_t patches_length, size_t *place, size_t *loops,
                         size_t *vertices, size_t *laid, uint32_t pitch) {
     const struct surface surface = {words, words_count, corners, corners_count, pitch};
-    const size_t lent[BUFFERS] = {grid_length, rings_length, lengths_length, states_length, weights_length, patches_length};
-    uint8_t rims[TRIANGLES];
+    const struct lent lent = {grid_length, rings_length, records_length, RECORD, patches_length};
+    uint16_t lengths[TRIANGLES];
     struct edges edges;
     struct loops found;
     struct hole hole;
     *loops = *vertices = *laid = 0;
-    uint32_t number = refuse_surface(&surface, lent, BUFFERS, &edges, place);
+    uint32_t number = refuse_surface(&surface, &lent, &edges, place);
     if (number != 0) return number;
     place_on_grid(&surface, grid);
     found.rings = rings;
     found.lengths = lengths;
     find_loops(&found, &surface, edges.twin);
-    mark_rims(rims, &found, &surface, edges.twin, grid);
+    lay_records(records, &found, &surface, edges.twin, grid);
     start_holes(&hole, &edges, grid, words_count / 3);
     uint16_t *patch = patches;
     for (size_t l = 0; l < found.count; l++) {
-        if (rims[l]) {
-            states[l] = RIM;
-            weights[l] = 0;
-        } else {
-            patch = patch_loop(&hole, rings, lengths[l], &states[l], &weights[l], patch);
-        }
+        if (records[STATE] != RIM) patch = patch_loop(&hole, rings, lengths[l], records, patch);
+        records += RECORD;
         rings += lengths[l];
     }
     *loops = found.count;
@@ -682,7 +744,7 @@ uint32_t baseline_check(const uint32_t *words, size_t words_count, const uint16_
                         size_t grid_length, uint16_t *rings, size_t rings_length, uint16_t *lengths, size_t lengths_length,
                         size_t *place, size_t *loops, size_t *vertices, uint32_t pitch) {
     const struct surface surface = {words, words_count, corners, corners_count, pitch};
-    const size_t lent[3] = {grid_length, rings_length, lengths_length};
+    const struct lent lent = {grid_length, rings_length, lengths_length, 1, SIZE_MAX};
     struct set judged = {states, set, set_count, 0};
     uint16_t own_rings[CORNERS], own_lengths[TRIANGLES];
     uint8_t rims[TRIANGLES];
@@ -690,7 +752,7 @@ uint32_t baseline_check(const uint32_t *words, size_t words_count, const uint16_
     struct loops found;
     struct hole hole;
     *loops = *vertices = 0;
-    uint32_t number = refuse_surface(&surface, lent, 3, &edges, place);
+    uint32_t number = refuse_surface(&surface, &lent, &edges, place);
     if (number != 0) return number;
     found.rings = own_rings;
     found.lengths = own_lengths;

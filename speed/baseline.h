@@ -12,9 +12,8 @@ uint32_t baseline_survey(const uint32_t *words, size_t words_count, const uint16
                          size_t lengths_length, size_t *place, size_t *loops, size_t *vertices, uint32_t pitch);
 
 uint32_t baseline_patch(const uint32_t *words, size_t words_count, const uint16_t *corners, size_t corners_count,
-                        int32_t *grid, size_t grid_length, uint16_t *rings, size_t rings_length, uint16_t *lengths,
-                        size_t lengths_length, uint16_t *states, size_t states_length, uint64_t *weights,
-                        size_t weights_length, uint16_t *patches, size_t patches_length, size_t *place, size_t *loops,
+                        int32_t *grid, size_t grid_length, uint16_t *rings, size_t rings_length, uint64_t *records,
+                        size_t records_length, uint16_t *patches, size_t patches_length, size_t *place, size_t *loops,
                         size_t *vertices, size_t *laid, uint32_t pitch);
 
 uint32_t baseline_check(const uint32_t *words, size_t words_count, const uint16_t *corners, size_t corners_count,

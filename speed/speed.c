@@ -51,8 +51,7 @@ struct lent {
     int32_t grid[REFERENCE_MOST_WORDS + 2 * GUARD];
     uint16_t rings[REFERENCE_MOST_CORNERS + 2 * GUARD];
     uint16_t lengths[REFERENCE_MOST_TRIANGLES + 2 * GUARD];
-    uint16_t states[REFERENCE_MOST_TRIANGLES + 2 * GUARD];
-    uint64_t weights[REFERENCE_MOST_TRIANGLES + 2 * GUARD];
+    uint64_t records[REFERENCE_MOST_RECORDS + 2 * GUARD];
     uint16_t patches[REFERENCE_MOST_PATCH_CORNERS + 2 * GUARD];
     uint32_t words[REFERENCE_MOST_WORDS + 2 * GUARD];
     uint16_t corners[REFERENCE_MOST_CORNERS + 2 * GUARD];
@@ -84,12 +83,12 @@ static void work_survey(const struct side *side, struct lent *l, struct answer *
     const size_t *n = s->lent;
     if (side != 0) {
         a->number = side->survey(s->words, s->word_count, s->corners, s->corner_count, l->grid + GUARD, n[0], l->rings + GUARD, n[1],
-                                 l->lengths + GUARD, n[2], &a->place, &a->counts[0], &a->counts[1], s->pitch);
+                                 l->lengths + GUARD, s->lengths_lent, &a->place, &a->counts[0], &a->counts[1], s->pitch);
         return;
     }
     struct reference_answer r;
     reference_survey(s->words, s->word_count, s->corners, s->corner_count, l->grid + GUARD, n[0], l->rings + GUARD, n[1],
-                     l->lengths + GUARD, n[2], s->pitch, &r);
+                     l->lengths + GUARD, s->lengths_lent, s->pitch, &r);
     *a = (struct answer){r.number, r.place, {r.loops, r.vertices, 0}};
 }
 
@@ -98,14 +97,13 @@ static void work_patch(const struct side *side, struct lent *l, struct answer *a
     const size_t *n = s->lent;
     if (side != 0) {
         a->number = side->patch(s->words, s->word_count, s->corners, s->corner_count, l->grid + GUARD, n[0], l->rings + GUARD, n[1],
-                                l->lengths + GUARD, n[2], l->states + GUARD, n[3], l->weights + GUARD, n[4], l->patches + GUARD, n[5],
-                                &a->place, &a->counts[0], &a->counts[1], &a->counts[2], s->pitch);
+                                l->records + GUARD, n[2], l->patches + GUARD, n[3], &a->place, &a->counts[0], &a->counts[1],
+                                &a->counts[2], s->pitch);
         return;
     }
     struct reference_patch_answer r;
     reference_patch(s->words, s->word_count, s->corners, s->corner_count, l->grid + GUARD, n[0], l->rings + GUARD, n[1],
-                    l->lengths + GUARD, n[2], l->states + GUARD, n[3], l->weights + GUARD, n[4], l->patches + GUARD, n[5], s->pitch,
-                    &r);
+                    l->records + GUARD, n[2], l->patches + GUARD, n[3], s->pitch, &r);
     *a = (struct answer){r.number, r.place, {r.loops, r.vertices, r.corners}};
 }
 
@@ -114,13 +112,13 @@ static void work_check(const struct side *side, struct lent *l, struct answer *a
     const size_t *n = s->lent;
     if (side != 0) {
         a->number = side->check(s->words, s->word_count, s->corners, s->corner_count, set.states, set.state_count, set.corners,
-                                set.corner_count, l->grid + GUARD, n[0], l->rings + GUARD, n[1], l->lengths + GUARD, n[2],
+                                set.corner_count, l->grid + GUARD, n[0], l->rings + GUARD, n[1], l->lengths + GUARD, s->lengths_lent,
                                 &a->place, &a->counts[0], &a->counts[1], s->pitch);
         return;
     }
     struct reference_answer r;
     reference_check(s->words, s->word_count, s->corners, s->corner_count, set.states, set.state_count, set.corners, set.corner_count,
-                    l->grid + GUARD, n[0], l->rings + GUARD, n[1], l->lengths + GUARD, n[2], s->pitch, &r);
+                    l->grid + GUARD, n[0], l->rings + GUARD, n[1], l->lengths + GUARD, s->lengths_lent, s->pitch, &r);
     *a = (struct answer){r.number, r.place, {r.loops, r.vertices, 0}};
 }
 
@@ -216,7 +214,7 @@ static void take_own_set(void) {
     work_patch(0, &due_lent, &answer);
     set.state_count = answer.counts[0];
     set.corner_count = answer.counts[2];
-    memcpy(set.states, due_lent.states + GUARD, set.state_count * sizeof *set.states);
+    for (size_t l = 0; l < set.state_count; l++) set.states[l] = (uint16_t)reference_kept(due_lent.records + GUARD, l, REFERENCE_STATE);
     memcpy(set.corners, due_lent.patches + GUARD, set.corner_count * sizeof *set.corners);
 }
 
@@ -279,10 +277,11 @@ static void compare_changed(struct generator *generator, uint64_t seed) {
 
 /* There is room for the longest that can be needed, and no more is lent. */
 static void shorten_lent(void) {
-    static const size_t most[GENERATE_BUFFERS] = {REFERENCE_MOST_WORDS, REFERENCE_MOST_CORNERS, REFERENCE_MOST_TRIANGLES,
-                                                  REFERENCE_MOST_TRIANGLES, REFERENCE_MOST_TRIANGLES, REFERENCE_MOST_PATCH_CORNERS};
+    static const size_t most[GENERATE_BUFFERS] = {REFERENCE_MOST_WORDS, REFERENCE_MOST_CORNERS, REFERENCE_MOST_RECORDS,
+                                                  REFERENCE_MOST_PATCH_CORNERS};
     for (size_t b = 0; b < GENERATE_BUFFERS; b++)
         if (surface.lent[b] > most[b]) surface.lent[b] = most[b];
+    if (surface.lengths_lent > REFERENCE_MOST_TRIANGLES) surface.lengths_lent = REFERENCE_MOST_TRIANGLES;
 }
 
 static void compare_made(size_t many, uint64_t seed) {
@@ -353,6 +352,7 @@ static int load(const char *path) {
         surface.word_count = read.words;
         surface.corner_count = read.corners;
         for (size_t b = 0; b < GENERATE_BUFFERS; b++) surface.lent[b] = SIZE_MAX;
+        surface.lengths_lent = SIZE_MAX;
         shorten_lent();
     }
     if (read.number != 0) printf("%s: refusal %zu at %zu, left out\n", path, read.number, read.place);

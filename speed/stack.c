@@ -30,15 +30,16 @@ static uint8_t printed[WAZELPUNT_LISTING_BYTES];
 /* what is lent */
 static int32_t grid[GENERATE_WORD_ROOM];
 static uint32_t words[GENERATE_WORD_ROOM];
-static uint16_t rings[GENERATE_CORNER_ROOM], lengths[GENERATE_CORNER_ROOM], states[GENERATE_CORNER_ROOM], corners[GENERATE_SET_ROOM];
-static uint64_t weights[GENERATE_CORNER_ROOM];
+static uint16_t rings[GENERATE_CORNER_ROOM], lengths[GENERATE_CORNER_ROOM], states[GENERATE_STATE_ROOM], corners[GENERATE_SET_ROOM];
+static uint64_t records[WAZELPUNT_RECORDS_FOR(GENERATE_CORNER_ROOM)];
 static uint16_t patches[3 * GENERATE_CORNER_ROOM];
 static float floats[9];
 static size_t place, first, second, third;
 static uint32_t pitch;
 
 #define SURFACE surface.words, surface.word_count, surface.corners, surface.corner_count
-#define SURVEYED grid, GENERATE_WORD_ROOM, rings, GENERATE_CORNER_ROOM, lengths, GENERATE_CORNER_ROOM
+#define PLACED grid, GENERATE_WORD_ROOM, rings, GENERATE_CORNER_ROOM
+#define SURVEYED PLACED, lengths, GENERATE_CORNER_ROOM
 
 static void work_none(void) {}
 
@@ -53,7 +54,8 @@ static void work_survey(void) {
 }
 
 static void work_patch(void) {
-    wazelpunt_patch(SURFACE, SURVEYED, states, GENERATE_CORNER_ROOM, weights, GENERATE_CORNER_ROOM, patches, 3 * GENERATE_CORNER_ROOM, &place, &first, &second, &third, surface.pitch);
+    wazelpunt_patch(SURFACE, PLACED, records, sizeof records / sizeof *records, patches, 3 * GENERATE_CORNER_ROOM, &place, &first, &second,
+                    &third, surface.pitch);
 }
 
 static void work_judge(void) {
@@ -69,7 +71,7 @@ static void work_write(void) {
 }
 
 static void work_read_set(void) {
-    wazelpunt_read_set(set_text, set_text_length, 0, states, GENERATE_CORNER_ROOM, corners, GENERATE_SET_ROOM, &place, &first, &second);
+    wazelpunt_read_set(set_text, set_text_length, 0, states, GENERATE_STATE_ROOM, corners, GENERATE_SET_ROOM, &place, &first, &second);
 }
 
 static void work_list_text(void) {

@@ -15,7 +15,7 @@ GROUPS = {
     'programs': ['program_list/Lists.Prints', 'program_judge/Hears', 'program_rewrite/Rewriting', 'program_import/Importing',
                  'program_roll/Sections',
                  'program_lines/Printout'],
-    'demands': ['demands/Answers', 'demands/Grid', 'demands/Loops', 'demands/Pieces', 'demands/Sets', 'demands/Closing', 'demands/Texts'],
+    'demands': ['demands/Answers', 'demands/Grid', 'demands/Loops', 'demands/Records', 'demands/Pieces', 'demands/Sets', 'demands/Closing', 'demands/Texts'],
 }
 
 IMPORT = re.compile(r'\s*(?:pub )?use Rattle·(\w+)(?:·specs)?\.specs\.(?:specs\.)?([\w.]+?)(?:\.\{(.*)\}| as (\S+))$')

@@ -3,19 +3,23 @@
 import os
 import subprocess
 import sys
+import xml.etree.ElementTree as ElementTree
 
 sys.path.insert(0, os.path.join(os.path.dirname(os.path.realpath(__file__)), '..', 'front'))
 from calls import HOME, Tally, front_of_caller, read, sheets_of, write  # noqa: E402
 from made import made, numbers_of  # noqa: E402
-from picture import NotWhole, View, panels_of  # noqa: E402
+from picture import NotWhole, SVG, View, panels_of, steps_of  # noqa: E402
+from records import STATES  # noqa: E402
 
 EXAMPLES = f'{HOME}/examples'
 PICTURES = f'{HOME}/docs/pictures'
 MOST_BYTES = 300_000
-STATES = {1: 'patched', 2: 'long', 3: 'open', 4: 'rim'}
 # in these no triangle pierces another, so it can be told at each spot which one is seen
 PLAIN = {'box', 'cube', 'cube-with-a-hole-behind', 'cube-without-its-lid', 'cube-with-two-holes', 'relief', 'many-holes', 'far', 'tall',
          'cone', 'flat-relief', 'relief-at-2', 'relief-at-5', 'relief-at-10'}
+# with marks each loop of these has its number, though some are crowded
+ALL_NUMBERED = {'plate, oblique', 'range, oblique', 'relief of the examples, oblique', 'plate-crossed, oblique', 'islands, plan',
+                'many-holes, oblique', 'many-holes, plan', 'many-braced, plan', 'cube-with-two-holes, oblique'}
 NAMES = {
     b'quo"te\'s.sheet': 'quo"te\'s.sheet',
     b'a<b&c>d.sheet': 'a<b&c>d.sheet',
@@ -37,13 +41,14 @@ NAMES = {
 
 
 class Listing:
-    """What `list` prints of a sheet: the states and rings of its loops, and its patch triangles."""
+    """What `list` prints of a sheet: its loops' states, rings, first half-edges, pieces and runs, and its patch triangles."""
 
     def __init__(self, printed):
         lines = [line.partition('=') for line in printed.decode().split('\n')]
         loops = [rest.split(',') for key, _, rest in lines if key == 'loop']
         self.answer = lines[0][2]
-        self.states = [STATES[int(state)] for _, state, _ in loops]
+        self.states = [STATES[int(loop[1])] for loop in loops]
+        self.records = [tuple(map(int, loop[3:])) for loop in loops]
         self.rings = [list(map(int, rest.split(','))) for key, _, rest in lines if key == 'ring']
         self.patches = [tuple(map(int, rest.split(','))) for key, _, rest in lines if key == 'patch']
 
@@ -88,7 +93,7 @@ def heights_told(points, triangles):
     return (f'heights × {larger}' if larger > 1 else f'heights ÷ {smaller}' if smaller > 1 else None), larger, smaller
 
 
-def try_legend(tally, what, panel, listing, triangles, pitch):
+def try_legend(tally, what, panel, listing, triangles, pitch, marked):
     entries = panel.texts('legend')
     due = states_told(listing)
     if not listing.states:
@@ -98,7 +103,8 @@ def try_legend(tally, what, panel, listing, triangles, pitch):
     if 'back side' in entries:
         tally.true(f'{what}, back sides', any(face.kind == 'b' for face in panel.faces), 'are in the legend, and none is drawn')
     extra = [text for text in entries if text not in due + ['hidden', 'back side'] and not text.startswith('(')]
-    tally.same(f'{what}, other entries of the legend', extra, [f'pitch {pitch}'] if pitch != 1 else [])
+    more = ['first half-edge'] if marked and listing.states else []
+    tally.same(f'{what}, other entries of the legend', extra, more + ([f'pitch {pitch}'] if pitch != 1 else []))
 
 
 def try_numbers(tally, what, panel, listing):
@@ -118,7 +124,23 @@ def try_numbers(tally, what, panel, listing):
         tally.true(f'{what}, numbers of few loops', len(plain) + len(flags) >= min(len(listing.states), 3), plain)
 
 
-def try_panel(tally, what, panel, text, listing, plan):
+def view_of(points, triangles, listing, plan, heights, panel):
+    """How the sheet is seen; None where it is not, or is no more than a place."""
+    places = {corner for face in panel.faces for corner in face.corners}
+    return View(points, triangles + listing.patches, plan, heights[1], heights[2], panel.faces) if len(places) > 1 else None
+
+
+def try_marks(tally, what, panel, triangles, listing, view):
+    """Each loop has its arrow, along its own first half-edge, and tells of it; no number lies on an arrow."""
+    ends = [(triangles[first // 3][first % 3], triangles[first // 3][(first + 1) % 3]) for first, _, _ in listing.records]
+    tally.same(f'{what}, first half-edges', ends, [(ring[0], ring[1]) for ring in listing.rings])
+    tally.same(f'{what}, marks', panel.marks_wrong(listing.records, listing.rings, view), [])
+    tally.same(f'{what}, numbers on marks', panel.numbers_on_marks(), [])
+    if what.rpartition(', ')[0] in ALL_NUMBERED:
+        tally.same(f'{what}, numbers of all loops', panel.without_room, 0)
+
+
+def try_panel(tally, what, panel, text, listing, plan, marked=False):
     """One panel against its sheet."""
     points, triangles, pitch = numbers_of(text)
     size = f'{plural(len(points), "point", "points")}, {plural(len(triangles), "triangle", "triangles")}, '
@@ -133,11 +155,15 @@ def try_panel(tally, what, panel, text, listing, plan):
     told = heights_told(points, triangles)
     tally.same(f'{what}, heights', panel.text('strong'), None if plan else told[0])
     tally.same(f'{what}, points', panel.dots, len(points) if not triangles or panel.has('all points lie in one place') else 0)
-    try_legend(tally, what, panel, listing, triangles, pitch)
+    try_legend(tally, what, panel, listing, triangles, pitch, marked)
     try_numbers(tally, what, panel, listing)
     tally.true(f'{what}, size', not triangles or panel.fills_area(), 'is less than there is room for')
-    if what.split(',')[0] in PLAIN:
-        view = View(points, triangles + listing.patches, plan, told[1], told[2], panel.faces)
+    view = view_of(points, triangles, listing, plan, told, panel)
+    if marked:
+        try_marks(tally, what, panel, triangles, listing, view)
+    else:
+        tally.same(f'{what}, marks', panel.marks, [])
+    if what.split(',')[0] in PLAIN and not marked:
         tally.same(f'{what}, what is seen', panel.painted_wrong(view), [])
         tally.same(f'{what}, what is hidden', panel.hidden_wrong(view, listing.rings), [])
 
@@ -150,16 +176,102 @@ def try_sheets(front, tally, room):
     for name, text in sorted(sheets.items()):
         path = write(f'{room}/{name}.sheet', text)
         listing = Listing(front('list', '--quiet', path).out)
-        for plan in (False, True):
-            what = f'{name}, {"plan" if plan else "oblique"}'
-            drawn = front('draw', '--quiet', *(['--plan'] if plan else []), path)
+        for plan, marked in ((False, False), (True, False), (False, True), (True, True)):
+            what = f'{name}, {"plan" if plan else "oblique"}{", marked" if marked else ""}'
+            drawn = front('draw', '--quiet', *(['--plan'] if plan else []), *(['--loops'] if marked else []), path)
             if listing.answer != '0,0':
                 tally.same(what, (drawn.status, drawn.out), (1, b''))
                 continue
             tally.same(f'{what}, status', drawn.status, 0)
             for panel in taken_apart(tally, what, drawn, 1):
                 tally.same(f'{what}, name', panel.title, path)
-                try_panel(tally, what, panel, text, listing, plan)
+                try_panel(tally, what, panel, text, listing, plan, marked)
+
+
+def spoilt(picture, spoil):
+    """A picture whose marks are spoilt."""
+    root = ElementTree.fromstring(picture)
+    (marks,) = (element for element in root.iter(f'{SVG}g') if element.get('class') == 'marks')
+    spoil(marks)
+    return ElementTree.tostring(root)
+
+
+def part(mark, kind):
+    (found,) = (child for child in mark if child.get('class') == kind)
+    return found
+
+
+def redraw(mark, begin, end):
+    """The shaft of a mark from one place to another, in tenths, with the tail at its beginning and the head at its end."""
+    (ax, ay), (bx, by) = begin, end
+    part(mark, 'shaft').set('d', f'M{ax / 10:g} {ay / 10:g}l{(bx - ax) / 10:g} {(by - ay) / 10:g}')
+    part(mark, 'tail').set('cx', f'{ax / 10:g}')
+    part(mark, 'tail').set('cy', f'{ay / 10:g}')
+    part(mark, 'head').set('d', f'M{(bx - 30) / 10:g} {by / 10:g}l3 0l-3 0')
+
+
+def turn_round(mark):
+    ((begin, end),) = steps_of(part(mark, 'shaft').get('d'))
+    redraw(mark, end, begin)
+
+
+def halve(mark):
+    ((begin, end),) = steps_of(part(mark, 'shaft').get('d'))
+    redraw(mark, begin, tuple((a + b) // 2 for a, b in zip(begin, end)))
+
+
+def exchange(marks, kind, attribute):
+    """What this part of the first two marks says, in each other's place."""
+    one, other = part(marks[0], kind), part(marks[1], kind)
+    mine, others = one.get(attribute), other.get(attribute)
+    one.set(attribute, others)
+    other.set(attribute, mine)
+
+
+def exchange_titles(marks):
+    """Each of the first two has what is told of the other, but for the number."""
+    (one, mine), (other, others) = (mark[0].text.split(',', 1) for mark in marks[:2])
+    marks[0][0].text, marks[1][0].text = f'{one},{others}', f'{other},{mine}'
+
+
+SPOILT = {
+    'turned round': lambda marks: turn_round(marks[1]),
+    'half as long': lambda marks: halve(marks[0]),
+    'exchanged': lambda marks: [exchange(marks, kind, key)
+                                for kind, key in (('shaft', 'd'), ('head', 'd'), ('tail', 'cx'), ('tail', 'cy'))],
+    'with shafts of each other': lambda marks: exchange(marks, 'shaft', 'd'),
+    'with heads of each other': lambda marks: exchange(marks, 'head', 'd'),
+    'with tails of each other': lambda marks: [exchange(marks, 'tail', key) for key in ('cx', 'cy')],
+    'with titles of each other': exchange_titles,
+    'left out': lambda marks: marks.remove(marks[1]),
+    'drawn as hidden': lambda marks: part(marks[0], 'shaft').set('class', 'shaft dots'),
+    'without a head': lambda marks: marks[0].remove(part(marks[0], 'head')),
+}
+
+
+def try_wrong_marks(front, tally, room):
+    """The trial of marks itself: one that is drawn or told wrongly is found out."""
+    text = read(f'{EXAMPLES}/plate.sheet')
+    points, triangles, _ = numbers_of(text)
+    listing = Listing(front('list', '--quiet', f'{EXAMPLES}/plate.sheet').out)
+    for plan in ([], ['--plan']):
+        drawn = front('draw', '--quiet', '--loops', *plan, f'{EXAMPLES}/plate.sheet').out
+        for how, spoil in [('as they are', lambda marks: None), *SPOILT.items()]:
+            (panel,) = panels_of(spoilt(drawn, spoil), 1)
+            view = view_of(points, triangles, listing, bool(plan), heights_told(points, triangles), panel)
+            wrong = panel.marks_wrong(listing.records, listing.rings, view)
+            tally.true(f'marks {how}, {plan}', (wrong == []) == (how == 'as they are'), wrong)
+        # a picture whose loops and marks are both those of another sheet, of which two points are exchanged
+        (panel,) = panels_of(drawn, 1)
+        exchanged = [points[i] for i in (1, 0, 2, 3, 4, 5)]
+        view = view_of(exchanged, triangles, listing, bool(plan), heights_told(points, triangles), panel)
+        wrong = panel.marks_wrong(listing.records, listing.rings, view)
+        tally.true(f'marks of another sheet, {plan}', [fault[:2] for fault in wrong] == [(0, 'is drawn at')], wrong)
+    # a number on an arrow
+    (panel,) = panels_of(front('draw', '--quiet', '--loops', f'{EXAMPLES}/plate.sheet').out, 1)
+    (ax, ay), (bx, by) = panel.marks[1].ends
+    panel.numbers[1] = (ax + bx) / 20, (ay + by) / 20 + 3.2
+    tally.same('a number on a mark', panel.numbers_on_marks(), [(1, 1)])
 
 
 def try_names(front, tally, room):
@@ -180,8 +292,8 @@ def try_names(front, tally, room):
 def try_panels(front, tally, room):
     """Several sheets: panels of one size, in a grid, each as if it were alone."""
     names = ['plate.sheet', 'range.sheet', 'none.sheet', 'repeated.sheet', 'plate-crossed.sheet', 'nothing.sheet', 'relief.sheet']
-    for count in (2, 3, 4, 5, 7):
-        drawn = front('draw', '--quiet', *names[:count], cwd=EXAMPLES)
+    for count, options in ((2, []), (3, []), (4, []), (5, []), (7, []), (7, ['--loops'])):
+        drawn = front('draw', '--quiet', *options, *names[:count], cwd=EXAMPLES)
         tally.same(f'{count} sheets, status', drawn.status, 0 if count < 3 else 2)
         panels = taken_apart(tally, f'{count} sheets', drawn, count)
         columns = next(n for n in range(1, 9) if n * n >= count)
@@ -194,7 +306,7 @@ def try_panels(front, tally, room):
             elif name == 'repeated.sheet':
                 tally.true(f'{count} sheets, {name}', panel.has('refused, answer 6,3') and not panel.faces)
             else:
-                for alone in taken_apart(tally, name, front('draw', '--quiet', name, cwd=EXAMPLES), 1):
+                for alone in taken_apart(tally, name, front('draw', '--quiet', *options, name, cwd=EXAMPLES), 1):
                     tally.same(f'{count} sheets, {name}', panel.inner, alone.inner)
     given = front('draw', '--quiet', '-', given=read(f'{EXAMPLES}/plate.sheet'))
     for panel in taken_apart(tally, 'standard input', given, 1):
@@ -223,8 +335,8 @@ def try_current(front, tally, room):
 
 tally = Tally('drawn')
 front = front_of_caller(tally)
-for part in (try_current, try_sheets, try_names, try_panels):
+for trial in (try_current, try_sheets, try_wrong_marks, try_names, try_panels):
     before = tally.tried, tally.wrong
-    part(front, tally, sys.argv[1])
-    print(f'drawn: {part.__name__[4:]}: {tally.tried - before[0]} tried, {tally.wrong - before[1]} wrong', flush=True)
+    trial(front, tally, sys.argv[1])
+    print(f'drawn: {trial.__name__[4:]}: {tally.tried - before[0]} tried, {tally.wrong - before[1]} wrong', flush=True)
 sys.exit(tally.end())

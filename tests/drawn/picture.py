@@ -1,4 +1,4 @@
-"""A picture of the front taken apart again: panels with their triangles, loops, numbers and legend."""
+"""A picture of the front taken apart again: panels with their triangles, loops, marks, numbers and legend."""
 import itertools
 import re
 import xml.etree.ElementTree as ElementTree
@@ -69,6 +69,45 @@ class Loop:
         return sorted(a for a, _ in lines) == sorted(b for _, b in lines) and len(lines) >= self.length
 
 
+class Mark:
+    """The arrow where a loop begins: what its title tells, where its shaft goes from and to, its tail and the tip of its head, if it has
+    one."""
+
+    def __init__(self, element):
+        told = re.fullmatch(r'loop (\d+), in piece (\d+), run (\d+): half-edge (\d+) of triangle (\d+), from point (\d+) to point (\d+)',
+                            element[0].text)
+        kinds = [child.get('class') for child in element[1:]]
+        if not told or element.get('class') not in ('mark', 'mark fine') or set(kinds) - {'halo', 'shaft', 'shaft dots', 'head', 'tail'}:
+            raise NotWhole(f'a mark {element.attrib}, {element[0].text}, {kinds}')
+        self.number, *self.told = map(int, told.groups())
+        parts = {kind: [child for child in element[1:] if child.get('class') == kind] for kind in kinds}
+        (tail,), heads = parts.get('tail', [None]), parts.get('head', [])
+        if tail is None or len(heads) > 1:
+            raise NotWhole(f'a mark without a tail, or with two heads: {kinds}')
+        self.tail = tenths(tail.get('cx')), tenths(tail.get('cy'))
+        self.seen, self.hidden = ([line for child in parts.get(kind, []) for line in steps_of(child.get('d'))]
+                                  for kind in ('shaft', 'shaft dots'))
+        self.lines = self.seen + self.hidden
+        wings = steps_of(heads[0].get('d')) if heads else []
+        self.tip = wings[0][1] if len(wings) == 2 and wings[0][1] == wings[1][0] else None
+        self.ends = self.followed()
+
+    def followed(self):
+        """Where one comes from and to along the lines; nowhere, if they are not one way."""
+        after = dict(self.lines)
+        starts = [start for start in after if start not in after.values()] or list(after)[:1]
+        if len(after) != len(self.lines) or len(starts) != 1:
+            return None, None
+        at = starts[0]
+        while at in after:
+            at = after.pop(at)
+        return (starts[0], at) if not after else (None, None)
+
+    def length(self):
+        (ax, ay), (bx, by) = self.ends
+        return ((bx - ax) ** 2 + (by - ay) ** 2) ** 0.5
+
+
 class Panel:
     def __init__(self, element):
         self.element = element
@@ -77,6 +116,7 @@ class Panel:
         self.inner = [ElementTree.tostring(child) for child in element]
         self.faces = [Face(path) for path in self.group('faces')]
         self.loops = [Loop(child) for child in element if (child.get('class') or '').startswith('loop ')]
+        self.marks = [Mark(child) for child in self.group('marks')]
         self.dots = len([child for child in element if child.get('class') == 'point'])
         self.set_numbers()
 
@@ -117,6 +157,7 @@ class Panel:
     def is_inside(self):
         places = [corner for face in self.faces for corner in face.corners]
         places += [end for loop in self.loops for line in loop.seen + loop.hidden for end in line]
+        places += [end for mark in self.marks for line in mark.lines for end in line]
         for child in self.group('numbers') + self.group('legend'):
             if child.tag == f'{SVG}text':
                 places.append((tenths(child.get('x')), tenths(child.get('y'))))
@@ -157,6 +198,45 @@ class Panel:
                 if (surely and view.has_line(loop.seen, ends)) or (not maybe and view.has_line(loop.hidden, ends)):
                     wrong.append((loop.number, ends))
         return wrong[:3]
+
+    def marks_wrong(self, records, rings, view):
+        """What is wrong with the marks, by the loops' first half-edges, pieces and runs, their rings, and the view, if there is one."""
+        if [mark.number for mark in self.marks] != list(range(len(rings))):
+            return [('marks of', [mark.number for mark in self.marks])]
+        wrong = []
+        loops = {loop.number: loop for loop in self.loops}
+        for mark, (first, piece, run), (begin, end, *_) in zip(self.marks, records, rings):
+            loop = loops[mark.number]
+            if mark.told != [piece, run, first, first // 3, begin, end]:
+                wrong.append((mark.number, 'tells', mark.told))
+            elif mark.ends == (None, None) or mark.tail != mark.ends[0]:
+                wrong.append((mark.number, 'goes', mark.lines, 'with its tail at', mark.tail))
+            elif not (set(mark.seen) <= set(loop.seen) and set(mark.hidden) <= set(loop.hidden)):
+                wrong.append((mark.number, 'is seen at', mark.seen, 'and hidden at', mark.hidden))
+            elif mark.tip != (mark.ends[1] if mark.tip or mark.length() > 50 else None):
+                wrong.append((mark.number, 'has its tip at', mark.tip))
+            elif view and not (view.is_at(begin, mark.ends[0]) and view.is_at(end, mark.ends[1])):
+                wrong.append((mark.number, 'is drawn at', mark.ends))
+        return wrong[:3]
+
+    def numbers_on_marks(self):
+        """The numbers that lie on a mark."""
+        return [(number, mark.number) for number, (x, y) in self.numbers.items() for mark in self.marks
+                if meets(*mark.ends, (10 * x, 10 * y - 32), (52 * len(str(number)) + 10, 84))]
+
+
+def meets(begin, end, middle, size):
+    """Whether a line goes through a box, with this middle and size."""
+    left, top = (at - long / 2 for at, long in zip(middle, size))
+    first, last = 0.0, 1.0  # what of the line is between the sides so far
+    for at, along, low, long in zip(begin, (end[0] - begin[0], end[1] - begin[1]), (left, top), size):
+        if along == 0:
+            if not low < at < low + long:
+                return False
+            continue
+        one, other = sorted(((low - at) / along, (low + long - at) / along))
+        first, last = max(first, one), min(last, other)
+    return first < last
 
 
 # a place is surely within a triangle if it is so far from its edges, as a part of the triangle's height

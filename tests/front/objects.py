@@ -5,8 +5,8 @@ import shutil
 
 from calls import HOME, read, write
 from facets import count_of, counts_of, imported, is_taken_for_stl, pitch_of, surface
+from records import STATES, records_of
 
-STATES = {1: 'patched', 2: 'long', 3: 'open', 4: 'rim'}
 # names that are odd in a string or in a line; from b'\xff\xfe' on they are not UTF-8
 ODD = [b'plain', b'two words', b'a\nb', b'quo"te', b'back\\slash', b'tab\there', b'\x01\x1f\x7f', b'-dash',
        b'\xc2\x9b', '\u00e9\u20ac\U0001f600'.encode(), '\u0080\u07ff\u0800\uffff\U00010000\U0010ffff'.encode(),
@@ -29,10 +29,11 @@ def object_of(listing, sheet, with_patches):
     due.update(points=counts[0], triangles=counts[1], pitch=pitch_of(sheet), left_open=[], loops=[])
     for key, value in lines[2:]:
         if key == 'loop':
-            length, state, weight = numbers(value)
+            length, state, weight, first, piece, run = numbers(value)
             if state in (2, 3):
                 due['left_open'].append(len(due['loops']))
-            due['loops'].append({'length': length, 'state': state, 'name': STATES[state], 'weight': weight})
+            due['loops'].append({'length': length, 'state': state, 'name': STATES[state], 'weight': weight, 'first': first, 'piece': piece,
+                                 'run': run})
             if with_patches:
                 due['loops'][-1]['patches'] = []
         elif key == 'ring':
@@ -109,6 +110,14 @@ def try_object(tally, name, found, listing, sheet, with_patches):
         try_explanation(tally, f'list of {name}', found, {name: sheet})
         found.pop('explanation', None)
     tally.same(f'the object of {name}', found, due)
+    if not explained:
+        try_records(tally, name, found['loops'], imported(sheet) if stl else sheet)
+
+
+def try_records(tally, name, loops, text):
+    """Where loops begin, their pieces and their runs, against the model of records.py."""
+    told = [(loop.get('first'), loop.get('piece'), loop.get('run')) for loop in loops]
+    tally.same(f'the object of {name}: first half-edges, pieces and runs', told, records_of(text, [loop['ring'] for loop in loops]))
 
 
 def try_lists(front, tally, folder, names):
@@ -159,8 +168,8 @@ def try_plate(front, tally, folder):
     for ending in ('sheet', 'patches'):
         shutil.copy(f'{HOME}/examples/plate.{ending}', folder)
     due = (b'{"file":"plate.sheet","answer":{"number":0,"place":0,"sentence":"done"},"points":6,"triangles":6,"pitch":1,"left_open":[],'
-           b'"loops":[{"length":3,"state":4,"name":"rim","weight":0,"ring":[0,1,2]},'
-           b'{"length":3,"state":1,"name":"patched","weight":100,"ring":[4,3,5]}]}\n')
+           b'"loops":[{"length":3,"state":4,"name":"rim","weight":0,"first":0,"piece":0,"run":120,"ring":[0,1,2]},'
+           b'{"length":3,"state":1,"name":"patched","weight":100,"first":4,"piece":0,"run":40,"ring":[4,3,5]}]}\n')
     got = front('list', '--json', 'plate.sheet', cwd=folder)
     tally.same('list --json plate.sheet', (got.status, got.out, got.err), (0, due, b''))
     given = read(f'{HOME}/examples/plate.sheet')
@@ -176,8 +185,9 @@ def try_plate(front, tally, folder):
     found = parsed(tally, 'list --json --patches', got.out)
     tally.same('the patches of the plate', [loop.get('patches') for loop in found[0]['loops']] if found else None, [[], [[4, 5, 3]]])
     due = (b'{"file":"schoolroom.sheet","answer":{"number":0,"place":0,"sentence":"done"},"points":8,"triangles":8,"pitch":5,'
-           b'"left_open":[],"loops":[{"length":4,"state":4,"name":"rim","weight":0,"ring":[0,1,2,3],"patches":[]},'
-           b'{"length":4,"state":1,"name":"patched","weight":1500,"ring":[5,4,7,6],"patches":[[5,6,4],[4,6,7]]}]}\n')
+           b'"left_open":[],"loops":[{"length":4,"state":4,"name":"rim","weight":0,"first":0,"piece":0,"run":240,"ring":[0,1,2,3],'
+           b'"patches":[]},{"length":4,"state":1,"name":"patched","weight":1500,"first":4,"piece":0,"run":120,"ring":[5,4,7,6],'
+           b'"patches":[[5,6,4],[4,6,7]]}]}\n')
     got = front('list', '--json', '--patches', 'schoolroom.sheet', cwd=f'{HOME}/examples')
     tally.same('list --json --patches schoolroom.sheet', (got.status, got.out, got.err), (0, due, b''))
 

@@ -186,13 +186,15 @@ def try_as_text(bench, name, data):
             del found['file']
             found.pop('explanation', None)
         bench.tally.same(f'the object of {name}', objects[0], objects[1])
-    pictures = [bench.call('draw', *options, f'part.{ending}').out for options in ([], ['--plan']) for ending in ('stl', 'sheet')]
+    pictures = [bench.call('draw', *options, f'part.{ending}').out for options in ([], ['--plan'], ['--loops'])
+                for ending in ('stl', 'sheet')]
     for one, other in zip(pictures[::2], pictures[1::2]):
         bench.tally.true(f'the picture of {name}', one.replace(b'part.stl', b'part.sheet') == other, 'is not that of its text')
-    said, of_text = (bench.call('list', f'part.{ending}').err for ending in ('stl', 'sheet'))
-    if b'refused' not in of_text:
-        due = made_of('part.stl', imported(data)) + of_text[len(b'wazelpunt: part.sheet'):]
-        bench.tally.same(f'what is said of {name}', said, due)
+    for options in ([], ['--loops']):
+        said, of_text = (bench.call('list', *options, f'part.{ending}').err for ending in ('stl', 'sheet'))
+        if b'refused' not in of_text:
+            due = made_of('part.stl', imported(data)) + of_text[len(b'wazelpunt: part.sheet'):].replace(b' of triangle ', b' of facet ')
+            bench.tally.same(f'what is said of {name}, {options}', said, due)
 
 
 def try_long(bench):
@@ -426,8 +428,9 @@ def try_pitched_as_text(bench, name, text, pitch):
     is_same = drawn.replace(name.encode(), sheet.encode()) == of_text
     bench.tally.true(f'the picture of {name} at pitch {pitch}', is_same, 'is not that of its text')
     bench.tally.same(f'the pitch in the picture of {name} at pitch {pitch}', b'>pitch %d<' % pitch in drawn, pitch != 1)
-    said = bench.call('list', option, name).err
-    loops = bench.call('list', sheet).err.partition(b': pitch %d: ' % pitch if pitch != 1 else b'.sheet: ')[2]
+    said = bench.call('list', '--loops', option, name).err
+    loops = bench.call('list', '--loops', sheet).err.partition(b': pitch %d: ' % pitch if pitch != 1 else b'.sheet: ')[2]
+    loops = loops.replace(b' of triangle ', b' of facet ')
     bench.tally.same(f'what is said of {name} at pitch {pitch}', said, made_of(name, text) + b': ' + loops)
     got = bench.call('check', '-q', option, name, patches)
     bench.tally.same(f'check of {name} at pitch {pitch}', (got.status, got.out, got.err), (0, b'answer=0,0\n', b''))

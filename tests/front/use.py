@@ -7,6 +7,8 @@ import shutil
 import subprocess
 
 from calls import HOME, read, write
+from facets import imported
+from records import lines_said, loops_of
 
 COMMANDS = ('list', 'check', 'rewrite', 'import', 'draw', 'example')
 NO_SHEET = b'wazelpunt: no sheet is given; name a file, or - for standard input\n'
@@ -99,7 +101,7 @@ def try_wrong_use(bench):
     for arguments in (('rewrite', '--json'), ('rewrite', '--closed'), ('rewrite', '--patches'), ('rewrite', '--plan'), ('list', '--plan'),
                       ('list', '--beside'), ('check', '--plan'), ('check', '--json', '--patches'), ('draw', '--json'), ('draw', '--closed'),
                       ('draw', '--beside'), ('example', '--json'), ('example', '--closed'), ('import', '--json'), ('import', '--closed'),
-                      ('import', '--plan')):
+                      ('import', '--plan'), ('check', '--loops'), ('rewrite', '--loops'), ('import', '--loops'), ('example', '--loops')):
         bench.wrong_use(*arguments, 'plate.sheet' if arguments[0] != 'example' else 'patches', says=[arguments[-1].encode()])
     # patches are told in objects alone
     bench.wrong_use('list', '--patches', 'plate.sheet', says=[b'--patches', b'--json'])
@@ -271,6 +273,48 @@ def try_closed(bench):
         bench.tally.true(f'check of {name} with --closed', due == 1 or got.out == b'answer=0,0\n', repr(got))
 
 
+def try_loops(bench):
+    """What is said of loops: with --loops a line of each, without it of those that stay open, five of a state at most."""
+    folder = f'{HOME}/tests/told/cases'
+    for name in ('summary-six-open', 'summary-seventeen-open', 'summary-every-kind'):
+        shutil.copy(f'{folder}/{name}.sheet', bench.folder)
+    for name in ('islands', 'range'):
+        shutil.copy(f'{HOME}/examples/{name}.sheet', bench.folder)
+    # a fan, with a rim of 1,024 edges
+    points = [f'p=00000000,{0x447a0000 + 1024 * k:08x},{0x40000000 + 8192 * (k % 7):08x}\n' for k in range(1024)]
+    triangles = [f't=0,{k},{k + 1}\n' for k in range(1, 1023)]
+    write(f'{bench.folder}/fan.sheet', f'points=1024\n{"".join(points)}triangles=1022\n{"".join(triangles)}'.encode())
+    counted = set()
+    for name in ('plate.sheet', 'rim.sheet', 'open.sheet', 'long.sheet', 'cone.sheet', 'closed.sheet', 'nothing.sheet', 'schoolroom.sheet',
+                 'islands.sheet', 'range.sheet', 'fan.sheet', 'summary-six-open.sheet', 'summary-seventeen-open.sheet',
+                 'summary-every-kind.sheet', 'box.stl'):
+        given = read(f'{bench.folder}/{name}')
+        text, triangle = (imported(given), 'facet') if name.endswith('.stl') else (given, 'triangle')
+        plain = bench.call('list', name)
+        states, rings = loops_of(plain.out)
+        summary = plain.err.split(b'\n')[0] + b'\n'
+        some, each = (lines_said(text, states, rings, is_all, triangle) for is_all in (False, True))
+        counted.add((some.count(b'\n'), each.count(b'\n')))
+        bench.tally.same(f'what list says of {name}', plain.err, summary + some)
+        bench.tally.same(f'what draw says of {name}', bench.call('draw', name).err, summary + some)
+        bench.right_use(plain.out, 'list', '--loops', name, err=summary + each)
+        bench.right_use(plain.out, 'list', name, '--loops', '--quiet')
+        bench.right_use(bench.call('list', '--json', name).out, 'list', '--json', '--loops', name)
+        got = bench.status(0, 'draw', '--loops', name)
+        bench.tally.same(f'what draw --loops says of {name}', got.err, summary + each)
+        bench.right_use(got.out, 'draw', '--loops', '-q', name)
+    # none at all, some of all, all of a state and not all of it
+    bench.tally.true('how many lines are said', {(0, 0), (0, 2), (5, 24), (5, 68), (2, 8)} <= counted, counted)
+    bench.tally.true('a rim of 1,024 edges', b': 1,024 edges, run ' in bench.call('list', '--loops', 'fan.sheet').err)
+    # the set of an open loop: what passes is told as what is listed
+    got, listed = bench.status(0, 'check', 'open.sheet'), bench.call('list', 'open.sheet')
+    bench.tally.same('what check says of an open loop', got.err, listed.err.replace(b'.sheet: ', b'.sheet: open.patches passes: ', 1))
+    # of several sheets each has its lines behind its summary
+    got = bench.status(1, 'list', '--loops', 'plate.sheet', 'refused.sheet', 'open.sheet')
+    alone = [bench.call('list', '--loops', name).err for name in ('plate.sheet', 'refused.sheet', 'open.sheet')]
+    bench.tally.same('what is said of the loops of several', got.err, b''.join(alone))
+
+
 def try_refused_pictures(bench):
     """A refused sheet: alone, nothing on standard output; among several, a panel."""
     got = bench.status(1, 'draw', 'refused.sheet')
@@ -312,5 +356,5 @@ def try_terminal(bench):
 def try_use(front, tally, room):
     bench = Bench(front, tally, room)
     for part in (try_help, try_wrong_use, try_wrong_pitches, try_names, try_sample, try_order, try_statuses, try_check_statuses, try_closed,
-                 try_refused_pictures, try_terminal):
+                 try_loops, try_refused_pictures, try_terminal):
         part(bench)

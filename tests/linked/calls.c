@@ -1,6 +1,7 @@
 /* calls LIBRARY SHEET PATCHES: loads the shared library and calls each of its functions by the header's declaration, on the texts of
    examples/plate: with lent buffers that are as long as the header's factors say and not a number longer, with each of them a number
-   shorter, with nothing at all, and at each pitch. The plate is made a file of facets besides, and so is the largest surface. */
+   shorter, with nothing at all, and at each pitch. The plate is made a file of facets besides, and so is the largest surface. Records are
+   read out of numbers of any length by the header's own function. */
 #include <dlfcn.h>
 #include <stdio.h>
 #include <string.h>
@@ -84,9 +85,8 @@ static int load_texts(const char *sheet_name, const char *set_name)
 static uint32_t words[W];
 static uint16_t corners[C], set_states[2], set_corners[3];
 static int32_t grid[WAZELPUNT_GRID_FOR(W)];
-static uint16_t rings[WAZELPUNT_RINGS_FOR(C)], lengths[WAZELPUNT_LENGTHS_FOR(C)];
-static uint16_t states[WAZELPUNT_STATES_FOR(C)], patches[WAZELPUNT_PATCHES_FOR(C)];
-static uint64_t weights[WAZELPUNT_WEIGHTS_FOR(C)];
+static uint16_t rings[WAZELPUNT_RINGS_FOR(C)], lengths[WAZELPUNT_LENGTHS_FOR(C)], patches[WAZELPUNT_PATCHES_FOR(C)];
+static uint64_t records[WAZELPUNT_RECORDS_FOR(C)];
 static size_t place, first, second, third;
 
 /* The pitch at which everything is called, and what reading leaves. */
@@ -101,12 +101,14 @@ static uint32_t do_survey(int less)
                   but(LENGTH(lengths), 3, less), &place, &first, &second, pitch);
 }
 
-static uint32_t do_patch(int less)
+/* With so many numbers of records. */
+static uint32_t patch_with(int less, size_t numbers)
 {
-    return patch(words, W, corners, C, grid, but(LENGTH(grid), 1, less), rings, but(LENGTH(rings), 2, less), lengths,
-                 but(LENGTH(lengths), 3, less), states, but(LENGTH(states), 4, less), weights, but(LENGTH(weights), 5, less), patches,
-                 but(LENGTH(patches), 6, less), &place, &first, &second, &third, pitch);
+    return patch(words, W, corners, C, grid, but(LENGTH(grid), 1, less), rings, but(LENGTH(rings), 2, less), records, numbers, patches,
+                 but(LENGTH(patches), 4, less), &place, &first, &second, &third, pitch);
 }
+
+static uint32_t do_patch(int less) { return patch_with(less, but(LENGTH(records), 3, less)); }
 
 static uint32_t do_judge(int less)
 {
@@ -149,6 +151,110 @@ static void fits(const char *what, uint32_t (*call)(int less), int buffers)
     expect(what, call(0) == WAZELPUNT_DONE && place == 0);
 }
 
+/* Whether a record has these numbers. */
+static int is(struct wazelpunt_record record, uint64_t length, uint64_t state, uint64_t weight, uint64_t half_edge, uint64_t run)
+{
+    return record.length == length && record.state == state && record.weight == weight && record.count == 0 && record.first == half_edge
+        && record.piece == 0 && record.run == run;
+}
+
+static struct wazelpunt_record record_of(size_t loop) { return wazelpunt_record_at(records, LENGTH(records), loop); }
+
+static void mark_lent(void)
+{
+    memset(grid, 0x77, sizeof grid);
+    memset(rings, 0x77, sizeof rings);
+    memset(records, 0x77, sizeof records);
+    memset(patches, 0x77, sizeof patches);
+}
+
+static int is_marked(const void *numbers, size_t used, size_t size)
+{
+    const uint8_t *bytes = (const uint8_t *)numbers;
+    for (size_t byte = used; byte < size; byte++)
+        if (bytes[byte] != 0x77) return 0;
+    return 1;
+}
+
+/* Whether the patcher's buffers are as they were behind so much of each. */
+static int stays_behind(size_t words_used, size_t vertices_used, size_t loops_used, size_t laid_used)
+{
+    return is_marked(grid, words_used * sizeof grid[0], sizeof grid) && is_marked(rings, vertices_used * sizeof rings[0], sizeof rings)
+        && is_marked(records, loops_used * sizeof(struct wazelpunt_record), sizeof records)
+        && is_marked(patches, laid_used * sizeof patches[0], sizeof patches);
+}
+
+/* What the patcher leaves of a surface with two loops stays as it was behind their records, and all of it where it is refused: records that
+   are long enough for six numbers of each loop are not long enough. */
+static void call_patch(void)
+{
+    static const size_t short_records[] = {0, 1, T, 6 * T, 6 * T + 1, 7 * T - 1};
+    mark_lent();
+    expect("patched", do_patch(0) == 0 && stays_behind(W, 6, 2, 3));
+    expect("a rim and a patch", first == 2 && second == 6 && third == 3);
+    expect("the record of the rim", is(record_of(0), 3, WAZELPUNT_RIM, 0, 0, 120));
+    expect("the record of the patch", is(record_of(1), 3, WAZELPUNT_PATCHED, 100, 4, 40));
+    expect("its corners", patches[0] == 4 && patches[1] == 5 && patches[2] == 3);
+    for (int less = 1; less <= 4; less++) {
+        mark_lent();
+        place = first = second = third = 77;
+        expect("a short buffer", do_patch(less) == WAZELPUNT_BUFFER && place == (size_t)less && stays_behind(0, 0, 0, 0));
+        expect("no counts then", first == 0 && second == 0 && third == 0);
+    }
+    for (size_t s = 0; s < LENGTH(short_records); s++) {
+        mark_lent();
+        expect("short records", patch_with(0, short_records[s]) == WAZELPUNT_BUFFER && place == 3 && stays_behind(0, 0, 0, 0));
+        expect("are told before short patches", patch_with(4, short_records[s]) == WAZELPUNT_BUFFER && place == 3);
+    }
+}
+
+static int is_nothing(struct wazelpunt_record record)
+{
+    static const uint64_t nothing[7];
+    return memcmp(&record, nothing, sizeof nothing) == 0;
+}
+
+/* A number that stands at that place and nowhere else; it has more than 32 bits. */
+static uint64_t number_at(size_t place_there) { return UINT64_C(0x100000001) * (place_there + 1); }
+
+/* Whether the record of a loop, read out of so many such numbers, has its own seven. */
+static int is_read(const uint64_t *numbers, size_t count, size_t loop)
+{
+    struct wazelpunt_record record = wazelpunt_record_at(numbers, count, loop);
+    size_t begin = 7 * loop;
+    return record.length == number_at(begin) && record.state == number_at(begin + 1) && record.weight == number_at(begin + 2)
+        && record.count == number_at(begin + 3) && record.first == number_at(begin + 4) && record.piece == number_at(begin + 5)
+        && record.run == number_at(begin + 6);
+}
+
+/* A record is read out if all of it lies within the numbers, and elsewhere there is nothing. */
+static void read_records(void)
+{
+    uint64_t numbers[23];
+    struct wazelpunt_record records_there[3];
+    for (size_t i = 0; i < LENGTH(numbers); i++) numbers[i] = number_at(i);
+    expect("a record is seven numbers", sizeof(struct wazelpunt_record) == 7 * sizeof(uint64_t) && WAZELPUNT_RECORD == 7);
+    expect("and aligned as they are", _Alignof(struct wazelpunt_record) == _Alignof(uint64_t));
+    memcpy(records_there, numbers, sizeof records_there);
+    for (size_t count = 0; count <= LENGTH(numbers); count++) {
+        for (size_t loop = 0; loop < 5; loop++)
+            expect("a record that is there, or nothing", loop < count / 7 ? is_read(numbers, count, loop)
+                                                                         : is_nothing(wazelpunt_record_at(numbers, count, loop)));
+        expect("nothing at the greatest number", is_nothing(wazelpunt_record_at(numbers, count, SIZE_MAX)));
+        /* modulo 2^64 seven times these are -2, 5 and 8 */
+        expect("nothing at numbers that wrap round", is_nothing(wazelpunt_record_at(numbers, count, SIZE_MAX / 7))
+                                                         && is_nothing(wazelpunt_record_at(numbers, count, SIZE_MAX / 7 + 1))
+                                                         && is_nothing(wazelpunt_record_at(numbers, count, SIZE_MAX / 7 * 3 + 2)));
+    }
+    expect("nothing in six numbers, one record in seven", is_nothing(wazelpunt_record_at(numbers, 6, 0)) && is_read(numbers, 7, 0)
+                                                              && is_nothing(wazelpunt_record_at(numbers, 7, 1)));
+    expect("out of as many numbers as can be", is_read(numbers, SIZE_MAX, 2));
+    for (size_t loop = 0; loop < 3; loop++) {
+        struct wazelpunt_record record = wazelpunt_record_at(numbers, 21, loop);
+        expect("the numbers themselves are records", memcmp(&records_there[loop], &record, sizeof record) == 0);
+    }
+}
+
 static int holds(const uint8_t *bytes, size_t count, const char *due) { return count == strlen(due) && memcmp(bytes, due, count) == 0; }
 
 static void call_numbers(void)
@@ -159,9 +265,8 @@ static void call_numbers(void)
     fits("survey", do_survey, 3);
     expect("two loops of three", first == 2 && second == 6 && lengths[0] == 3 && lengths[1] == 3);
     expect("their rings, and the grid", rings[2] == 2 && rings[3] == 4 && rings[5] == 5 && grid[3] == 30 && grid[17] == 0);
-    fits("patch", do_patch, 6);
-    expect("a rim and a patch", first == 2 && second == 6 && third == 3 && states[0] == WAZELPUNT_RIM && states[1] == WAZELPUNT_PATCHED);
-    expect("its weight and corners", weights[0] == 0 && weights[1] == 100 && patches[0] == 4 && patches[1] == 5 && patches[2] == 3);
+    fits("patch", do_patch, 4);
+    call_patch();
     fits("read_set", do_read_set, 2);
     expect("two states and three corners are read", first == 2 && second == 3 && set_states[0] == 4 && set_corners[1] == 5);
     fits("judge", do_judge, 3);
@@ -177,7 +282,8 @@ static void call_texts(void)
     fits("rewrite_text", do_rewrite, 1);
     expect("the same text again", first == sheet_length && memcmp(written, sheet, sheet_length) == 0);
     fits("list_text", do_list, 1);
-    expect("its listing", holds(listing, first, "answer=0,0\nloops=2\nloop=3,4,0\nring=0,1,2\nloop=3,1,100\nring=4,3,5\npatch=4,5,3\n"));
+    expect("its listing", holds(listing, first, "answer=0,0\nloops=2\nloop=3,4,0,0,0,120\nring=0,1,2\nloop=3,1,100,4,0,40\nring=4,3,5\n"
+                                             "patch=4,5,3\n"));
     fits("judge_texts", do_judge_texts, 1);
     expect("its answer", holds(answer, first, "answer=0,0\n"));
     sheet[0] = 'P';
@@ -348,12 +454,16 @@ static void call_with_nothing(void)
 {
     place = first = second = third = 77;
     expect("no surface", survey(words, 0, corners, 0, grid, 0, rings, 0, lengths, 0, &place, &first, &second, 1) == 0 && first == 0);
-    expect("no patches", patch(words, 0, corners, 0, grid, 0, rings, 0, lengths, 0, states, 0, weights, 0, patches, 0, &place, &first,
-                               &second, &third, 1) == 0 && third == 0);
-    expect("no set", judge(words, 0, corners, 0, states, 0, set_corners, 0, grid, 0, rings, 0, lengths, 0, &place, &first, &second, 1)
+    mark_lent();
+    expect("no patches", patch(words, 0, corners, 0, grid, 0, rings, 0, records, 0, patches, 0, &place, &first, &second, &third, 1) == 0
+                             && place == 0 && first == 0 && second == 0 && third == 0);
+    expect("no loops have no records", patch(words, 3, corners, 0, grid, LENGTH(grid), rings, LENGTH(rings), records, LENGTH(records),
+                                             patches, LENGTH(patches), &place, &first, &second, &third, 1) == 0
+                                           && first == 0 && stays_behind(3, 0, 0, 0));
+    expect("no set", judge(words, 0, corners, 0, set_states, 0, set_corners, 0, grid, 0, rings, 0, lengths, 0, &place, &first, &second, 1)
                          == 0);
     expect("no text", read_sheet(sheet, 0, words, 0, corners, 0, &place, &first, &second, &pitch_read) == WAZELPUNT_LINE && place == 1);
-    expect("no text of a set", read_set(set, 0, 0, states, 0, corners, 0, &place, &first, &second) == WAZELPUNT_LINE && place == 1);
+    expect("no text of a set", read_set(set, 0, 0, set_states, 0, corners, 0, &place, &first, &second) == WAZELPUNT_LINE && place == 1);
     expect("no text to list", list_text(sheet, 0, listing, LENGTH(listing), &place, &first) == 0 && holds(listing, first, "answer=10,1\n"));
     expect("no texts to judge", judge_texts(sheet, 0, set, 0, answer, LENGTH(answer), &place, &first) == 0);
     expect("their answer", holds(answer, first, "answer=10,1\n"));
@@ -401,16 +511,16 @@ static void call_without_pitch(void)
     for (size_t o = 0; o < LENGTH(others); o++) {
         pitch = others[o];
         place = first = second = third = 77;
-        memset(grid, 0x77, sizeof grid);
+        mark_lent();
         written[0] = 77;
         expect("survey without a pitch", do_survey(1) == WAZELPUNT_NO_PITCH && place == 0 && first == 0 && second == 0);
         place = first = second = third = 77;
-        expect("patch without a pitch", do_patch(1) == WAZELPUNT_NO_PITCH && place == 0 && first == 0 && second == 0 && third == 0);
+        expect("patch without a pitch", patch_with(1, 0) == WAZELPUNT_NO_PITCH && place == 0 && first == 0 && second == 0 && third == 0);
         place = first = second = 77;
         expect("judge without a pitch", do_judge(1) == WAZELPUNT_NO_PITCH && place == 0 && first == 0 && second == 0);
         place = first = 77;
         expect("write without a pitch", do_write(1) == WAZELPUNT_NO_PITCH && place == 0 && first == 0);
-        expect("and nothing is changed", grid[0] == 0x77777777 && grid[W - 1] == 0x77777777 && written[0] == 77);
+        expect("and nothing is changed", stays_behind(0, 0, 0, 0) && written[0] == 77);
         place = 77;
         expect("17 before 1", survey(words, 1, corners, 1, grid, 0, rings, 0, lengths, 0, &place, &first, &second, pitch)
                                       == WAZELPUNT_NO_PITCH && place == 0);
@@ -418,14 +528,16 @@ static void call_without_pitch(void)
     pitch = 1;
 }
 
-/* The plate at each pitch: its grid and its patch's weight, and its text, which begins with the pitch and reads back with it. */
-static void call_at(uint32_t at_pitch, const char *line, int32_t inner, uint64_t weight)
+/* The plate at each pitch: its grid, its patch's weight and its hole's run, and its text, which begins with the pitch and reads back with
+   it. */
+static void call_at(uint32_t at_pitch, const char *line, int32_t inner, uint64_t weight, uint64_t run)
 {
     size_t head = strlen(line), longer = sheet_length + head;
     pitch = at_pitch;
     expect("the grid at a pitch", do_survey(0) == 0 && grid[3] == 30 && grid[9] == inner && grid[17] == 0);
-    fits("patch at a pitch", do_patch, 6);
-    expect("the weight at a pitch", weights[1] == weight && states[1] == WAZELPUNT_PATCHED);
+    fits("patch at a pitch", do_patch, 4);
+    expect("the rim's record at a pitch", is(record_of(0), 3, WAZELPUNT_RIM, 0, 0, 120));
+    expect("the hole's record at a pitch", is(record_of(1), 3, WAZELPUNT_PATCHED, weight, 4, run));
     set_states[1] = WAZELPUNT_PATCHED;
     fits("judge at a pitch", do_judge, 3);
     expect("the text at a pitch", write_sheet(words, W, corners, C, written, longer, &place, &first, pitch) == 0 && first == longer
@@ -448,8 +560,8 @@ static void call_texts_at_a_pitch(void)
                                        && memcmp(written, coarse, length) == 0);
     /* the hole's points (5,5), (15,5) and (5,15) go to (0,0), (20,0) and (0,20) */
     expect("listed at a pitch", list_text(coarse, length, listing, LENGTH(listing), &place, &first) == 0
-                                    && holds(listing, first, "answer=0,0\nloops=2\nloop=3,4,0\nring=0,1,2\nloop=3,1,400\nring=4,3,5\n"
-                                                             "patch=4,5,3\n"));
+                                    && holds(listing, first, "answer=0,0\nloops=2\nloop=3,4,0,0,0,120\nring=0,1,2\n"
+                                                             "loop=3,1,400,4,0,80\nring=4,3,5\npatch=4,5,3\n"));
     expect("judged at a pitch", judge_texts(coarse, length, set, set_length, answer, LENGTH(answer), &place, &first) == 0
                                     && holds(answer, first, "answer=0,0\n"));
     expect("a set's lines are counted on", judge_texts(coarse, length, set, 0, answer, LENGTH(answer), &place, &first) == 0
@@ -467,10 +579,10 @@ static void call_at_pitches(void)
     words[13] = words[15] = 0x40f00000;
     expect("the plate with a smaller hole", do_write(0) == 0 && first == sheet_length);
     memcpy(sheet, written, sheet_length);
-    call_at(1, "", 8, 49);
-    call_at(2, "pitch=2\n", 8, 64);
-    call_at(5, "pitch=5\n", 10, 25);
-    call_at(10, "pitch=10\n", 10, 100);
+    call_at(1, "", 8, 49, 28);
+    call_at(2, "pitch=2\n", 8, 64, 32);
+    call_at(5, "pitch=5\n", 10, 25, 20);
+    call_at(10, "pitch=10\n", 10, 100, 40);
     memcpy(words, kept, sizeof kept);
     do_write(0);
     memcpy(sheet, written, sheet_length);
@@ -501,6 +613,7 @@ int main(int count, char **names)
 {
     if (count != 4 || !load(names[1]) || !load_texts(names[2], names[3])) return 1;
     call_coordinates();
+    read_records();
     call_numbers();
     call_without_pitch();
     call_at_pitches();

@@ -1,9 +1,11 @@
 #!/usr/bin/env python3
 """constants.py PRINTED: holds include/wazelpunt.h, of which header.c printed the constants, against the sources that it stands for:
 
-- the limits and lengths, computed from the constants of base_types, program_lines and program_roll, or as stl_facets defines them;
+- the limits and lengths, computed from the constants of base_types, program_lines and program_roll, or as stl_facets defines them, and of
+  them how many numbers each lent buffer needs;
 - the answers and states, by their names and numbers in base_answers and base_types;
-- the declarations, against the signatures of the exported functions in the crate wazelpunt;
+- the record of a loop, number by number in its order, against the struct of patch_records;
+- the declarations, against the signatures of the exported functions in the crate wazelpunt, and what else the header has, by name;
 - how much stack each function takes, against what docs/SPEED.md says was measured;
 - the constants and sentences that python/wazelpunt.py has again.
 """
@@ -66,13 +68,56 @@ def rattle_exports():
     return exports
 
 
-def header_functions():
+def rattle_struct(crate, name):
+    """The fields of a struct in their order, and their types."""
+    source = re.sub(r"//.*", "", pathlib.Path(f"crates/{crate}/src/lib.rt").read_text(encoding="utf-8"))
+    fields = re.search(rf"^pub struct {name} \{{(.*?)^\}}", source, re.M | re.S)
+    return re.findall(r"pub (\w+): (\w+),", fields[1]) if fields else f"no struct {name}"
+
+
+def plain_header():
     header = pathlib.Path("include/wazelpunt.h").read_text(encoding="utf-8")
-    plain = re.sub(r"/\*.*?\*/", "", header, flags=re.S)
+    return re.sub(r"/\*.*?\*/", "", header, flags=re.S)
+
+
+def header_struct(name):
+    fields = re.search(rf"^struct {name} \{{(.*?)^\}};", plain_header(), re.M | re.S)
+    return re.findall(r"(\w+) (\w+);", fields[1]) if fields else f"no struct {name}"
+
+
+def header_functions():
     functions = {}
-    for result, name, parameters in re.findall(r"^(\w+) (wazelpunt_\w+)\(([^)]*)\);", plain, re.M):
+    for result, name, parameters in re.findall(r"^(\w+) (wazelpunt_\w+)\(([^)]*)\);", plain_header(), re.M):
         functions[name] = [re.sub(r"\w+$", "", " ".join(each.split())).strip() for each in parameters.split(",")] + [result]
     return functions
+
+
+def expect_record(said, record):
+    """The struct has the fields of patch_records' own, each of 64 bits and one behind the other."""
+    kept = rattle_struct("patch_records", "Record")
+    expect("how many numbers a record of patch_records has", str(len(kept)), record)
+    expect("their types there", {kind for _, kind in kept}, {"u64"})
+    expect("the fields of struct wazelpunt_record", header_struct("wazelpunt_record"), [("uint64_t", name) for name, _ in kept])
+    expect("where they stand", {at: name for at, name in said.items() if at.startswith("record at ")},
+           {f"record at {8 * i}": name for i, (name, _) in enumerate(kept)})
+    expect("how many bytes they take", said["record bytes"], str(8 * len(kept)))
+
+
+def expect_needs(said, record):
+    """How many numbers each buffer needs that is lent for 30 words and 7 triangles, as refusal 3 of the scope counts them."""
+    due = {"grid": 30, "rings": 3 * 7, "lengths": 7, "records": int(record) * 7, "patches": 9 * 7}
+    expect("what lent buffers need", {what: said[what] for what in said if what.startswith("needed of ")},
+           {f"needed of {name}": str(count) for name, count in due.items()})
+    expect("the factors of the header", re.findall(r"^#define WAZELPUNT_(\w+)_FOR\(", plain_header(), re.M), [name.upper() for name in due])
+
+
+def expect_names():
+    """What the header has besides functions that are declared: every struct, enum and function that is written out there."""
+    header = plain_header()
+    expect("structs", re.findall(r"^struct (\w+) \{", header, re.M), ["wazelpunt_record"])
+    expect("enums", re.findall(r"^enum (\w+) \{", header, re.M), ["wazelpunt_answer", "wazelpunt_state"])
+    expect("functions that are written out", re.findall(r"^static inline .*?\b(wazelpunt_\w+)\(", header, re.M),
+           ["wazelpunt_record_at", "wazelpunt_sentence", "wazelpunt_floats_are_default"])
 
 
 def stack_figures(path, pattern):
@@ -97,9 +142,9 @@ def main(printed):
     due = {
         "POINTS": "Surface::POINTS", "TRIANGLES": "Surface::TRIANGLES", "WORDS": "Surface::WORDS", "CORNERS": "Surface::CORNERS",
         "SET_STATES": "PatchSet::STATES", "SET_TRIANGLES": "PatchSet::TRIANGLES", "SET_CORNERS": "PatchSet::CORNERS",
-        "LONGEST": "Loop::LONGEST", "GREATEST": "Grid::GREATEST", "SHEET_BYTES": "Surface::TEXT", "SET_BYTES": "PatchSet::TEXT",
-        "ANSWER_BYTES": "LINE", "LISTING_BYTES": "LISTING", "STL_BYTES": "Surface::FILE", "STL_FRONT": "front",
-        "STL_FACET_BYTES": "facetBytes",
+        "LONGEST": "Loop::LONGEST", "RECORD": "Loop::RECORD", "GREATEST": "Grid::GREATEST", "SHEET_BYTES": "Surface::TEXT",
+        "SET_BYTES": "PatchSet::TEXT", "ANSWER_BYTES": "LINE", "LISTING_BYTES": "LISTING", "STL_BYTES": "Surface::FILE",
+        "STL_FRONT": "front", "STL_FACET_BYTES": "facetBytes",
     }
     for name, source in due.items():
         expect(f"WAZELPUNT_{name}", header.pop(name), str(known.get(source, f"no constant {source}")))
@@ -114,6 +159,12 @@ def main(printed):
 
     expect("sentences of numbers 0 to 17 that are not like another", len(set(sentences[:18])), 18)
     expect("sentences of other numbers", set(sentences[18:]), {"an answer that this header does not know"})
+
+    expect_record(said, said["WAZELPUNT_RECORD"])
+    expect_needs(said, said["WAZELPUNT_RECORD"])
+    expect_names()
+    constants = re.findall(r"^#define (WAZELPUNT_\w+) ", plain_header(), re.M)
+    expect("constants that are printed", sorted(set(constants) - set(said)), [])
 
     exports, functions = rattle_exports(), header_functions()
     expect("functions that are declared", sorted(functions), sorted(exports))

@@ -1,4 +1,5 @@
-/* Prints what include/wazelpunt.h says: every constant, enumerator and sentence. It is compiled as C99, as C11 and as C++. */
+/* Prints what include/wazelpunt.h says: every constant, enumerator and sentence, how many numbers each lent buffer needs, and where each
+   number of a record stands. It is compiled as C99, as C11 and as C++. */
 #include "wazelpunt.h"
 
 #include <stdio.h>
@@ -15,6 +16,7 @@ static void say_limits(void)
     SAY(WAZELPUNT_SET_TRIANGLES);
     SAY(WAZELPUNT_SET_CORNERS);
     SAY(WAZELPUNT_LONGEST);
+    SAY(WAZELPUNT_RECORD);
     SAY(WAZELPUNT_GREATEST);
     SAY(WAZELPUNT_SHEET_BYTES);
     SAY(WAZELPUNT_SET_BYTES);
@@ -51,11 +53,37 @@ static void say_answers(void)
     SAY(WAZELPUNT_RIM);
 }
 
+/* For 30 words and 21 corners, seven triangles; the counts may be any expressions. */
+static void say_needs(void)
+{
+    printf("needed of grid=%lu\n", (unsigned long)WAZELPUNT_GRID_FOR(10 + 20));
+    printf("needed of rings=%lu\n", (unsigned long)WAZELPUNT_RINGS_FOR(1 + 20));
+    printf("needed of lengths=%lu\n", (unsigned long)WAZELPUNT_LENGTHS_FOR(1 + 20));
+    printf("needed of records=%lu\n", (unsigned long)WAZELPUNT_RECORDS_FOR(1 + 20));
+    printf("needed of patches=%lu\n", (unsigned long)WAZELPUNT_PATCHES_FOR(1 + 20));
+}
+
+#define SAY_PLACE(field) printf("record at %lu=%s\n", (unsigned long)offsetof(struct wazelpunt_record, field), #field)
+
+static void say_record(void)
+{
+    printf("record bytes=%lu\n", (unsigned long)sizeof(struct wazelpunt_record));
+    SAY_PLACE(length);
+    SAY_PLACE(state);
+    SAY_PLACE(weight);
+    SAY_PLACE(count);
+    SAY_PLACE(first);
+    SAY_PLACE(piece);
+    SAY_PLACE(run);
+}
+
 int main(void)
 {
     printf("WAZELPUNT_VERSION=%s\n", WAZELPUNT_VERSION);
     say_limits();
     say_answers();
+    say_needs();
+    say_record();
     /* one number more than there are answers, and the greatest */
     for (uint32_t number = 0; number <= 18; number++) printf("sentence %u=%s\n", (unsigned)number, wazelpunt_sentence(number));
     printf("sentence 19=%s\n", wazelpunt_sentence(UINT32_MAX));

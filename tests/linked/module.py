@@ -68,7 +68,8 @@ def listing_of(patched):
     """The listing, put together from the objects."""
     lines = ["answer=0,0", f"loops={len(patched.loops)}"]
     for loop in patched.loops:
-        lines += [f"loop={len(loop.ring)},{loop.state.value},{loop.weight}", "ring=" + ",".join(map(str, loop.ring))]
+        lines += [f"loop={loop.length},{loop.state.value},{loop.weight},{loop.first},{loop.piece},{loop.run}"]
+        lines += ["ring=" + ",".join(map(str, loop.ring))]
         lines += ["patch=" + ",".join(map(str, triangle)) for triangle in loop.patches]
     return "".join(line + "\n" for line in lines).encode()
 
@@ -80,6 +81,20 @@ def answer_line(number, place):
 def nearest(number, pitch):
     """The nearest multiple of a pitch, a tie to the even one."""
     return round(Fraction(number) / pitch) * pitch
+
+
+def try_records(name, surface, patched):
+    """What a loop's record says, against its ring."""
+    for loop in patched.loops:
+        corner = loop.first % 3
+        triangle = surface.triangles[loop.first // 3]
+        expect(f"{name}, where a loop begins", (triangle[corner], triangle[(corner + 1) % 3]), loop.ring[:2])
+        ends = zip(loop.ring, loop.ring[1:] + loop.ring[:1])
+        run = sum(abs(a - b) for start, end in ends for a, b in zip(patched.grid[start], patched.grid[end]))
+        expect(f"{name}, how far it runs", loop.run, run)
+        expect(f"{name}, its length and its count", (loop.length, loop.count), (len(loop.ring), 0))
+    rims = [loop.piece for loop in patched.loops if loop.state is State.RIM]
+    expect(f"{name}, the pieces of its rims", (len(set(rims)), set(rims)), (len(rims), {loop.piece for loop in patched.loops}))
 
 
 def try_surface(name, sheet, listing):
@@ -95,6 +110,7 @@ def try_surface(name, sheet, listing):
     expect(f"{name}, listed by objects", listing_of(patched), listing)
     grid = tuple(tuple(nearest(number, surface.pitch) for number in point) for point in surface.points)
     expect(f"{name}, its grid", patched.grid, grid)
+    try_records(name, surface, patched)
     expect(f"{name}, surveyed", (survey.grid, survey.rings), (patched.grid, tuple(loop.ring for loop in patched.loops)))
     verdict = surface.judge(patched.patch_set)
     expect(f"{name}, what is patched passes", (verdict, bool(verdict)), (Verdict(0, 0, survey.rings), True))
@@ -413,8 +429,10 @@ def try_files():
         for kind in (bytearray, memoryview):
             expect(f"{name}, {kind.__name__}", Surface.from_stl(kind(data)), read)
     plate = stl_of_surface(Surface.from_text(PLATE))
-    loops = [(loop.ring, loop.state, loop.weight, loop.patches) for loop in Surface.from_stl(plate).patch().loops]
-    expect("the plate, patched", loops, [((0, 1, 4), State.RIM, 0, ()), ((3, 2, 5), State.PATCHED, 100, ((3, 5, 2),))])
+    patched = Surface.from_stl(plate).patch()
+    loops = [(loop.ring, loop.state, loop.weight, loop.first, loop.piece, loop.run, loop.patches) for loop in patched.loops]
+    due = [((0, 1, 4), State.RIM, 0, 0, 0, 120, ()), ((3, 2, 5), State.PATCHED, 100, 4, 0, 40, ((3, 5, 2),))]
+    expect("the plate, patched", loops, due)
     wild = [0x80000000, 0x7FC00001, 1, 0, 0x7FC00001, 1, 0xFF800000, 0x7FC00002, 0x80000001]
     expect("words, bit for bit but negative zero", Surface.from_stl(stl_of(wild)), Surface.from_words(wild[3:], [0, 0, 1]))
     ((first, _, last),) = wazelpunt.facets(stl_of(wild))
@@ -495,6 +513,8 @@ def try_usage(room):
         known = {}
         exec(re.sub(r'"(plate\.\w+)"', lambda name: repr(str(room / name[1])), usage), known)
     expect("what the usage prints", printed.getvalue().splitlines(), due)
+    hole = known["hole"]
+    expect("where the usage's hole comes from", (hole.first, hole.piece, hole.run, "# (4, 0, 40)" in usage), (4, 0, 40, True))
     expect("what the usage reads at last", known["surface"], Surface.from_stl((room / "plate.stl").read_bytes(), pitch=5))
 
 
@@ -534,7 +554,7 @@ def try_finding(room):
         os.makedirs(room / name)
     for name in ("alone", "beside", "installed/share/wazelpunt/python"):
         shutil.copy(HOME / "python/wazelpunt.py", room / name)
-    for name in ("beside/libwazelpunt.so", "system/libwazelpunt.so.2", "installed/lib/libwazelpunt.so.2"):
+    for name in ("beside/libwazelpunt.so", "system/libwazelpunt.so.3", "installed/lib/libwazelpunt.so.3"):
         shutil.copy(library, room / name)
     listing = (CASES / "plate.listing").read_bytes()
     command = ["-m", "wazelpunt", str(room / "plate.sheet")]
@@ -548,10 +568,11 @@ def try_finding(room):
     expect("one that is no library", (status, out, b"ImportError" in said, b"plate.sheet" in said), (1, b"", True, True))
     status, out, said = run(room / "alone", *command, environment={"WAZELPUNT_LIBRARY": "libc.so.6"})
     expect("another library", (status, out, b"ImportError" in said, b"wazelpunt_coordinate" in said), (1, b"", True, True))
-    # one from before there were pitches, whose functions pass over what is given behind all else
-    old = "class Old:\n def __call__(self, *given): return 0\n def __getattr__(self, name): return Old()\n"
-    status, out, said = run(room / "alone", "-c", f"import ctypes\n{old}ctypes.CDLL = lambda name: Old()\nimport wazelpunt")
-    expect("an older library", (status, out, b"ImportError" in said, b"knows no pitch" in said), (1, b"", True, True))
+    # one that takes two buffers more and then its results and a pitch; and one from before there were pitches
+    for what, answer in [("an older library", "0 if given[20].value in (1, 2, 5, 10) else 17"), ("one of the oldest", "0")]:
+        old = f"class Old:\n def __call__(self, *given): return {answer}\n def __getattr__(self, name): return Old()\n"
+        status, out, said = run(room / "alone", "-c", f"import ctypes\n{old}ctypes.CDLL = lambda name: Old()\nimport wazelpunt")
+        expect(what, (status, out, b"ImportError" in said, b"keeps no records of loops" in said), (1, b"", True, True))
 
 
 def try_command(room):

@@ -32,8 +32,9 @@ loop = -1
 for key, value in values(sys.argv[2]):
     if key == "loop":
         loop += 1
-        _, state, weight = value.split(",")
+        _, state, weight, first, piece, run = value.split(",")
     elif key == "ring":
-        print(f"loop {loop}: {STATES[state]}; weight {weight}; ring", *value.split(","))
+        source = f"in piece {piece}, from half-edge {first} of triangle {int(first) // 3}"
+        print(f"loop {loop}: {STATES[state]}; weight {weight}; run {run}; {source}; ring", *value.split(","))
     elif key == "patch":
         print(f"patch of loop {loop}:", *value.split(","))

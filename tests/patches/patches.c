@@ -1,4 +1,4 @@
-/* Compares wazelpunt_patch with the plain reference: the answer, the counts, and every byte of the six lent buffers with what lies
+/* Compares wazelpunt_patch with the plain reference: the answer, the counts, and every byte of the four lent buffers with what lies
    before and behind them. It takes the scope's examples with what is said of them, as islands and as holes, rims and holes of every
    length, full sheets, and made surfaces, sound and damaged, at every pitch.
    patches COUNT SEED: that many made surfaces, from that seed on. */
@@ -14,20 +14,23 @@
 #include "../reference/sheets.h"
 #include "wazelpunt.h"
 
+#define RECORD_ROOM 7296
 #define PATCH_ROOM 9728
 
-/* the lent buffers 1 to 6, each between guards */
+/* the lent buffers 1 to 4, each between guards */
 struct lent {
     int32_t grid[GUARDED(ROOM)];
     uint16_t rings[GUARDED(ROOM)];
-    uint16_t lengths[GUARDED(ROOM)];
-    uint16_t states[GUARDED(ROOM)];
-    uint64_t weights[GUARDED(ROOM)];
+    uint64_t records[GUARDED(RECORD_ROOM)];
     uint16_t patches[GUARDED(PATCH_ROOM)];
 };
 
 static struct lent before, ours, theirs;
 static struct reference_patch_answer said, due;
+
+/* The record of a loop, as it was left, and as it is due. */
+static struct wazelpunt_record left(size_t loop) { return wazelpunt_record_at(ours.records + GUARD, RECORD_ROOM, loop); }
+static size_t kept(size_t loop, size_t number) { return (size_t)reference_kept(theirs.records + GUARD, loop, number); }
 
 /* ---- What was met ---- */
 
@@ -37,6 +40,9 @@ static struct reference_patch_answer said, due;
 /* the pitches, and how far a coordinate may be moved at each that stays at its multiple */
 static const int32_t pitches[PITCHES] = {1, 2, 5, 10}, within[PITCHES] = {0, 0, 2, 4};
 
+/* those of short buffers by their places, and of short records those that would do for six numbers a loop; loops in later pieces, those
+   listed from a smaller half-edge than the one before, and those listed from another than their smallest */
+static size_t by_buffer[GENERATE_BUFFERS + 1], sixes, later_pieces, turning_back, not_smallest;
 static size_t by_answer[HIGHEST + 1], by_state[5], weighed[PITCHES], long_rims, patched[REFERENCE_LONGEST_LOOP + 1], barred[REFERENCE_LONGEST_LOOP + 1], rims[REFERENCE_LONGEST_LOOP + 1];
 static unsigned char laid_between[REFERENCE_MOST_POINTS][REFERENCE_MOST_POINTS];
 
@@ -55,15 +61,38 @@ static int is_barred_by_a_patch(const uint16_t *ring, size_t length) {
     return 0;
 }
 
+/* The smallest half-edge of a ring. */
+static size_t smallest_of(const struct generated_surface *s, const uint16_t *ring, size_t length) {
+    size_t smallest = REFERENCE_NO_EDGE;
+    for (size_t v = 0; v < length; v++) {
+        size_t h = reference_find_edge(s->corners, s->corner_count, ring[v], ring[(v + 1) % length]);
+        if (h < smallest) smallest = h;
+    }
+    return smallest;
+}
+
+/* Counts the short buffers, and by where they come from the loops. */
+static void meet_records(const struct generated_surface *s) {
+    const uint16_t *ring = theirs.rings + GUARD;
+    by_buffer[due.number == 3 ? due.place : 0]++;
+    sixes += due.number == 3 && due.place == 3 && s->lent[2] == 2 * s->corner_count;
+    for (size_t l = 0; l < due.loops; l++) {
+        later_pieces += kept(l, REFERENCE_PIECE) > 0;
+        turning_back += l > 0 && kept(l, REFERENCE_FIRST) < kept(l - 1, REFERENCE_FIRST);
+        not_smallest += kept(l, REFERENCE_FIRST) != smallest_of(s, ring, kept(l, REFERENCE_LENGTH));
+        ring += kept(l, REFERENCE_LENGTH);
+    }
+}
+
 /* Counts the answer and the loops by their states, by the pitch those that are patched with a weight, and by their lengths the rims, those
    that are patched and those that a patch bars. */
 static void meet(uint32_t pitch) {
     const uint16_t *ring = theirs.rings + GUARD, *patches = theirs.patches + GUARD, *patch = patches;
     by_answer[due.number]++;
     for (size_t l = 0; l < due.loops; l++) {
-        size_t length = theirs.lengths[GUARD + l], state = theirs.states[GUARD + l];
+        size_t length = kept(l, REFERENCE_LENGTH), state = kept(l, REFERENCE_STATE);
         by_state[state]++;
-        for (size_t p = 0; p < PITCHES; p++) weighed[p] += pitch == (uint32_t)pitches[p] && theirs.weights[GUARD + l] > 0;
+        for (size_t p = 0; p < PITCHES; p++) weighed[p] += pitch == (uint32_t)pitches[p] && kept(l, REFERENCE_WEIGHT) > 0;
         if (state == 4 && length > REFERENCE_LONGEST_LOOP) long_rims++;
         if (state == 4 && length <= REFERENCE_LONGEST_LOOP) rims[length]++;
         if (state == 1 || state == 3) barred[length] += is_barred_by_a_patch(ring, length);
@@ -77,10 +106,12 @@ static void meet(uint32_t pitch) {
     mark(patches, due.corners, 0);
 }
 
-/* Whether every answer and every state was met, holes with a weight at every pitch, rims of every length, and loops of every length that
-   are patched, and that a patch bars. */
+/* Whether every answer and every state was met, every buffer short, loops from everywhere, holes with a weight at every pitch, rims of every
+   length, and loops of every length that are patched, and that a patch bars. */
 static int met_all(void) {
     size_t missing = (patched[3] == 0) + (long_rims == 0) + (by_answer[17] == 0);
+    for (size_t b = 1; b <= GENERATE_BUFFERS; b++) missing += by_buffer[b] == 0;
+    missing += (sixes == 0) + (later_pieces < 200) + (turning_back < 200) + (not_smallest < 200);
     for (size_t p = 0; p < PITCHES; p++) missing += weighed[p] < 200;
     for (size_t n = 0; n <= 8; n++) missing += by_answer[n] == 0;
     for (size_t s = 1; s <= 4; s++) missing += by_state[s] < 20;
@@ -98,12 +129,24 @@ static int same_answer(void) {
     return 0;
 }
 
+/* Whether a buffer of ours is as it was, but for what is used of it, which begins behind its guard. */
+#define STAYS(buffer, used) (memcmp(ours.buffer, before.buffer, GUARD * sizeof *ours.buffer) == 0 && memcmp(ours.buffer + GUARD + (used), before.buffer + GUARD + (used), sizeof ours.buffer - (GUARD + (used)) * sizeof *ours.buffer) == 0)
+
+/* Whether what lies before and behind the answer is as it was: behind the last record of a loop too. */
+static int rest_stays(size_t words) {
+    return STAYS(grid, said.number == 0 ? words : 0) && STAYS(rings, said.vertices) && STAYS(records, 7 * said.loops) && STAYS(patches, said.corners);
+}
+
 static int agree(const struct generated_surface *s) {
     const size_t *lent = s->lent;
     ours = theirs = before;
-    said.number = wazelpunt_patch(s->words, s->word_count, s->corners, s->corner_count, ours.grid + GUARD, lent[0], ours.rings + GUARD, lent[1], ours.lengths + GUARD, lent[2], ours.states + GUARD, lent[3], ours.weights + GUARD, lent[4], ours.patches + GUARD, lent[5], &said.place, &said.loops, &said.vertices, &said.corners, s->pitch);
-    reference_patch(s->words, s->word_count, s->corners, s->corner_count, theirs.grid + GUARD, lent[0], theirs.rings + GUARD, lent[1], theirs.lengths + GUARD, lent[2], theirs.states + GUARD, lent[3], theirs.weights + GUARD, lent[4], theirs.patches + GUARD, lent[5], s->pitch, &due);
+    said.number = wazelpunt_patch(s->words, s->word_count, s->corners, s->corner_count, ours.grid + GUARD, lent[0], ours.rings + GUARD, lent[1], ours.records + GUARD, lent[2], ours.patches + GUARD, lent[3], &said.place, &said.loops, &said.vertices, &said.corners, s->pitch);
+    reference_patch(s->words, s->word_count, s->corners, s->corner_count, theirs.grid + GUARD, lent[0], theirs.rings + GUARD, lent[1], theirs.records + GUARD, lent[2], theirs.patches + GUARD, lent[3], s->pitch, &due);
     if (!same_answer()) return 0;
+    if (!rest_stays(s->word_count)) {
+        printf("what lies around an answer is not as it was, answer %zu\n", due.number);
+        return 0;
+    }
     if (memcmp(&ours, &theirs, sizeof ours) != 0) {
         printf("a buffer differs, answer %zu\n", due.number);
         return 0;
@@ -125,6 +168,7 @@ static size_t compare_made(size_t many, uint64_t seed) {
         if (own % 16 == 0) fill(&before, sizeof before, &generator);
         if (!agree(&surface) && wrong++ < 10) printf("surface of seed %" PRIu64 "\n", own);
         meet(surface.pitch);
+        meet_records(&surface);
     }
     return wrong;
 }
@@ -150,7 +194,8 @@ static size_t compare_sheets(uint64_t seed, size_t *sheets, int coarse) {
 
 /* ---- Examples ---- */
 
-/* An example with what is said of it: the rings one after the other, and for each loop its length, state and weight. */
+/* An example with what is said of it: the rings one after the other, and for each loop its length, state, weight, first half-edge, piece and
+   run. */
 struct example {
     const char *name;
     size_t points;
@@ -159,32 +204,34 @@ struct example {
     uint16_t corners[36];
     size_t loops;
     uint16_t rings[24], lengths[8], states[8];
-    uint64_t weights[8];
+    uint64_t weights[8], firsts[8], pieces[8], runs[8];
     size_t laid;
     uint16_t patches[24];
 };
 
 /* Most of the scope's surfaces have loops that are each alone in their piece. */
 static const struct example examples[] = {
-    {"no points", 0, {0}, 0, {0}, 0, {0}, {0}, {0}, {0}, 0, {0}},
-    {"no triangles", 3, {0}, 0, {0}, 0, {0}, {0}, {0}, {0}, 0, {0}},
-    {"the listing's triangle", 3, {0, 0, 0, 1, 0, 0, 0, 1, 0}, 3, {0, 1, 2}, 1, {0, 1, 2}, {3}, {4}, {0}, 0, {0}},
-    {"bow-tie", 5, {0}, 6, {0, 1, 2, 0, 3, 4}, 2, {0, 1, 2, 0, 3, 4}, {3, 3}, {4, 4}, {0, 0}, 0, {0}},
-    {"pinched strip, all its points in one place", 5, {0}, 12, {0, 1, 2, 2, 1, 3, 2, 3, 4, 4, 3, 0}, 2, {0, 1, 3, 0, 4, 2}, {3, 3}, {4, 1}, {0, 0}, 3, {0, 2, 4}},
-    {"pinched strip", 5, {0, 0, 0, 10, 0, 0, 10, 10, 0, 0, 10, 4, 4, 4, 9}, 12, {0, 1, 2, 2, 1, 3, 2, 3, 4, 4, 3, 0}, 2, {0, 1, 3, 0, 4, 2}, {3, 3}, {1, 4}, {140, 0}, 3, {0, 3, 1}},
-    {"a fold", 4, {0, 0, 0, 10, 0, 0, 10, 10, 0, 0, 10, 4}, 6, {0, 1, 2, 0, 2, 3}, 1, {0, 1, 2, 3}, {4}, {4}, {0}, 0, {0}},
-    {"cone", 5, {0, 0, 0, 10, 0, 0, 3, 3, 0, 0, 10, 0, 4, 4, 9}, 12, {0, 1, 4, 1, 2, 4, 2, 3, 4, 3, 0, 4}, 1, {0, 1, 2, 3}, {4}, {4}, {0}, 0, {0}},
-    {"a fold and a triangle across it", 5, {0, 0, 0, 10, 0, 0, 10, 10, 0, 0, 10, 4, 4, 4, 9}, 9, {0, 1, 2, 0, 2, 3, 1, 3, 4}, 2, {0, 1, 2, 3, 1, 3, 4}, {4, 3}, {4, 4}, {0}, 0, {0}},
-    {"tetrahedron", 4, {0}, 12, {0, 1, 2, 0, 2, 3, 0, 3, 1, 1, 3, 2}, 0, {0}, {0}, {0}, {0}, 0, {0}},
-    {"a plate with a hole", 6, {0, 0, 0, 30, 0, 0, 0, 30, 0, 5, 5, 0, 15, 5, 0, 5, 15, 0}, 18, {0, 1, 3, 1, 4, 3, 1, 2, 4, 2, 5, 4, 2, 0, 5, 0, 3, 5}, 2, {0, 1, 2, 4, 3, 5}, {3, 3}, {4, 1}, {0, 100}, 3, {4, 5, 3}},
-    {"an island in its hole", 9, {0, 0, 0, 30, 0, 0, 0, 30, 0, 5, 5, 0, 15, 5, 0, 5, 15, 0, 6, 6, 0, 8, 6, 0, 6, 8, 0}, 21, {0, 1, 3, 6, 7, 8, 1, 4, 3, 1, 2, 4, 2, 5, 4, 2, 0, 5, 0, 3, 5}, 3, {0, 1, 2, 6, 7, 8, 4, 3, 5}, {3, 3, 3}, {4, 4, 1}, {0, 0, 100}, 3, {4, 5, 3}},
-    {"the greatest run of all in another piece", 9, {0, 0, 0, 30, 0, 0, 0, 30, 0, 5, 5, 0, 15, 5, 0, 5, 15, 0, 0, 0, 9, 900, 0, 9, 0, 900, 9}, 21, {6, 7, 8, 0, 1, 3, 1, 4, 3, 1, 2, 4, 2, 5, 4, 2, 0, 5, 0, 3, 5}, 3, {6, 7, 8, 0, 1, 2, 4, 3, 5}, {3, 3, 3}, {4, 4, 1}, {0, 0, 100}, 3, {4, 5, 3}},
-    {"equal runs", 6, {0, 0, 0, 10, 0, 0, 0, 10, 0, 0, 0, 5, 10, 0, 5, 0, 10, 5}, 18, {0, 1, 3, 1, 4, 3, 1, 2, 4, 2, 5, 4, 2, 0, 5, 0, 3, 5}, 2, {0, 1, 2, 4, 3, 5}, {3, 3}, {4, 1}, {0, 100}, 3, {4, 5, 3}},
-    {"equal runs, the other loop listed first", 6, {0, 0, 0, 10, 0, 0, 0, 10, 0, 0, 0, 5, 10, 0, 5, 0, 10, 5}, 18, {4, 3, 1, 0, 1, 3, 1, 2, 4, 2, 5, 4, 2, 0, 5, 0, 3, 5}, 2, {4, 3, 5, 0, 1, 2}, {3, 3}, {4, 1}, {0, 100}, 3, {0, 2, 1}},
-    {"the closing edge decides", 6, {0, 0, 0, 10, 0, 0, 20, 0, 0, 12, 0, 1, 0, 0, 1, 0, 1, 1}, 18, {4, 3, 1, 0, 1, 3, 1, 2, 4, 2, 5, 4, 2, 0, 5, 0, 3, 5}, 2, {4, 3, 5, 0, 1, 2}, {3, 3}, {1, 4}, {12, 0}, 3, {4, 5, 3}},
-    {"differences that cancel if added with their signs", 6, {0, 0, 0, 10, -10, 0, 20, -20, 0, 12, 0, 0, 0, 0, 0, 0, 1, 0}, 18, {4, 3, 1, 0, 1, 3, 1, 2, 4, 2, 5, 4, 2, 0, 5, 0, 3, 5}, 2, {4, 3, 5, 0, 1, 2}, {3, 3}, {1, 4}, {12, 0}, 3, {4, 5, 3}},
-    {"the inner loop runs further", 6, {1, 1, 0, 2, 1, 0, 1, 2, 0, 0, 0, 9, 50, 0, 9, 0, 50, 9}, 18, {0, 1, 3, 1, 4, 3, 1, 2, 4, 2, 5, 4, 2, 0, 5, 0, 3, 5}, 2, {0, 1, 2, 4, 3, 5}, {3, 3}, {1, 4}, {1, 0}, 3, {0, 2, 1}},
-    {"the greatest runs there are", 6, {-32767, -32767, -32767, 32767, 32767, 32767, -32767, -32767, -32767, 32767, 32767, 32767, -32767, -32767, -32767, 32767, 32767, 32766}, 18, {0, 1, 3, 1, 4, 3, 1, 2, 4, 2, 5, 4, 2, 0, 5, 0, 3, 5}, 2, {0, 1, 2, 4, 3, 5}, {3, 3}, {4, 1}, {0, 131068}, 3, {4, 5, 3}},
+    {"no points", 0, {0}, 0, {0}, 0, {0}, {0}, {0}, {0}, {0}, {0}, {0}, 0, {0}},
+    {"no triangles", 3, {0}, 0, {0}, 0, {0}, {0}, {0}, {0}, {0}, {0}, {0}, 0, {0}},
+    {"the listing's triangle", 3, {0, 0, 0, 1, 0, 0, 0, 1, 0}, 3, {0, 1, 2}, 1, {0, 1, 2}, {3}, {4}, {0}, {0}, {0}, {4}, 0, {0}},
+    {"bow-tie", 5, {0}, 6, {0, 1, 2, 0, 3, 4}, 2, {0, 1, 2, 0, 3, 4}, {3, 3}, {4, 4}, {0, 0}, {0, 3}, {0, 1}, {0, 0}, 0, {0}},
+    {"pinched strip, all its points in one place", 5, {0}, 12, {0, 1, 2, 2, 1, 3, 2, 3, 4, 4, 3, 0}, 2, {0, 1, 3, 0, 4, 2}, {3, 3}, {4, 1}, {0, 0}, {0, 11}, {0, 0}, {0, 0}, 3, {0, 2, 4}},
+    {"pinched strip", 5, {0, 0, 0, 10, 0, 0, 10, 10, 0, 0, 10, 4, 4, 4, 9}, 12, {0, 1, 2, 2, 1, 3, 2, 3, 4, 4, 3, 0}, 2, {0, 1, 3, 0, 4, 2}, {3, 3}, {1, 4}, {140, 0}, {0, 11}, {0, 0}, {48, 58}, 3, {0, 3, 1}},
+    {"a fold", 4, {0, 0, 0, 10, 0, 0, 10, 10, 0, 0, 10, 4}, 6, {0, 1, 2, 0, 2, 3}, 1, {0, 1, 2, 3}, {4}, {4}, {0}, {0}, {0}, {48}, 0, {0}},
+    {"cone", 5, {0, 0, 0, 10, 0, 0, 3, 3, 0, 0, 10, 0, 4, 4, 9}, 12, {0, 1, 4, 1, 2, 4, 2, 3, 4, 3, 0, 4}, 1, {0, 1, 2, 3}, {4}, {4}, {0}, {0}, {0}, {40}, 0, {0}},
+    {"a fold and a triangle across it", 5, {0, 0, 0, 10, 0, 0, 10, 10, 0, 0, 10, 4, 4, 4, 9}, 9, {0, 1, 2, 0, 2, 3, 1, 3, 4}, 2, {0, 1, 2, 3, 1, 3, 4}, {4, 3}, {4, 4}, {0}, {0, 6}, {0, 1}, {48, 58}, 0, {0}},
+    {"tetrahedron", 4, {0}, 12, {0, 1, 2, 0, 2, 3, 0, 3, 1, 1, 3, 2}, 0, {0}, {0}, {0}, {0}, {0}, {0}, {0}, 0, {0}},
+    {"a plate with a hole", 6, {0, 0, 0, 30, 0, 0, 0, 30, 0, 5, 5, 0, 15, 5, 0, 5, 15, 0}, 18, {0, 1, 3, 1, 4, 3, 1, 2, 4, 2, 5, 4, 2, 0, 5, 0, 3, 5}, 2, {0, 1, 2, 4, 3, 5}, {3, 3}, {4, 1}, {0, 100}, {0, 4}, {0, 0}, {120, 40}, 3, {4, 5, 3}},
+    {"an island in its hole", 9, {0, 0, 0, 30, 0, 0, 0, 30, 0, 5, 5, 0, 15, 5, 0, 5, 15, 0, 6, 6, 0, 8, 6, 0, 6, 8, 0}, 21, {0, 1, 3, 6, 7, 8, 1, 4, 3, 1, 2, 4, 2, 5, 4, 2, 0, 5, 0, 3, 5}, 3, {0, 1, 2, 6, 7, 8, 4, 3, 5}, {3, 3, 3}, {4, 4, 1}, {0, 0, 100}, {0, 3, 7}, {0, 1, 0}, {120, 8, 40}, 3, {4, 5, 3}},
+    {"the greatest run of all in another piece", 9, {0, 0, 0, 30, 0, 0, 0, 30, 0, 5, 5, 0, 15, 5, 0, 5, 15, 0, 0, 0, 9, 900, 0, 9, 0, 900, 9}, 21, {6, 7, 8, 0, 1, 3, 1, 4, 3, 1, 2, 4, 2, 5, 4, 2, 0, 5, 0, 3, 5}, 3, {6, 7, 8, 0, 1, 2, 4, 3, 5}, {3, 3, 3}, {4, 4, 1}, {0, 0, 100}, {0, 3, 7}, {0, 1, 1}, {3600, 120, 40}, 3, {4, 5, 3}},
+    {"equal runs", 6, {0, 0, 0, 10, 0, 0, 0, 10, 0, 0, 0, 5, 10, 0, 5, 0, 10, 5}, 18, {0, 1, 3, 1, 4, 3, 1, 2, 4, 2, 5, 4, 2, 0, 5, 0, 3, 5}, 2, {0, 1, 2, 4, 3, 5}, {3, 3}, {4, 1}, {0, 100}, {0, 4}, {0, 0}, {40, 40}, 3, {4, 5, 3}},
+    {"equal runs, the other loop listed first", 6, {0, 0, 0, 10, 0, 0, 0, 10, 0, 0, 0, 5, 10, 0, 5, 0, 10, 5}, 18, {4, 3, 1, 0, 1, 3, 1, 2, 4, 2, 5, 4, 2, 0, 5, 0, 3, 5}, 2, {4, 3, 5, 0, 1, 2}, {3, 3}, {4, 1}, {0, 100}, {0, 3}, {0, 0}, {40, 40}, 3, {0, 2, 1}},
+    {"the closing edge decides", 6, {0, 0, 0, 10, 0, 0, 20, 0, 0, 12, 0, 1, 0, 0, 1, 0, 1, 1}, 18, {4, 3, 1, 0, 1, 3, 1, 2, 4, 2, 5, 4, 2, 0, 5, 0, 3, 5}, 2, {4, 3, 5, 0, 1, 2}, {3, 3}, {1, 4}, {12, 0}, {0, 3}, {0, 0}, {26, 40}, 3, {4, 5, 3}},
+    {"differences that cancel if added with their signs", 6, {0, 0, 0, 10, -10, 0, 20, -20, 0, 12, 0, 0, 0, 0, 0, 0, 1, 0}, 18, {4, 3, 1, 0, 1, 3, 1, 2, 4, 2, 5, 4, 2, 0, 5, 0, 3, 5}, 2, {4, 3, 5, 0, 1, 2}, {3, 3}, {1, 4}, {12, 0}, {0, 3}, {0, 0}, {26, 80}, 3, {4, 5, 3}},
+    {"the inner loop runs further", 6, {1, 1, 0, 2, 1, 0, 1, 2, 0, 0, 0, 9, 50, 0, 9, 0, 50, 9}, 18, {0, 1, 3, 1, 4, 3, 1, 2, 4, 2, 5, 4, 2, 0, 5, 0, 3, 5}, 2, {0, 1, 2, 4, 3, 5}, {3, 3}, {1, 4}, {1, 0}, {0, 4}, {0, 0}, {4, 200}, 3, {0, 2, 1}},
+    {"the greatest runs there are", 6, {-32767, -32767, -32767, 32767, 32767, 32767, -32767, -32767, -32767, 32767, 32767, 32767, -32767, -32767, -32767, 32767, 32767, 32766}, 18, {0, 1, 3, 1, 4, 3, 1, 2, 4, 2, 5, 4, 2, 0, 5, 0, 3, 5}, 2, {0, 1, 2, 4, 3, 5}, {3, 3}, {4, 1}, {0, 131068}, {0, 4}, {0, 0}, {393204, 393204}, 3, {4, 5, 3}},
+    {"pieces without a loop before and between", 9, {0, 0, 0, 0, 0, 0, 0, 0, 0, 1, 0, 0, 0, 2, 0, 0, 0, 3, 0, 0, -4}, 18, {0, 1, 2, 0, 2, 1, 3, 4, 5, 6, 7, 8, 6, 8, 7, 6, 3, 0}, 2, {3, 4, 5, 6, 3, 0}, {3, 3}, {4, 4}, {0, 0}, {6, 15}, {1, 3}, {12, 10}, 0, {0}},
+    {"a cycle of three loops, the one that it is walked from listed last", 7, {0, 0, 0, 5, 0, 0, 0, 5, 0, 1, 0, 0, 0, 1, 0, 2, 0, 0, 0, 2, 0}, 21, {6, 0, 1, 2, 0, 3, 4, 0, 5, 1, 2, 3, 1, 3, 4, 1, 4, 5, 1, 5, 6}, 3, {0, 1, 2, 0, 3, 4, 6, 0, 5}, {3, 3, 3}, {4, 1, 1}, {0, 1, 4}, {1, 4, 0}, {0, 0, 0}, {20, 4, 8}, 6, {0, 4, 3, 6, 5, 0}},
 };
 
 /* The coordinates of an example in pitches in place of plate units, moved off their multiples where they come back. */
@@ -196,11 +243,16 @@ static void place_in_pitches(struct generated_surface *s, const int16_t *at, siz
 /* Whether an example reaches so far that it is one at pitch 1 alone. */
 static int is_far(const struct example *e) { return e->points > 0 && e->at[0] == -REFERENCE_GREATEST_COORDINATE; }
 
-/* Whether the patcher leaves what is known of an example: weights are known in squares of the pitch. */
+/* Whether the record of a loop is what is known of an example: its weight is known in squares of the pitch, and its run in pitches. */
+static int is_left(size_t loop, const struct example *e, uint64_t pitch) {
+    struct wazelpunt_record record = left(loop);
+    return record.length == e->lengths[loop] && record.state == e->states[loop] && record.weight == pitch * pitch * e->weights[loop] && record.count == 0 && record.first == e->firsts[loop] && record.piece == e->pieces[loop] && record.run == pitch * e->runs[loop];
+}
+
+/* Whether the patcher leaves what is known of an example. */
 static int shows(const struct example *e, size_t p) {
     static struct generated_surface surface;
     size_t vertices = 0;
-    uint64_t square = (uint64_t)(pitches[p] * pitches[p]);
     surface.word_count = 3 * e->points;
     place_in_pitches(&surface, e->at, surface.word_count, p);
     surface.corner_count = e->corner_count;
@@ -209,8 +261,8 @@ static int shows(const struct example *e, size_t p) {
     for (size_t l = 0; l < e->loops; l++) vertices += e->lengths[l];
     int right = agree(&surface) && said.number == 0 && said.place == 0 && said.loops == e->loops && said.vertices == vertices && said.corners == e->laid;
     for (size_t w = 0; w < surface.word_count; w++) right = right && ours.grid[GUARD + w] == e->at[w] * pitches[p];
-    for (size_t l = 0; l < e->loops; l++) right = right && ours.weights[GUARD + l] == square * e->weights[l];
-    right = right && memcmp(ours.rings + GUARD, e->rings, vertices * sizeof *e->rings) == 0 && memcmp(ours.lengths + GUARD, e->lengths, e->loops * sizeof *e->lengths) == 0 && memcmp(ours.states + GUARD, e->states, e->loops * sizeof *e->states) == 0 && memcmp(ours.patches + GUARD, e->patches, e->laid * sizeof *e->patches) == 0;
+    for (size_t l = 0; l < e->loops; l++) right = right && is_left(l, e, (uint64_t)pitches[p]);
+    right = right && memcmp(ours.rings + GUARD, e->rings, vertices * sizeof *e->rings) == 0 && memcmp(ours.patches + GUARD, e->patches, e->laid * sizeof *e->patches) == 0;
     if (!right) printf("example \"%s\" at pitch %" PRId32 ": answered %zu, %zu; %zu, %zu, %zu\n", e->name, pitches[p], said.number, said.place, said.loops, said.vertices, said.corners);
     return right;
 }
@@ -261,7 +313,8 @@ static void close_in(struct generated_surface *s, const uint16_t *ring, size_t l
 
 /* Whether a loop is a rim of so many edges; gives where the next ring begins. */
 static const uint16_t *is_rim(const uint16_t *ring, size_t loop, size_t edges, int *right) {
-    *right = *right && ours.lengths[GUARD + loop] == edges && ours.states[GUARD + loop] == 4 && ours.weights[GUARD + loop] == 0;
+    struct wazelpunt_record record = left(loop);
+    *right = *right && record.length == edges && record.state == 4 && record.weight == 0 && record.count == 0;
     return ring + edges;
 }
 
@@ -280,7 +333,8 @@ static int shows_holes(const struct holes *e, size_t p) {
     known = e->ring;
     for (size_t r = 0; r < e->rings; r++) {
         size_t length = e->lengths[r];
-        right = right && ours.lengths[GUARD + 2 * r] == length && ours.states[GUARD + 2 * r] == e->states[r] && ours.weights[GUARD + 2 * r] == square * e->weights[r] && memcmp(ring, known, length * sizeof *ring) == 0;
+        struct wazelpunt_record record = left(2 * r);
+        right = right && record.length == length && record.state == e->states[r] && record.weight == square * e->weights[r] && record.count == 0 && record.piece == left(2 * r + 1).piece && memcmp(ring, known, length * sizeof *ring) == 0;
         ring = is_rim(ring + length, 2 * r + 1, 3, &right);
         known += length;
     }
@@ -304,7 +358,8 @@ static int shows_island(size_t n) {
     generate_lend_exactly(&surface);
     int right = agree(&surface) && said.number == 0 && said.loops == 1 && said.vertices == n && said.corners == 0;
     is_rim(ours.rings + GUARD, 0, n, &right);
-    if (!right) printf("island of %zu: answered %zu, %zu, state %d\n", n, said.number, said.place, ours.states[GUARD]);
+    right = right && left(0).first == 0 && left(0).piece == 0;
+    if (!right) printf("island of %zu: answered %zu, %zu, state %" PRIu64 "\n", n, said.number, said.place, left(0).state);
     return right;
 }
 
@@ -320,13 +375,15 @@ static int shows_hole(size_t n, size_t edges) {
     surface.word_count = 3 * (n + edges);
     generate_lend_exactly(&surface);
     size_t laid = n > REFERENCE_LONGEST_LOOP ? 0 : n - 2;
-    int right = agree(&surface) && said.number == 0 && said.loops == 2 && said.vertices == n + edges && said.corners == 3 * laid && ours.lengths[GUARD] == n && ours.states[GUARD] == (laid == 0 ? 2 : 1) && ours.weights[GUARD] == 0;
+    int right = agree(&surface) && said.number == 0 && said.loops == 2 && said.vertices == n + edges && said.corners == 3 * laid && left(0).length == n && left(0).state == (laid == 0 ? 2 : 1) && left(0).weight == 0;
     is_rim(ours.rings + GUARD + n, 1, edges, &right);
+    /* the hole's points lie in one place; the frame's at two places in turn, 60,000 apart, but for the last and the first where they are odd */
+    right = right && left(0).first == 0 && left(0).run == 0 && left(0).piece == 0 && left(1).piece == 0 && left(1).run == 60000 * (edges - edges % 2);
     for (size_t t = 0; t < laid; t++) {
         const uint16_t *patch = ours.patches + GUARD + 3 * t;
         right = right && patch[0] == t && patch[1] == n - 1 && patch[2] == t + 1;
     }
-    if (!right) printf("hole of %zu in a rim of %zu: answered %zu, %zu, states %d, %d\n", n, edges, said.number, said.place, ours.states[GUARD], ours.states[GUARD + 1]);
+    if (!right) printf("hole of %zu in a rim of %zu: answered %zu, %zu, states %d, %d\n", n, edges, said.number, said.place, (int)left(0).state, (int)left(1).state);
     return right;
 }
 
@@ -335,6 +392,26 @@ static size_t compare_lengths(void) {
     size_t wrong = 0;
     for (size_t n = 3; n <= REFERENCE_LONGEST_LOOP + 2; n++) wrong += !shows_island(n) + !shows_hole(n, 3) + !shows_hole(3, n) + !shows_hole(n, n);
     return wrong;
+}
+
+/* A strip over all points there may be, whose rim has them all and joins one end of the plate with the other at every edge: no run is
+   greater. */
+static size_t compare_longest(void) {
+    static struct generated_surface surface;
+    size_t points = REFERENCE_MOST_POINTS;
+    surface.pitch = 1;
+    surface.word_count = 3 * points;
+    surface.corner_count = 0;
+    for (size_t p = 0; p < points; p++) {
+        int32_t at = p % 4 == 0 || p % 4 == 3 ? -REFERENCE_GREATEST_COORDINATE : REFERENCE_GREATEST_COORDINATE;
+        for (size_t axis = 0; axis < 3; axis++) surface.words[3 * p + axis] = sheet_word(at);
+    }
+    for (size_t p = 0; p + 2 < points; p++) sheet_add_triangle(&surface, p, p + 1 + p % 2, p + 2 - p % 2);
+    generate_lend_exactly(&surface);
+    int right = agree(&surface) && said.number == 0 && said.loops == 1 && said.vertices == points;
+    right = right && left(0).length == points && left(0).state == 4 && left(0).run == points * 3 * 2 * REFERENCE_GREATEST_COORDINATE && left(0).run == 201320448;
+    if (!right) printf("the longest rim: answered %zu, %zu, run %" PRIu64 "\n", said.number, said.place, left(0).run);
+    return !right;
 }
 
 /* Plates with two holes, of which the longer decides how large a table both are given: lengths on either side of each size, the longer
@@ -352,7 +429,7 @@ static size_t compare_pairs(uint64_t seed) {
         if (pair % 16 == 0) fill(&before, sizeof before, &generator);
         int right = agree(&surface) && said.number == 0;
         for (size_t l = 0, holes = 0; right && l < said.loops; l++) {
-            size_t length = ours.lengths[GUARD + l], state = ours.states[GUARD + l];
+            size_t length = (size_t)left(l).length, state = (size_t)left(l).state;
             if (state == 4) continue;
             right = length == (holes == 0 ? first : second) && state == (length > REFERENCE_LONGEST_LOOP ? 2 : shut && length > 3 ? 3 : 1);
             holes++;
@@ -409,7 +486,20 @@ static size_t compare_refusals(uint32_t pitch) {
         generate_lend_exactly(&exact);
         s.lent[b] = exact.lent[b] - 1;
         wrong += !refuses(&s, 3, b + 1);
+        /* records that have room for fewer numbers of a loop than seven */
+        for (size_t numbers = 0; b == 2 && numbers < 7; numbers++) {
+            s.lent[b] = numbers * (s.corner_count / 3);
+            wrong += !refuses(&s, 3, 3);
+        }
+        s.lent[b] = exact.lent[b];
+    }
+    /* of two that are short the first is told */
+    for (size_t b = 0; b + 1 < GENERATE_BUFFERS; b++) {
+        s.lent[b]--;
+        s.lent[b + 1]--;
+        wrong += !refuses(&s, 3, b + 1);
         s.lent[b]++;
+        s.lent[b + 1]++;
     }
     wrong += !refuses(&s, 4, 5);
     s.corners[5] = 3;
@@ -448,7 +538,7 @@ int main(int count, char **arguments) {
         for (size_t i = 0; i < named; i++) wrong += (p == 0 || !is_far(&examples[i])) && !shows(&examples[i], p);
         for (size_t i = 0; i < closed_in; i++) wrong += !shows_holes(&holes[i], p);
     }
-    wrong += compare_lengths() + compare_pairs(seed);
+    wrong += compare_lengths() + compare_longest() + compare_pairs(seed);
     wrong += compare_made(many, seed);
     wrong += count < 2 && !met_all();
     for (size_t n = 4; n <= REFERENCE_LONGEST_LOOP; n++) barred_loops += barred[n];
@@ -456,6 +546,9 @@ int main(int count, char **arguments) {
     printf("loops made by state: 1: %zu 2: %zu 3: %zu 4: %zu; barred by a patch: %zu; by answer:", by_state[1], by_state[2], by_state[3], by_state[4], barred_loops);
     for (int n = 0; n <= HIGHEST; n++)
         if (n <= 8 || n == 17) printf(" %d: %zu", n, by_answer[n]);
+    printf("; short buffers:");
+    for (size_t b = 1; b <= GENERATE_BUFFERS; b++) printf(" %zu: %zu", b, by_buffer[b]);
+    printf("; made loops in later pieces: %zu, listed from a smaller half-edge than the one before: %zu, not from their smallest: %zu", later_pieces, turning_back, not_smallest);
     printf("; made loops with a weight by pitch:");
     for (size_t p = 0; p < PITCHES; p++) printf(" %" PRId32 ": %zu", pitches[p], weighed[p]);
     printf("\n");

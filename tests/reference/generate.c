@@ -842,25 +842,35 @@ void generate_lend_exactly(struct generated_surface *surface)
     size_t triangles = surface->corner_count / 3;
     surface->lent[0] = surface->word_count;
     surface->lent[1] = 3 * triangles;
-    surface->lent[2] = triangles;
-    surface->lent[3] = triangles;
-    surface->lent[4] = triangles;
-    surface->lent[5] = 9 * triangles;
+    surface->lent[2] = REFERENCE_RECORD * triangles;
+    surface->lent[3] = 9 * triangles;
+    surface->lengths_lent = triangles;
 }
 
-/* Lends some buffers too long, and at times some too short by one or empty. */
+/* Lends a buffer too long, or, where some are to be short, at times too short by one or empty. */
+static void lend_otherwise(struct generator *generator, size_t *length, int shortage)
+{
+    if (chance(generator, 3)) {
+        *length += between(generator, 1, 5);
+    } else if (shortage && chance(generator, 3)) {
+        *length -= *length > 0 ? 1 : 0;
+    } else if (shortage && chance(generator, 6)) {
+        *length = 0;
+    }
+}
+
+/* Lends some buffers too long, and at times some too short; of records also so
+   many that one or more of their numbers has no room for any loop. */
 static void lend(struct generator *generator, struct generated_surface *surface)
 {
     int shortage = chance(generator, 6);
     generate_lend_exactly(surface);
     for (size_t b = 0; b < GENERATE_BUFFERS; b++) {
-        if (chance(generator, 3)) {
-            surface->lent[b] += between(generator, 1, 5);
-        } else if (shortage && chance(generator, 3)) {
-            surface->lent[b] -= surface->lent[b] > 0 ? 1 : 0;
-        } else if (shortage && chance(generator, 6)) {
-            surface->lent[b] = 0;
-        }
+        lend_otherwise(generator, &surface->lent[b], shortage);
+    }
+    lend_otherwise(generator, &surface->lengths_lent, shortage);
+    if (shortage && chance(generator, 6)) {
+        surface->lent[2] = between(generator, 1, REFERENCE_RECORD - 1) * (surface->corner_count / 3);
     }
 }
 

@@ -13,14 +13,16 @@
 #define GENERATE_SET_ROOM 9240
 #define GENERATE_TEXT_ROOM 98304
 #define GENERATE_STL_ROOM 51984
-#define GENERATE_BUFFERS 6
+#define GENERATE_BUFFERS 4
 
 struct generator {
     uint64_t state;
 };
 
-/* A surface with its pitch, and how long each of the patcher's six buffers is
-   lent (the checker and the survey are lent the first three). */
+/* A surface with its pitch, and how long each of the patcher's four buffers is
+   lent: grid, ring vertices, loop records, patch corners. The checker and the
+   survey are lent the first two as well, and for their third, ring lengths,
+   there is a length of its own. */
 struct generated_surface {
     uint32_t pitch;
     uint32_t words[GENERATE_WORD_ROOM];
@@ -28,6 +30,7 @@ struct generated_surface {
     uint16_t corners[GENERATE_CORNER_ROOM];
     size_t corner_count;
     size_t lent[GENERATE_BUFFERS];
+    size_t lengths_lent;
 };
 
 /* A patch set: states, and corners in one flat list. */

@@ -58,8 +58,7 @@ struct desk {
     int32_t grid[REFERENCE_MOST_WORDS];
     uint16_t rings[REFERENCE_MOST_CORNERS];
     uint16_t lengths[REFERENCE_MOST_TRIANGLES];
-    uint16_t states[REFERENCE_MOST_TRIANGLES];
-    uint64_t weights[REFERENCE_MOST_TRIANGLES];
+    uint64_t records[REFERENCE_MOST_RECORDS];
     uint16_t patches[REFERENCE_MOST_PATCH_CORNERS];
     uint8_t text[REFERENCE_LONGEST_TEXT];
 };
@@ -82,6 +81,25 @@ static void print_list(FILE *out, const char *key, const uint16_t *values, size_
     fputs("\n", out);
 }
 
+static void print_number(FILE *out, const char *before, uint64_t number)
+{
+    fprintf(out, "%s%llu", before, (unsigned long long)number);
+}
+
+/* "The record kept for a loop must carry its first half-edge, its piece number
+   [...] and its run, beside length, state and weight. The listing's `loop=`
+   line gains the three at its end in that order." */
+static void print_record(FILE *out, size_t loop)
+{
+    print_number(out, "loop=", reference_kept(desk.records, loop, REFERENCE_LENGTH));
+    print_number(out, ",", reference_kept(desk.records, loop, REFERENCE_STATE));
+    print_number(out, ",", reference_kept(desk.records, loop, REFERENCE_WEIGHT));
+    print_number(out, ",", reference_kept(desk.records, loop, REFERENCE_FIRST));
+    print_number(out, ",", reference_kept(desk.records, loop, REFERENCE_PIECE));
+    print_number(out, ",", reference_kept(desk.records, loop, REFERENCE_RUN));
+    fputs("\n", out);
+}
+
 /* "then `loops=`, and for each loop `loop=length,state,weight`, `ring=` its
    vertices, and one `patch=` line for each triangle." */
 static void print_loops(FILE *out, size_t loops)
@@ -90,12 +108,12 @@ static void print_loops(FILE *out, size_t loops)
     const uint16_t *patch = desk.patches;
     fprintf(out, "loops=%zu\n", loops);
     for (size_t loop = 0; loop < loops; loop++) {
-        size_t length = desk.lengths[loop];
-        fprintf(out, "loop=%zu,%u,%llu\n", length, (unsigned)desk.states[loop],
-                (unsigned long long)desk.weights[loop]);
+        size_t length = reference_kept(desk.records, loop, REFERENCE_LENGTH);
+        int patched = reference_kept(desk.records, loop, REFERENCE_STATE) == 1;
+        print_record(out, loop);
         print_list(out, "ring=", ring, length);
         ring += length;
-        for (size_t t = 0; desk.states[loop] == 1 && t < length - 2; t++) {
+        for (size_t t = 0; patched && t < length - 2; t++) {
             print_list(out, "patch=", patch, 3);
             patch += 3;
         }
@@ -106,8 +124,7 @@ static void patch_desk(const struct reference_read_answer *sheet, struct referen
 {
     reference_patch(desk.words, sheet->words, desk.corners, sheet->corners,
                     desk.grid, REFERENCE_MOST_WORDS, desk.rings, REFERENCE_MOST_CORNERS,
-                    desk.lengths, REFERENCE_MOST_TRIANGLES, desk.states, REFERENCE_MOST_TRIANGLES,
-                    desk.weights, REFERENCE_MOST_TRIANGLES, desk.patches, REFERENCE_MOST_PATCH_CORNERS,
+                    desk.records, REFERENCE_MOST_RECORDS, desk.patches, REFERENCE_MOST_PATCH_CORNERS,
                     (uint32_t)sheet->pitch, answer);
 }
 
@@ -330,8 +347,10 @@ static void own_set(const struct generated_surface *surface, struct generated_se
     struct reference_patch_answer answer;
     reference_patch(surface->words, surface->word_count, surface->corners, surface->corner_count,
                     desk.grid, REFERENCE_MOST_WORDS, desk.rings, REFERENCE_MOST_CORNERS,
-                    desk.lengths, REFERENCE_MOST_TRIANGLES, set->states, REFERENCE_MOST_TRIANGLES,
-                    desk.weights, REFERENCE_MOST_TRIANGLES, set->corners, REFERENCE_MOST_PATCH_CORNERS, surface->pitch, &answer);
+                    desk.records, REFERENCE_MOST_RECORDS, set->corners, REFERENCE_MOST_PATCH_CORNERS, surface->pitch, &answer);
+    for (size_t loop = 0; loop < answer.loops; loop++) {
+        set->states[loop] = (uint16_t)reference_kept(desk.records, loop, REFERENCE_STATE);
+    }
     set->state_count = answer.loops;
     set->corner_count = answer.corners;
 }
@@ -396,14 +415,14 @@ static int make_cases(const char *directory, unsigned count, uint64_t seed)
 #define TIP "p=40800000,40800000,41100000\n"
 #define CONE "triangles=4\nt=0,1,4\nt=1,2,4\nt=2,3,4\nt=3,0,4\n"
 #define ONE_PATCHED "states=1\ns=1\ntriangles=2\n"
-#define ONE_RIM "answer=0,0\nloops=1\nloop=4,4,0\nring=0,1,2,3\n"
+#define ONE_RIM(run) "answer=0,0\nloops=1\nloop=4,4,0,0,0," #run "\nring=0,1,2,3\n"
 
 /* The same rings closed in by a triangle of the points 4, 5 and 6: (-50,-50,0), (100,-50,0) and (-50,100,0). */
 #define FRAME "p=c2480000,c2480000,00000000\np=42c80000,c2480000,00000000\np=c2480000,42c80000,00000000\n"
 #define COLLAR "t=0,1,4\nt=5,4,1\nt=1,2,5\nt=2,3,5\nt=6,5,3\nt=3,0,6\nt=4,6,0\n"
 #define HOLE_PATCHED "states=2\ns=1\ns=4\ntriangles=2\n"
-#define HOLE_LIST(weight) "answer=0,0\nloops=2\nloop=4,1," #weight "\nring=0,1,2,3\n"
-#define FRAME_LIST "loop=3,4,0\nring=5,4,6\n"
+#define HOLE_LIST(weight, run) "answer=0,0\nloops=2\nloop=4,1," #weight ",0,0," #run "\nring=0,1,2,3\n"
+#define FRAME_LIST "loop=3,4,0,3,0,600\nring=5,4,6\n"
 #define HOLE_IN_RIM "points=7\n" RIM FRAME "triangles=7\n" COLLAR
 
 /* A sheet text, the set text judged against it (NULL where none is), what is
@@ -418,42 +437,44 @@ struct example {
 /* The scope's sheets, whose loops are rims: what is wrong with a set stays unsaid there. Then the same as holes. */
 static const struct example examples[] = {
     {"points=3\n" ORIGIN "p=3f800000,00000000,00000000\np=00000000,3f800000,00000000\ntriangles=1\nt=0,1,2\n",
-     NULL, "answer=0,0\nloops=1\nloop=3,4,0\nring=0,1,2\n", "answer=10,7\n"},
+     NULL, "answer=0,0\nloops=1\nloop=3,4,0,0,0,4\nring=0,1,2\n", "answer=10,7\n"},
     {"points=0\ntriangles=0\n", "states=0\ntriangles=0\n", "answer=0,0\nloops=0\n", "answer=0,0\n"},
     {FIVE_ORIGINS "triangles=2\nt=0,1,2\nt=0,1,3\n", "", "answer=6,3\n", "answer=10,10\n"},
     {FIVE_ORIGINS "triangles=1\nt=0,0,1\n", "states=0\ntriangles=0\n", "answer=5,0\n", "answer=5,0\n"},
     {FIVE_ORIGINS "triangles=2\nt=0,1,2\nt=0,3,4\n", "states=0\ntriangles=0\n",
-     "answer=0,0\nloops=2\nloop=3,4,0\nring=0,1,2\nloop=3,4,0\nring=0,3,4\n", "answer=9,2\n"},
+     "answer=0,0\nloops=2\nloop=3,4,0,0,0,0\nring=0,1,2\nloop=3,4,0,3,1,0\nring=0,3,4\n", "answer=9,2\n"},
     {FIVE_ORIGINS "triangles=4\nt=0,1,2\nt=2,1,3\nt=2,3,4\nt=4,3,0\n",
      "states=2\ns=4\ns=1\ntriangles=1\nt=0,2,4\n",
-     "answer=0,0\nloops=2\nloop=3,4,0\nring=0,1,3\nloop=3,1,0\nring=0,4,2\npatch=0,2,4\n",
+     "answer=0,0\nloops=2\nloop=3,4,0,0,0,0\nring=0,1,3\nloop=3,1,0,11,0,0\nring=0,4,2\npatch=0,2,4\n",
      "answer=0,0\n"},
-    {"points=4\n" SQUARE "triangles=2\nt=0,1,2\nt=0,2,3\n", ONE_PATCHED "t=0,3,2\nt=0,2,1\n", ONE_RIM, "answer=11,0\n"},
-    {"points=5\n" RIM TIP CONE, ONE_PATCHED "t=3,2,0\nt=2,1,0\n", ONE_RIM, "answer=11,0\n"},
+    {"points=4\n" SQUARE "triangles=2\nt=0,1,2\nt=0,2,3\n", ONE_PATCHED "t=0,3,2\nt=0,2,1\n", ONE_RIM(48), "answer=11,0\n"},
+    {"points=5\n" RIM TIP CONE, ONE_PATCHED "t=3,2,0\nt=2,1,0\n", ONE_RIM(40), "answer=11,0\n"},
     {"points=5\n" RIM TIP CONE, "states=1\ns=4\ntriangles=0\n", NULL, "answer=0,0\n"},
-    {"points=5\n" SQUARE TIP CONE, ONE_PATCHED "t=0,3,2\nt=0,2,1\n", ONE_RIM, "answer=11,0\n"},
+    {"points=5\n" SQUARE TIP CONE, ONE_PATCHED "t=0,3,2\nt=0,2,1\n", ONE_RIM(48), "answer=11,0\n"},
     {FIVE_ORIGINS "triangles=3\nt=0,1,2\nt=0,2,3\nt=1,3,4\n",
      "states=2\ns=4\ns=4\ntriangles=1\nt=0,0,0\n",
-     "answer=0,0\nloops=2\nloop=4,4,0\nring=0,1,2,3\nloop=3,4,0\nring=1,3,4\n", "answer=15,0\n"},
+     "answer=0,0\nloops=2\nloop=4,4,0,0,0,0\nring=0,1,2,3\nloop=3,4,0,6,1,0\nring=1,3,4\n", "answer=15,0\n"},
 
     {"points=8\n" SQUARE FRAME TIP "triangles=9\n" COLLAR "t=0,2,7\nt=0,7,2\n", HOLE_PATCHED "t=0,3,2\nt=0,2,1\n",
-     HOLE_LIST(280) "patch=0,3,1\npatch=1,3,2\n" FRAME_LIST, "answer=13,0\n"},
+     HOLE_LIST(280, 48) "patch=0,3,1\npatch=1,3,2\n" FRAME_LIST, "answer=13,0\n"},
     {"points=7\n" RIM FRAME "triangles=7\n" COLLAR, HOLE_PATCHED "t=3,2,0\nt=2,1,0\n",
-     HOLE_LIST(60) "patch=0,3,2\npatch=0,2,1\n" FRAME_LIST, "answer=0,0\n"},
+     HOLE_LIST(60, 40) "patch=0,3,2\npatch=0,2,1\n" FRAME_LIST, "answer=0,0\n"},
     {"points=7\n" RIM FRAME "triangles=7\n" COLLAR, HOLE_PATCHED "t=0,3,1\nt=1,3,2\n", NULL, "answer=14,0\n"},
     {"points=7\n" RIM FRAME "triangles=7\n" COLLAR, HOLE_PATCHED "t=0,2,3\nt=0,2,1\n", NULL, "answer=12,0\n"},
     {"points=7\n" SQUARE FRAME "triangles=7\n" COLLAR, HOLE_PATCHED "t=0,3,2\nt=0,2,1\n",
-     HOLE_LIST(280) "patch=0,3,1\npatch=1,3,2\n" FRAME_LIST, "answer=0,0\n"},
+     HOLE_LIST(280, 48) "patch=0,3,1\npatch=1,3,2\n" FRAME_LIST, "answer=0,0\n"},
     {"points=8\n" SQUARE FRAME TIP "triangles=9\n" COLLAR "t=0,2,7\nt=1,3,7\n", "states=4\ns=3\ns=4\ns=4\ns=4\ntriangles=0\n",
-     "answer=0,0\nloops=4\nloop=4,3,0\nring=0,1,2,3\n" FRAME_LIST "loop=3,4,0\nring=0,2,7\nloop=3,4,0\nring=1,3,7\n",
+     "answer=0,0\nloops=4\nloop=4,3,0,0,0,48\nring=0,1,2,3\n" FRAME_LIST "loop=3,4,0,21,1,58\nring=0,2,7\nloop=3,4,0,24,2,58\nring=1,3,7\n",
      "answer=0,0\n"},
 
     /* The lighter cover's point (3,3,0) goes to (4,4,0), (5,5,0) and (0,0,0): at 5 the covers weigh the same, at 10 one weighs nothing. */
-    {"pitch=2\n" HOLE_IN_RIM, HOLE_PATCHED "t=3,2,0\nt=2,1,0\n", HOLE_LIST(80) "patch=0,3,2\npatch=0,2,1\n" FRAME_LIST, "answer=0,0\n"},
+    {"pitch=2\n" HOLE_IN_RIM, HOLE_PATCHED "t=3,2,0\nt=2,1,0\n", HOLE_LIST(80, 40) "patch=0,3,2\npatch=0,2,1\n" FRAME_LIST, "answer=0,0\n"},
     {"pitch=2\n" HOLE_IN_RIM, HOLE_PATCHED "t=0,3,1\nt=1,3,2\n", NULL, "answer=14,0\n"},
-    {"pitch=5\n" HOLE_IN_RIM, HOLE_PATCHED "t=3,2,0\nt=2,1,0\n", HOLE_LIST(100) "patch=0,3,1\npatch=1,3,2\n" FRAME_LIST, "answer=0,0\n"},
+    {"pitch=5\n" HOLE_IN_RIM, HOLE_PATCHED "t=3,2,0\nt=2,1,0\n", HOLE_LIST(100, 40) "patch=0,3,1\npatch=1,3,2\n" FRAME_LIST,
+     "answer=0,0\n"},
     {"pitch=5\n" HOLE_IN_RIM, HOLE_PATCHED "t=0,3,1\nt=1,3,2\n", NULL, "answer=0,0\n"},
-    {"pitch=10\n" HOLE_IN_RIM, HOLE_PATCHED "t=0,3,1\nt=1,3,2\n", HOLE_LIST(0) "patch=0,3,2\npatch=0,2,1\n" FRAME_LIST, "answer=14,0\n"},
+    {"pitch=10\n" HOLE_IN_RIM, HOLE_PATCHED "t=0,3,1\nt=1,3,2\n", HOLE_LIST(0, 40) "patch=0,3,2\npatch=0,2,1\n" FRAME_LIST,
+     "answer=14,0\n"},
     /* The sheet has 16 lines, or 17: the set's lines are counted on from there. */
     {HOLE_IN_RIM, "states=2\ns=1\ns=x\n", NULL, "answer=10,19\n"},
     {"pitch=10\n" HOLE_IN_RIM, "states=2\ns=1\ns=x\n", NULL, "answer=10,20\n"},

@@ -10,11 +10,14 @@ struct finding {
     size_t place;
 };
 
-/* What is known of a surface that has no refusal. */
+/* What is known of a surface that has no refusal: its grid, and of each loop
+   its ring, its length, the half-edge it is listed from, and whether it is a
+   rim. */
 struct survey {
     int32_t grid[REFERENCE_MOST_WORDS];
     uint16_t rings[REFERENCE_MOST_CORNERS];
     uint16_t lengths[REFERENCE_MOST_TRIANGLES];
+    size_t firsts[REFERENCE_MOST_TRIANGLES];
     unsigned char rims[REFERENCE_MOST_TRIANGLES];
     size_t loops;
     size_t vertices;
@@ -170,9 +173,11 @@ static size_t next_open(const uint16_t *corners, size_t corner_count, size_t h)
 
 /* ---- Loops ---- */
 
-/* "that is a loop, listed now, from that edge." Its vertices are the starts of its edges. */
+/* "that is a loop, listed now, from that edge." Its vertices are the starts of
+   its edges, and its first half-edge is that edge. */
 static void list_loop(struct survey *survey, const uint16_t *corners, const size_t *edges, size_t count)
 {
+    survey->firsts[survey->loops] = edges[0];
     for (size_t e = 0; e < count; e++) {
         survey->rings[survey->vertices] = reference_start(corners, edges[e]);
         survey->vertices += 1;
@@ -334,15 +339,9 @@ static struct finding find_wrong_counts(size_t word_count, size_t corner_count)
     return found(0, 0);
 }
 
-/* "a lent buffer is too short": "its number, lowest first". "Lent buffers, in
-   order, for W words and T triangles: 1 grid (signed 32-bit, at least W), 2
-   ring vertices (3T), 3 ring lengths (T), 4 states (T), 5 weights (64-bit, T),
-   6 patch corners (9T)." */
-static struct finding find_short_buffer(size_t word_count, size_t corner_count,
-                                        const size_t *lent, size_t buffers)
+/* "a lent buffer is too short": "its number, lowest first". */
+static struct finding find_short_buffer(const size_t *needed, const size_t *lent, size_t buffers)
 {
-    size_t triangles = corner_count / 3;
-    size_t needed[6] = {word_count, 3 * triangles, triangles, triangles, triangles, 9 * triangles};
     for (size_t b = 0; b < buffers; b++) {
         if (lent[b] < needed[b]) {
             return found(3, b + 1);
@@ -396,14 +395,14 @@ static struct finding find_coordinate(const uint32_t *words, size_t word_count, 
    and those from 1 to 8. */
 static struct finding find_refusal(const uint32_t *words, size_t word_count,
                                    const uint16_t *corners, size_t corner_count,
-                                   const size_t *lent, size_t buffers, uint32_t pitch)
+                                   const size_t *needed, const size_t *lent, size_t buffers, uint32_t pitch)
 {
     struct finding finding = find_wrong_pitch(pitch);
     if (finding.number == 0) {
         finding = find_wrong_counts(word_count, corner_count);
     }
     if (finding.number == 0) {
-        finding = find_short_buffer(word_count, corner_count, lent, buffers);
+        finding = find_short_buffer(needed, lent, buffers);
     }
     if (finding.number == 0) {
         finding = find_unnamed(word_count, corners, corner_count);
@@ -438,8 +437,7 @@ static void take_survey(struct survey *survey, const uint32_t *words, size_t wor
 
 /* "Each is written from its start, grid wholly, the rest as far as used;
    everything after that stays." */
-static void hand_out_survey(const struct survey *survey, size_t word_count,
-                            int32_t *grid, uint16_t *rings, uint16_t *lengths)
+static void hand_out_grid(const struct survey *survey, size_t word_count, int32_t *grid, uint16_t *rings)
 {
     for (size_t w = 0; w < word_count; w++) {
         grid[w] = survey->grid[w];
@@ -447,9 +445,29 @@ static void hand_out_survey(const struct survey *survey, size_t word_count,
     for (size_t v = 0; v < survey->vertices; v++) {
         rings[v] = survey->rings[v];
     }
+}
+
+static void hand_out_survey(const struct survey *survey, size_t word_count,
+                            int32_t *grid, uint16_t *rings, uint16_t *lengths)
+{
+    hand_out_grid(survey, word_count, grid, rings);
     for (size_t l = 0; l < survey->loops; l++) {
         lengths[l] = survey->lengths[l];
     }
+}
+
+/* "The checker is lent buffers 1 to 3": "1 grid (signed 32-bit, at least W), 2
+   ring vertices (3T), 3 ring lengths (T)". "The checker's three buffers stay
+   as they were." So are those of the survey. */
+static struct finding find_survey_refusal(const uint32_t *words, size_t word_count,
+                                          const uint16_t *corners, size_t corner_count,
+                                          size_t grid_length, size_t rings_length, size_t lengths_length,
+                                          uint32_t pitch)
+{
+    size_t triangles = corner_count / 3;
+    const size_t needed[3] = {word_count, 3 * triangles, triangles};
+    const size_t lent[3] = {grid_length, rings_length, lengths_length};
+    return find_refusal(words, word_count, corners, corner_count, needed, lent, 3, pitch);
 }
 
 void reference_survey(const uint32_t *words, size_t word_count,
@@ -459,8 +477,8 @@ void reference_survey(const uint32_t *words, size_t word_count,
                       uint16_t *lengths, size_t lengths_length, uint32_t pitch,
                       struct reference_answer *answer)
 {
-    const size_t lent[3] = {grid_length, rings_length, lengths_length};
-    struct finding refusal = find_refusal(words, word_count, corners, corner_count, lent, 3, pitch);
+    struct finding refusal = find_survey_refusal(words, word_count, corners, corner_count,
+                                                 grid_length, rings_length, lengths_length, pitch);
     *answer = (struct reference_answer){refusal.number, refusal.place, 0, 0};
     if (refusal.number != 0) {
         return;
@@ -640,19 +658,53 @@ static void patch_loops(const struct survey *survey, const uint16_t *corners, si
     }
 }
 
+/* "The record kept for a loop must carry its first half-edge, its piece number
+   (from 0, in the order of their smallest triangles) and its run, beside
+   length, state and weight." "a loop record as length, state, weight, count (0
+   in edition 1), first half-edge, piece, run". A loop lies in one piece, that
+   of its first half-edge's triangle. */
+static void hand_out_records(const struct survey *survey, const struct run *run,
+                             const uint16_t *corners, size_t corner_count, uint64_t *records)
+{
+    uint16_t pieces[REFERENCE_MOST_TRIANGLES];
+    const uint16_t *ring = survey->rings;
+    reference_pieces(corners, corner_count, pieces);
+    for (size_t l = 0; l < survey->loops; l++) {
+        size_t length = survey->lengths[l];
+        uint64_t *record = records + REFERENCE_RECORD * l;
+        record[REFERENCE_LENGTH] = length;
+        record[REFERENCE_STATE] = run->states[l];
+        record[REFERENCE_WEIGHT] = run->weights[l];
+        record[REFERENCE_COUNT] = 0;
+        record[REFERENCE_FIRST] = survey->firsts[l];
+        record[REFERENCE_PIECE] = pieces[survey->firsts[l] / 3];
+        record[REFERENCE_RUN] = (uint64_t)reference_run(survey->grid, ring, length);
+        ring += length;
+    }
+}
+
+uint64_t reference_kept(const uint64_t *records, size_t loop, size_t number)
+{
+    return records[REFERENCE_RECORD * loop + number];
+}
+
+/* "Lent buffers, in order, for W words and T triangles: 1 grid (signed 32-bit,
+   at least W), 2 ring vertices (3T)". "The patcher's buffers 3 to 5 become one
+   buffer of loop records, number 3; patch corners become number 4", of which
+   there are 9T. There are at most T loops, so the records are T, of seven
+   64-bit numbers each. */
 void reference_patch(const uint32_t *words, size_t word_count,
                      const uint16_t *corners, size_t corner_count,
                      int32_t *grid, size_t grid_length,
                      uint16_t *rings, size_t rings_length,
-                     uint16_t *lengths, size_t lengths_length,
-                     uint16_t *states, size_t states_length,
-                     uint64_t *weights, size_t weights_length,
+                     uint64_t *records, size_t records_length,
                      uint16_t *patches, size_t patches_length, uint32_t pitch,
                      struct reference_patch_answer *answer)
 {
-    const size_t lent[6] = {grid_length, rings_length, lengths_length,
-                            states_length, weights_length, patches_length};
-    struct finding refusal = find_refusal(words, word_count, corners, corner_count, lent, 6, pitch);
+    size_t triangles = corner_count / 3;
+    const size_t needed[4] = {word_count, 3 * triangles, 7 * triangles, 9 * triangles};
+    const size_t lent[4] = {grid_length, rings_length, records_length, patches_length};
+    struct finding refusal = find_refusal(words, word_count, corners, corner_count, needed, lent, 4, pitch);
     *answer = (struct reference_patch_answer){refusal.number, refusal.place, 0, 0, 0};
     if (refusal.number != 0) {
         return;
@@ -661,11 +713,8 @@ void reference_patch(const uint32_t *words, size_t word_count,
     struct run run;
     take_survey(&survey, words, word_count, corners, corner_count, pitch);
     patch_loops(&survey, corners, corner_count, &run);
-    hand_out_survey(&survey, word_count, grid, rings, lengths);
-    for (size_t l = 0; l < survey.loops; l++) {
-        states[l] = run.states[l];
-        weights[l] = run.weights[l];
-    }
+    hand_out_grid(&survey, word_count, grid, rings);
+    hand_out_records(&survey, &run, corners, corner_count, records);
     for (size_t c = 0; c < run.corners; c++) {
         patches[c] = run.patches[c];
     }
@@ -809,8 +858,7 @@ static struct finding judge_set(const struct survey *survey,
     return found(0, 0);
 }
 
-/* "The checker is lent buffers 1 to 3 and leaves the same there, whatever its
-   verdict from 0 or 11 to 15." */
+/* "leaves the same there, whatever its verdict from 0 or 11 to 15." */
 void reference_check(const uint32_t *words, size_t word_count,
                      const uint16_t *corners, size_t corner_count,
                      const uint16_t *states, size_t state_count,
@@ -820,8 +868,8 @@ void reference_check(const uint32_t *words, size_t word_count,
                      uint16_t *lengths, size_t lengths_length, uint32_t pitch,
                      struct reference_answer *answer)
 {
-    const size_t lent[3] = {grid_length, rings_length, lengths_length};
-    struct finding refusal = find_refusal(words, word_count, corners, corner_count, lent, 3, pitch);
+    struct finding refusal = find_survey_refusal(words, word_count, corners, corner_count,
+                                                 grid_length, rings_length, lengths_length, pitch);
     *answer = (struct reference_answer){refusal.number, refusal.place, 0, 0};
     if (refusal.number != 0) {
         return;

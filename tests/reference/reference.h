@@ -20,6 +20,20 @@
 #define REFERENCE_STL_FRONT 84
 #define REFERENCE_STL_FACET 50
 
+/* What the record of a loop has, in this order, and how many numbers these are. */
+enum {
+    REFERENCE_LENGTH,
+    REFERENCE_STATE,
+    REFERENCE_WEIGHT,
+    REFERENCE_COUNT,
+    REFERENCE_FIRST,
+    REFERENCE_PIECE,
+    REFERENCE_RUN,
+    REFERENCE_RECORD
+};
+
+#define REFERENCE_MOST_RECORDS (REFERENCE_RECORD * REFERENCE_MOST_TRIANGLES)
+
 /* What stands for "no such half-edge" and for "no allowed cover". */
 #define REFERENCE_NO_EDGE ((size_t)-1)
 #define REFERENCE_NO_COVER ((int64_t)-1)
@@ -96,16 +110,18 @@ void reference_survey(const uint32_t *words, size_t word_count,
                       uint16_t *lengths, size_t lengths_length, uint32_t pitch,
                       struct reference_answer *answer);
 
-/* The patcher with its six buffers. */
+/* The patcher with its four buffers. The loops' records lie one after the
+   other, in listed order. */
 void reference_patch(const uint32_t *words, size_t word_count,
                      const uint16_t *corners, size_t corner_count,
                      int32_t *grid, size_t grid_length,
                      uint16_t *rings, size_t rings_length,
-                     uint16_t *lengths, size_t lengths_length,
-                     uint16_t *states, size_t states_length,
-                     uint64_t *weights, size_t weights_length,
+                     uint64_t *records, size_t records_length,
                      uint16_t *patches, size_t patches_length, uint32_t pitch,
                      struct reference_patch_answer *answer);
+
+/* One number of a loop's record: REFERENCE_LENGTH to REFERENCE_RUN. */
+uint64_t reference_kept(const uint64_t *records, size_t loop, size_t number);
 
 /* The checker: the set is state_count states and set_count corners. */
 void reference_check(const uint32_t *words, size_t word_count,

@@ -13,7 +13,8 @@
 
 enum tally {
     TALLY_PATCHED, TALLY_LOOPS, TALLY_HOLES, TALLY_LONG, TALLY_NO_COVER, TALLY_RIMS, TALLY_LONG_RIMS, TALLY_EQUAL_RUNS,
-    TALLY_SHORTER_RIMS, TALLY_PIECES, TALLY_CLOSED_PIECES, TALLY_SPLIT, TALLY_ENUMERATED,
+    TALLY_SHORTER_RIMS, TALLY_PIECES, TALLY_CLOSED_PIECES, TALLY_BEHIND_CLOSED, TALLY_SPLIT, TALLY_LATER_FIRST, TALLY_GREATER_FIRST,
+    TALLY_SHORT_RECORDS, TALLY_ENUMERATED,
     TALLY_IS_NO_COVER, TALLY_IS_COVER, TALLY_VERDICT, TALLY_RIM_REFUSED, TALLY_HOLE_NO_RIM, TALLY_READ, TALLY_WRONG_LINE,
     TALLY_FILES_READ, TALLY_JOINED, TALLY_MISFITS, TALLY_MANY_FACETS, TALLY_MANY_POINTS,
     TALLY_COARSE, TALLY_COARSE_HOLES, TALLY_COARSE_WEIGHED, TALLY_COARSE_READ, TALLY_COARSE_WRONG_LINE, TALLY_COARSE_TIES, TALLY_COARSE_FAR,
@@ -23,7 +24,9 @@ enum tally {
 static const char *const tally_names[TALLIES] = {
     "surfaces patched", "loops", "loops of state 1", "loops of state 2", "loops of state 3", "loops of state 4",
     "loops of state 4 that are long", "loops whose run is their rim's", "loops of more edges than their rim",
-    "pieces", "pieces without a loop", "cycles of several loops",
+    "pieces", "pieces without a loop", "loops in a piece that is numbered behind one without a loop", "cycles of several loops",
+    "loops listed from another half-edge than their cycle is walked from", "loops listed from another half-edge than their smallest",
+    "records that are too short by one for each triangle, or by more",
     "loops compared with all their covers", "lists tested that are no cover", "lists tested that are a cover",
     "verdicts compared with all covers", "verdicts on a rim that is not declared 4",
     "verdicts on a loop that is no rim and declared 4", "texts read and written again", "texts with a wrong line",
@@ -52,6 +55,7 @@ static void expect(int holds, const char *what)
 /* A patcher's buffers with a mark in every place, as long as they can be lent. */
 #define GRID_ROOM (GENERATE_WORD_ROOM + 8)
 #define RING_ROOM (GENERATE_CORNER_ROOM + 8)
+#define RECORD_ROOM (REFERENCE_RECORD * (GENERATE_CORNER_ROOM / 3) + 8)
 #define PATCH_ROOM (3 * GENERATE_CORNER_ROOM + 8)
 #define MARK 0xa5
 #define NO_PIECE 0xffff
@@ -60,10 +64,30 @@ static struct lent {
     int32_t grid[GRID_ROOM];
     uint16_t rings[RING_ROOM];
     uint16_t lengths[RING_ROOM];
-    uint16_t states[RING_ROOM];
-    uint64_t weights[RING_ROOM];
+    uint64_t records[RECORD_ROOM];
     uint16_t patches[PATCH_ROOM];
 } lent, other;
+
+/* What the patcher left of a loop. */
+static size_t length_of(size_t loop)
+{
+    return (size_t)reference_kept(lent.records, loop, REFERENCE_LENGTH);
+}
+
+static size_t state_of(size_t loop)
+{
+    return (size_t)reference_kept(lent.records, loop, REFERENCE_STATE);
+}
+
+static uint64_t weight_of(size_t loop)
+{
+    return reference_kept(lent.records, loop, REFERENCE_WEIGHT);
+}
+
+static size_t first_of(size_t loop)
+{
+    return (size_t)reference_kept(lent.records, loop, REFERENCE_FIRST);
+}
 
 static int is_marked(const void *bytes, size_t used, size_t size)
 {
@@ -76,15 +100,14 @@ static int is_marked(const void *bytes, size_t used, size_t size)
     return 1;
 }
 
-/* "everything after that stays." */
-static void expect_rest_stays(const struct lent *l, size_t words, size_t vertices, size_t loops,
-                              size_t run_loops, size_t corners)
+/* "everything after that stays." The patcher leaves records and the others lengths. */
+static void expect_rest_stays(const struct lent *l, size_t words, size_t vertices, size_t lengths,
+                              size_t records, size_t corners)
 {
     expect(is_marked(l->grid, words * sizeof l->grid[0], sizeof l->grid), "grid is written past its end");
     expect(is_marked(l->rings, 2 * vertices, sizeof l->rings), "rings are written past their end");
-    expect(is_marked(l->lengths, 2 * loops, sizeof l->lengths), "lengths are written past their end");
-    expect(is_marked(l->states, 2 * run_loops, sizeof l->states), "states are written past their end");
-    expect(is_marked(l->weights, 8 * run_loops, sizeof l->weights), "weights are written past their end");
+    expect(is_marked(l->lengths, 2 * lengths, sizeof l->lengths), "lengths are written past their end");
+    expect(is_marked(l->records, 7 * 8 * records, sizeof l->records), "records are written past their end");
     expect(is_marked(l->patches, 2 * corners, sizeof l->patches), "patches are written past their end");
 }
 
@@ -92,9 +115,9 @@ static void patch_lent(const struct generated_surface *s, struct reference_patch
 {
     memset(&lent, MARK, sizeof lent);
     reference_patch(s->words, s->word_count, s->corners, s->corner_count,
-                    lent.grid, s->lent[0], lent.rings, s->lent[1], lent.lengths, s->lent[2],
-                    lent.states, s->lent[3], lent.weights, s->lent[4], lent.patches, s->lent[5], s->pitch, answer);
-    expect_rest_stays(&lent, answer->number == 0 ? s->word_count : 0, answer->vertices, answer->loops,
+                    lent.grid, s->lent[0], lent.rings, s->lent[1], lent.records, s->lent[2],
+                    lent.patches, s->lent[3], s->pitch, answer);
+    expect_rest_stays(&lent, answer->number == 0 ? s->word_count : 0, answer->vertices, 0,
                       answer->loops, answer->corners);
 }
 
@@ -104,7 +127,7 @@ static void check_lent(const struct generated_surface *s, const struct generated
     memset(&other, MARK, sizeof other);
     reference_check(s->words, s->word_count, s->corners, s->corner_count,
                     set->states, set->state_count, set->corners, set->corner_count,
-                    other.grid, s->lent[0], other.rings, s->lent[1], other.lengths, s->lent[2], s->pitch, answer);
+                    other.grid, s->lent[0], other.rings, s->lent[1], other.lengths, s->lengths_lent, s->pitch, answer);
     int judged = answer->number == 0 || (answer->number >= 11 && answer->number <= 15);
     expect_rest_stays(&other, judged ? s->word_count : 0,
                       answer->vertices, answer->loops, 0, 0);
@@ -139,8 +162,8 @@ static void expect_rings(const struct generated_surface *s, size_t loops, size_t
     size_t open = 0;
     memset(met, 0, sizeof met);
     for (size_t loop = 0; loop < loops; loop++) {
-        expect_ring(s, ring, lent.lengths[loop], met);
-        ring += lent.lengths[loop];
+        expect_ring(s, ring, length_of(loop), met);
+        ring += length_of(loop);
     }
     for (size_t h = 0; h < s->corner_count; h++) {
         if (reference_is_open(s->corners, s->corner_count, h)) {
@@ -198,10 +221,18 @@ static size_t next_in_fan(const struct generated_surface *s, size_t h)
     return REFERENCE_NO_EDGE;
 }
 
+/* What a second look finds, the loops one after the other. */
+static struct {
+    uint16_t rings[GENERATE_CORNER_ROOM];
+    size_t firsts[GENERATE_CORNER_ROOM];
+    size_t vertices;
+    size_t loops;
+} seen;
+
 /* Takes out of a cycle, again and again, the loop that closes first; gives how many there were. */
-static size_t split_cycle(const uint16_t *corners, size_t *cycle, size_t count, uint16_t *rings,
-                          size_t *vertices)
+static size_t split_cycle(const uint16_t *corners, size_t *cycle, size_t count)
 {
+    size_t walked_from = cycle[0];
     size_t loops = 0;
     size_t last = 0;
     while (last < count) {
@@ -214,10 +245,16 @@ static size_t split_cycle(const uint16_t *corners, size_t *cycle, size_t count, 
             last += 1;
             continue;
         }
+        size_t smallest = cycle[first];
         for (size_t e = first; e <= last; e++) {
-            rings[*vertices] = reference_start(corners, cycle[e]);
-            *vertices += 1;
+            seen.rings[seen.vertices] = reference_start(corners, cycle[e]);
+            seen.vertices += 1;
+            smallest = cycle[e] < smallest ? cycle[e] : smallest;
         }
+        seen.firsts[seen.loops] = cycle[first];
+        seen.loops += 1;
+        tallies[TALLY_LATER_FIRST] += cycle[first] != walked_from;
+        tallies[TALLY_GREATER_FIRST] += cycle[first] != smallest;
         memmove(cycle + first, cycle + last + 1, (count - last - 1) * sizeof cycle[0]);
         count -= last + 1 - first;
         last = 0;
@@ -227,14 +264,13 @@ static size_t split_cycle(const uint16_t *corners, size_t *cycle, size_t count, 
     return loops;
 }
 
-/* The rings found over fans and whole cycles are those of the survey. */
+/* The rings found over fans and whole cycles, and the half-edges they begin with, are those of the patcher. */
 static void expect_second_look(const struct generated_surface *s, size_t loops, size_t vertices)
 {
     static unsigned char walked[GENERATE_CORNER_ROOM];
     static size_t cycle[GENERATE_CORNER_ROOM];
-    static uint16_t rings[GENERATE_CORNER_ROOM];
-    size_t seen_vertices = 0;
-    size_t seen_loops = 0;
+    seen.vertices = 0;
+    seen.loops = 0;
     memset(walked, 0, sizeof walked);
     for (size_t first = 0; first < s->corner_count; first++) {
         size_t count = 0;
@@ -249,13 +285,14 @@ static void expect_second_look(const struct generated_surface *s, size_t loops, 
             h = next_in_fan(s, h);
         }
         expect(count == 0 || h == first, "a cycle does not close");
-        size_t split = split_cycle(s->corners, cycle, count, rings, &seen_vertices);
-        tallies[TALLY_SPLIT] += split > 1;
-        seen_loops += split;
+        tallies[TALLY_SPLIT] += split_cycle(s->corners, cycle, count) > 1;
     }
-    expect(seen_loops == loops && seen_vertices == vertices
-               && memcmp(rings, lent.rings, vertices * sizeof rings[0]) == 0,
+    expect(seen.loops == loops && seen.vertices == vertices
+               && memcmp(seen.rings, lent.rings, vertices * sizeof seen.rings[0]) == 0,
            "a second look finds other loops");
+    for (size_t loop = 0; loop < loops; loop++) {
+        expect(first_of(loop) == seen.firsts[loop], "a second look finds another first half-edge");
+    }
 }
 
 /* ---- A second look at pieces and rims ---- */
@@ -315,8 +352,20 @@ static int64_t stride(const uint16_t *corners, size_t h)
     return sum;
 }
 
+/* A record has the piece and the run that were found here, a first half-edge along which its ring begins, and 0 for a count. */
+static void expect_record(const struct generated_surface *s, size_t loop, const uint16_t *ring, size_t piece, int64_t run)
+{
+    size_t first = first_of(loop);
+    expect(reference_kept(lent.records, loop, REFERENCE_PIECE) == piece, "a second look finds another piece of a loop");
+    expect(reference_kept(lent.records, loop, REFERENCE_RUN) == (uint64_t)run, "a second look finds another run");
+    expect(reference_kept(lent.records, loop, REFERENCE_COUNT) == 0, "a record's count is not 0");
+    expect(first < s->corner_count && reference_is_open(s->corners, s->corner_count, first)
+               && reference_start(s->corners, first) == ring[0] && reference_end(s->corners, first) == ring[1],
+           "a first half-edge does not run from the ring's first vertex to its second");
+}
+
 /* For each piece the best loop is kept as the loops go by, their edges taken from the surface; it alone has state 4. */
-static void expect_rims(const struct generated_surface *s, size_t loops)
+static void expect_records(const struct generated_surface *s, size_t loops)
 {
     static uint16_t pieces[REFERENCE_MOST_TRIANGLES];
     static size_t best[REFERENCE_MOST_TRIANGLES];
@@ -325,12 +374,13 @@ static void expect_rims(const struct generated_surface *s, size_t loops)
     static size_t piece_of[REFERENCE_MOST_TRIANGLES];
     const uint16_t *ring = lent.rings;
     size_t count = expect_pieces(s, pieces);
+    size_t closed = 0;
     for (size_t piece = 0; piece < count; piece++) {
         best[piece] = loops;
         best_run[piece] = -1;
     }
     for (size_t loop = 0; loop < loops; loop++) {
-        size_t length = lent.lengths[loop];
+        size_t length = length_of(loop);
         runs[loop] = 0;
         for (size_t v = 0; v < length; v++) {
             size_t h = reference_find_edge(s->corners, s->corner_count, ring[v], ring[v + 1 < length ? v + 1 : 0]);
@@ -342,21 +392,24 @@ static void expect_rims(const struct generated_surface *s, size_t loops)
             best_run[piece_of[loop]] = runs[loop];
             best[piece_of[loop]] = loop;
         }
+        expect_record(s, loop, ring, piece_of[loop], runs[loop]);
         ring += length;
     }
     for (size_t loop = 0; loop < loops; loop++) {
         size_t rim = best[piece_of[loop]];
-        expect((lent.states[loop] == 4) == (rim == loop), "a second look finds another rim");
-        expect(rim != loop || lent.weights[loop] == 0, "a rim has a weight");
+        expect((state_of(loop) == 4) == (rim == loop), "a second look finds another rim");
+        expect(rim != loop || weight_of(loop) == 0, "a rim has a weight");
         tallies[TALLY_RIMS] += rim == loop;
-        tallies[TALLY_LONG_RIMS] += rim == loop && lent.lengths[loop] > REFERENCE_LONGEST_LOOP;
+        tallies[TALLY_LONG_RIMS] += rim == loop && length_of(loop) > REFERENCE_LONGEST_LOOP;
         tallies[TALLY_EQUAL_RUNS] += rim != loop && runs[rim] == runs[loop] && runs[loop] > 0;
-        tallies[TALLY_SHORTER_RIMS] += lent.lengths[rim] < lent.lengths[loop];
+        tallies[TALLY_SHORTER_RIMS] += length_of(rim) < length_of(loop);
     }
     tallies[TALLY_PIECES] += count;
     for (size_t piece = 0; piece < count; piece++) {
-        tallies[TALLY_CLOSED_PIECES] += best[piece] == loops;
+        tallies[TALLY_BEHIND_CLOSED] += best[piece] != loops && closed > 0;
+        closed += best[piece] == loops;
     }
+    tallies[TALLY_CLOSED_PIECES] += closed;
 }
 
 /* ---- Patches ---- */
@@ -373,12 +426,12 @@ static void expect_patched_surface(const struct generated_surface *s,
     memcpy(all + s->corner_count, lent.patches, answer->corners * sizeof all[0]);
     tallies[TALLY_COARSE] += s->pitch != 1;
     for (size_t loop = 0; loop < answer->loops; loop++) {
-        tallies[TALLY_COARSE_HOLES] += s->pitch != 1 && lent.states[loop] == 1;
-        tallies[TALLY_COARSE_WEIGHED] += s->pitch != 1 && lent.weights[loop] > 0;
-        tallies[TALLY_HOLES] += lent.states[loop] == 1;
-        tallies[TALLY_LONG] += lent.states[loop] == 2;
-        tallies[TALLY_NO_COVER] += lent.states[loop] == 3;
-        unpatched += lent.states[loop] == 1 ? 0 : lent.lengths[loop];
+        tallies[TALLY_COARSE_HOLES] += s->pitch != 1 && state_of(loop) == 1;
+        tallies[TALLY_COARSE_WEIGHED] += s->pitch != 1 && weight_of(loop) > 0;
+        tallies[TALLY_HOLES] += state_of(loop) == 1;
+        tallies[TALLY_LONG] += state_of(loop) == 2;
+        tallies[TALLY_NO_COVER] += state_of(loop) == 3;
+        unpatched += state_of(loop) == 1 ? 0 : length_of(loop);
     }
     for (size_t h = 0; h < count; h++) {
         size_t first = reference_find_edge(all, count, reference_start(all, h), reference_end(all, h));
@@ -506,18 +559,18 @@ static void expect_least_cover(const struct generated_surface *s, size_t loop,
 {
     static struct reference_memo memo;
     static struct enumeration e;
-    size_t length = lent.lengths[loop];
-    if (length > MOST_ENUMERATED || lent.states[loop] == 4) {
+    size_t length = length_of(loop);
+    if (length > MOST_ENUMERATED || state_of(loop) == 4) {
         return;
     }
     reference_fill_memo(&memo, lent.grid, ring, length, s->corners, s->corner_count, lent.patches, laid);
     enumerate_loop(&e, &memo, NULL);
     if (e.least == REFERENCE_NO_COVER) {
-        expect(lent.states[loop] == 3, "a loop without an allowed cover has not state 3");
+        expect(state_of(loop) == 3, "a loop without an allowed cover has not state 3");
         return;
     }
-    expect(lent.states[loop] == 1, "a loop with an allowed cover has not state 1");
-    expect(lent.weights[loop] == (uint64_t)e.least, "the weight is not the least");
+    expect(state_of(loop) == 1, "a loop with an allowed cover has not state 1");
+    expect(weight_of(loop) == (uint64_t)e.least, "the weight is not the least");
     expect(memcmp(e.best, lent.patches + laid, 3 * (length - 2) * sizeof e.best[0]) == 0,
            "the cover is not the first of the least ones");
     tallies[TALLY_ENUMERATED] += 1;
@@ -529,8 +582,8 @@ static void expect_least_covers(const struct generated_surface *s, size_t loops)
     size_t laid = 0;
     for (size_t loop = 0; loop < loops; loop++) {
         expect_least_cover(s, loop, ring, laid);
-        laid += lent.states[loop] == 1 ? 3 * (lent.lengths[loop] - (size_t)2) : 0;
-        ring += lent.lengths[loop];
+        laid += state_of(loop) == 1 ? 3 * (length_of(loop) - 2) : 0;
+        ring += length_of(loop);
     }
 }
 
@@ -543,7 +596,7 @@ static void expect_cover_test(const struct generated_surface *s,
     const uint16_t *ring = lent.rings;
     size_t taken = 0;
     for (size_t loop = 0; loop < loops && loop < set->state_count; loop++) {
-        size_t length = lent.lengths[loop];
+        size_t length = length_of(loop);
         size_t corners = 3 * (length - 2);
         if (set->states[loop] == 1 && length <= MOST_ENUMERATED && taken + corners <= set->corner_count) {
             reference_fill_memo(&memo, lent.grid, ring, length, s->corners, s->corner_count, NULL, 0);
@@ -592,8 +645,8 @@ static void expect_verdict(const struct generated_surface *s, const struct gener
     size_t verdict = 0;
     size_t place = 0;
     for (size_t loop = 0; loop < loops && set->state_count == loops && verdict == 0; loop++) {
-        size_t length = lent.lengths[loop];
-        if (lent.states[loop] == 4) {
+        size_t length = length_of(loop);
+        if (state_of(loop) == 4) {
             verdict = set->states[loop] != 4 ? 11 : 0;
             tallies[TALLY_RIM_REFUSED] += verdict == 11;
         } else if (length > MOST_ENUMERATED) {
@@ -630,7 +683,9 @@ static void expect_own_set_passes(const struct generated_surface *s,
     struct reference_answer verdict;
     own.state_count = patch->loops;
     own.corner_count = patch->corners;
-    memcpy(own.states, lent.states, patch->loops * sizeof own.states[0]);
+    for (size_t loop = 0; loop < patch->loops; loop++) {
+        own.states[loop] = (uint16_t)state_of(loop);
+    }
     memcpy(own.corners, lent.patches, patch->corners * sizeof own.corners[0]);
     check_lent(s, &own, &verdict);
     expect(verdict.number == 0 && verdict.place == 0, "the patcher's own set is not passed");
@@ -638,10 +693,18 @@ static void expect_own_set_passes(const struct generated_surface *s,
            "the checker counts otherwise");
     expect(memcmp(other.grid, lent.grid, sizeof lent.grid) == 0, "the checker leaves another grid");
     expect(memcmp(other.rings, lent.rings, sizeof lent.rings) == 0, "the checker leaves other rings");
-    expect(memcmp(other.lengths, lent.lengths, sizeof lent.lengths) == 0, "the checker leaves other lengths");
+    for (size_t loop = 0; loop < patch->loops; loop++) {
+        expect(other.lengths[loop] == length_of(loop), "the checker leaves other lengths");
+    }
 }
 
-/* A refusal of patcher, checker and survey is one and the same, but for buffers 4 to 6. */
+/* Whether a refusal is of a buffer that the patcher alone is lent, or the others alone. */
+static int is_of_own_buffer(size_t number, size_t place)
+{
+    return number == 3 && place > 2;
+}
+
+/* A refusal of checker and survey is one and the same, and that of the patcher too, but for buffers 3 and 4. */
 static void expect_same_refusal(const struct generated_surface *s, const struct generated_set *set,
                                 const struct reference_patch_answer *patch)
 {
@@ -650,10 +713,8 @@ static void expect_same_refusal(const struct generated_surface *s, const struct 
     check_lent(s, set, &check);
     memset(&other, MARK, sizeof other);
     reference_survey(s->words, s->word_count, s->corners, s->corner_count, other.grid, s->lent[0],
-                     other.rings, s->lent[1], other.lengths, s->lent[2], s->pitch, &survey);
-    if (patch->number != 0 && !(patch->number == 3 && patch->place > 3)) {
-        expect(check.number == patch->number && check.place == patch->place,
-               "the checker refuses otherwise");
+                     other.rings, s->lent[1], other.lengths, s->lengths_lent, s->pitch, &survey);
+    if (!is_of_own_buffer(patch->number, patch->place) && !is_of_own_buffer(survey.number, survey.place)) {
         expect(survey.number == patch->number && survey.place == patch->place,
                "the survey refuses otherwise");
     }
@@ -661,10 +722,17 @@ static void expect_same_refusal(const struct generated_surface *s, const struct 
         expect(check.number != 9 || check.place == survey.loops, "9 has another place than the loop count");
         expect(check.number == 9 || check.loops == survey.loops, "the checker has other loops");
     } else {
-        expect(check.loops == 0 && check.vertices == 0 && survey.loops == 0 && survey.vertices == 0
-                   && patch->loops == 0 && patch->vertices == 0 && patch->corners == 0,
+        expect(check.number == survey.number && check.place == survey.place,
+               "the checker refuses otherwise");
+        expect(check.loops == 0 && check.vertices == 0 && survey.loops == 0 && survey.vertices == 0,
                "a refusal has a count");
     }
+    expect(patch->number == 0 || (patch->loops == 0 && patch->vertices == 0 && patch->corners == 0),
+           "a refusal of the patcher has a count");
+    expect(patch->number != 3 || patch->place <= 4, "the patcher refuses a buffer that it is not lent");
+    expect(survey.number != 3 || survey.place <= 3, "the survey refuses a buffer that it is not lent");
+    tallies[TALLY_SHORT_RECORDS] += patch->number == 3 && patch->place == 3 && s->lent[2] > 0
+        && s->lent[2] <= 2 * s->corner_count;
     patch_numbers[patch->number] += 1;
     check_numbers[check.number] += 1;
 }
@@ -977,8 +1045,8 @@ static void expect_coordinate_examples(void)
 #define PLATE_HOLE_FIRST {4, 3, 1, 0, 1, 3, 1, 2, 4, 2, 5, 4, 2, 0, 5, 0, 3, 5}
 #define FIVE_PLACES {0, 0, 0, 10, 0, 0, 10, 10, 0, 0, 10, 4, 4, 4, 9}
 
-/* A surface with what was reckoned of it by hand: the piece of each triangle, and of each loop its ring, run, state and weight;
-   then what is laid. */
+/* A surface with what was reckoned of it by hand: the piece of each triangle, and of each loop its ring, first half-edge, piece, run, state
+   and weight; then what is laid. */
 struct reckoned {
     const char *name;
     size_t points;
@@ -987,7 +1055,7 @@ struct reckoned {
     uint16_t corners[21];
     uint16_t pieces[7];
     size_t loops;
-    uint16_t rings[12], lengths[3];
+    uint16_t rings[12], lengths[3], firsts[3], lies_in[3];
     int64_t runs[3];
     uint16_t states[3];
     uint64_t weights[3];
@@ -997,46 +1065,53 @@ struct reckoned {
 
 static const struct reckoned by_hand[] = {
     {"a loop alone is a rim", 3, {0, 0, 0, 1, 0, 0, 0, 1, 0}, 1, {0, 1, 2}, {0},
-     1, {0, 1, 2}, {3}, {4}, {4}, {0}, 0, {0}},
+     1, {0, 1, 2}, {3}, {0}, {0}, {4}, {4}, {0}, 0, {0}},
     {"a plate with a hole", 6, {0, 0, 0, 30, 0, 0, 0, 30, 0, 5, 5, 0, 15, 5, 0, 5, 15, 0}, 6, PLATE, {0},
-     2, {0, 1, 2, 4, 3, 5}, {3, 3}, {120, 40}, {4, 1}, {0, 100}, 3, {4, 5, 3}},
+     2, {0, 1, 2, 4, 3, 5}, {3, 3}, {0, 4}, {0, 0}, {120, 40}, {4, 1}, {0, 100}, 3, {4, 5, 3}},
     {"an island in the hole", 9, {0, 0, 0, 30, 0, 0, 0, 30, 0, 5, 5, 0, 15, 5, 0, 5, 15, 0, 6, 6, 0, 8, 6, 0, 6, 8, 0},
      7, {0, 1, 3, 1, 4, 3, 1, 2, 4, 6, 7, 8, 2, 5, 4, 2, 0, 5, 0, 3, 5}, {0, 0, 0, 1, 0, 0, 0},
-     3, {0, 1, 2, 4, 3, 5, 6, 7, 8}, {3, 3, 3}, {120, 40, 8}, {4, 1, 4}, {0, 100, 0}, 3, {4, 5, 3}},
+     3, {0, 1, 2, 4, 3, 5, 6, 7, 8}, {3, 3, 3}, {0, 4, 9}, {0, 0, 1}, {120, 40, 8}, {4, 1, 4}, {0, 100, 0}, 3, {4, 5, 3}},
     {"the greatest run of all in another piece", 9,
      {0, 0, 0, 30, 0, 0, 0, 30, 0, 5, 5, 0, 15, 5, 0, 5, 15, 0, 0, 0, 9, 900, 0, 9, 0, 900, 9},
      7, {6, 7, 8, 0, 1, 3, 1, 4, 3, 1, 2, 4, 2, 5, 4, 2, 0, 5, 0, 3, 5}, {0, 1, 1, 1, 1, 1, 1},
-     3, {6, 7, 8, 0, 1, 2, 4, 3, 5}, {3, 3, 3}, {3600, 120, 40}, {4, 4, 1}, {0, 0, 100}, 3, {4, 5, 3}},
+     3, {6, 7, 8, 0, 1, 2, 4, 3, 5}, {3, 3, 3}, {0, 3, 7}, {0, 1, 1}, {3600, 120, 40}, {4, 4, 1}, {0, 0, 100}, 3, {4, 5, 3}},
     {"two pieces that share a vertex", 5, {0, 0, 0, 10, 0, 0, 0, 10, 0, -1, 0, 0, 0, -1, 0}, 2, {0, 1, 2, 0, 3, 4}, {0, 1},
-     2, {0, 1, 2, 0, 3, 4}, {3, 3}, {40, 4}, {4, 4}, {0, 0}, 0, {0}},
+     2, {0, 1, 2, 0, 3, 4}, {3, 3}, {0, 3}, {0, 1}, {40, 4}, {4, 4}, {0, 0}, 0, {0}},
     {"a pinched coast: one piece of two loops that share a vertex", 5, FIVE_PLACES, 4, {0, 1, 2, 2, 1, 3, 2, 3, 4, 4, 3, 0}, {0},
-     2, {0, 1, 3, 0, 4, 2}, {3, 3}, {48, 58}, {1, 4}, {140, 0}, 3, {0, 3, 1}},
+     2, {0, 1, 3, 0, 4, 2}, {3, 3}, {0, 11}, {0, 0}, {48, 58}, {1, 4}, {140, 0}, 3, {0, 3, 1}},
     {"equal runs, the first listed is the rim", 6, {0, 0, 0, 10, 0, 0, 0, 10, 0, 0, 0, 5, 10, 0, 5, 0, 10, 5}, 6, PLATE, {0},
-     2, {0, 1, 2, 4, 3, 5}, {3, 3}, {40, 40}, {4, 1}, {0, 100}, 3, {4, 5, 3}},
+     2, {0, 1, 2, 4, 3, 5}, {3, 3}, {0, 4}, {0, 0}, {40, 40}, {4, 1}, {0, 100}, 3, {4, 5, 3}},
     {"equal runs, the other one listed first", 6, {0, 0, 0, 10, 0, 0, 0, 10, 0, 0, 0, 5, 10, 0, 5, 0, 10, 5}, 6, PLATE_HOLE_FIRST, {0},
-     2, {4, 3, 5, 0, 1, 2}, {3, 3}, {40, 40}, {4, 1}, {0, 100}, 3, {0, 2, 1}},
+     2, {4, 3, 5, 0, 1, 2}, {3, 3}, {0, 3}, {0, 0}, {40, 40}, {4, 1}, {0, 100}, 3, {0, 2, 1}},
     {"no run at all, the first listed is the rim", 6, {0}, 6, PLATE, {0},
-     2, {0, 1, 2, 4, 3, 5}, {3, 3}, {0, 0}, {4, 1}, {0, 0}, 3, {4, 5, 3}},
+     2, {0, 1, 2, 4, 3, 5}, {3, 3}, {0, 4}, {0, 0}, {0, 0}, {4, 1}, {0, 0}, 3, {4, 5, 3}},
     {"the closing edge decides: 20 and 20 against 25 and 1", 6, {0, 0, 0, 10, 0, 0, 20, 0, 0, 12, 0, 1, 0, 0, 1, 0, 1, 1}, 6,
-     PLATE_HOLE_FIRST, {0}, 2, {4, 3, 5, 0, 1, 2}, {3, 3}, {26, 40}, {1, 4}, {12, 0}, 3, {4, 5, 3}},
+     PLATE_HOLE_FIRST, {0}, 2, {4, 3, 5, 0, 1, 2}, {3, 3}, {0, 3}, {0, 0}, {26, 40}, {1, 4}, {12, 0}, 3, {4, 5, 3}},
     {"differences that cancel if added with their signs", 6, {0, 0, 0, 10, -10, 0, 20, -20, 0, 12, 0, 0, 0, 0, 0, 0, 1, 0}, 6,
-     PLATE_HOLE_FIRST, {0}, 2, {4, 3, 5, 0, 1, 2}, {3, 3}, {26, 80}, {1, 4}, {12, 0}, 3, {4, 5, 3}},
+     PLATE_HOLE_FIRST, {0}, 2, {4, 3, 5, 0, 1, 2}, {3, 3}, {0, 3}, {0, 0}, {26, 80}, {1, 4}, {12, 0}, 3, {4, 5, 3}},
     {"the third difference decides", 6, {0, 0, 0, 10, 0, 0, 0, 10, 0, 0, 0, 0, 9, 0, 3, 0, 9, 0}, 6, PLATE, {0},
-     2, {0, 1, 2, 4, 3, 5}, {3, 3}, {40, 42}, {1, 4}, {100, 0}, 3, {0, 2, 1}},
+     2, {0, 1, 2, 4, 3, 5}, {3, 3}, {0, 4}, {0, 0}, {40, 42}, {1, 4}, {100, 0}, 3, {0, 2, 1}},
     {"the inner loop runs further", 6, {1, 1, 0, 2, 1, 0, 1, 2, 0, 0, 0, 9, 50, 0, 9, 0, 50, 9}, 6, PLATE, {0},
-     2, {0, 1, 2, 4, 3, 5}, {3, 3}, {4, 200}, {1, 4}, {1, 0}, 3, {0, 2, 1}},
+     2, {0, 1, 2, 4, 3, 5}, {3, 3}, {0, 4}, {0, 0}, {4, 200}, {1, 4}, {1, 0}, 3, {0, 2, 1}},
     {"a rim of fewer edges than the hole", 7, {0, 0, 0, 99, 0, 0, 0, 99, 0, 1, 1, 0, 2, 1, 0, 2, 2, 0, 1, 2, 0}, 7,
      {3, 4, 0, 1, 0, 4, 4, 5, 1, 5, 6, 1, 2, 1, 6, 6, 3, 2, 0, 2, 3}, {0},
-     2, {3, 4, 5, 6, 1, 0, 2}, {4, 3}, {4, 396}, {1, 4}, {2, 0}, 6, {3, 6, 4, 4, 6, 5}},
+     2, {3, 4, 5, 6, 1, 0, 2}, {4, 3}, {0, 3}, {0, 0}, {4, 396}, {1, 4}, {2, 0}, 6, {3, 6, 4, 4, 6, 5}},
     {"a hole of fewer edges than the rim", 7, {0, 0, 0, 99, 0, 0, 0, 99, 0, 1, 1, 0, 2, 1, 0, 150, 150, 0, 1, 2, 0}, 7,
      {3, 4, 0, 1, 0, 4, 4, 5, 1, 5, 6, 1, 2, 1, 6, 6, 3, 2, 0, 2, 3}, {0},
-     2, {3, 4, 5, 6, 1, 0, 2}, {4, 3}, {596, 396}, {4, 1}, {0, 9801}, 3, {1, 2, 0}},
+     2, {3, 4, 5, 6, 1, 0, 2}, {4, 3}, {0, 3}, {0, 0}, {596, 396}, {4, 1}, {0, 9801}, 3, {1, 2, 0}},
     {"a piece without a loop has a number too", 7, {0}, 5, {0, 1, 2, 0, 2, 3, 0, 3, 1, 1, 3, 2, 4, 5, 6}, {0, 0, 0, 0, 1},
-     1, {4, 5, 6}, {3}, {0}, {4}, {0}, 0, {0}},
+     1, {4, 5, 6}, {3}, {12}, {1}, {0}, {4}, {0}, 0, {0}},
     {"a piece whose triangles lie among another's", 7, {0}, 3, {0, 1, 2, 3, 4, 5, 2, 1, 6}, {0, 1, 0},
-     2, {0, 1, 6, 2, 3, 4, 5}, {4, 3}, {0, 0}, {4, 4}, {0, 0}, 0, {0}},
+     2, {0, 1, 6, 2, 3, 4, 5}, {4, 3}, {0, 3}, {0, 1}, {0, 0}, {4, 4}, {0, 0}, 0, {0}},
     {"a strip whose triangles are listed far from their neighbours", 7, {0}, 5, {2, 3, 4, 4, 5, 6, 0, 1, 2, 4, 3, 5, 2, 1, 3}, {0},
-     1, {4, 2, 0, 1, 3, 5, 6}, {7}, {0}, {4}, {0}, 0, {0}},
+     1, {4, 2, 0, 1, 3, 5, 6}, {7}, {2}, {0}, {0}, {4}, {0}, 0, {0}},
+    {"pieces without a loop before and between", 9, {0, 0, 0, 0, 0, 0, 0, 0, 0, 1, 0, 0, 0, 2, 0, 0, 0, 3, 0, 0, -4}, 6,
+     {0, 1, 2, 0, 2, 1, 3, 4, 5, 6, 7, 8, 6, 8, 7, 6, 3, 0}, {0, 0, 1, 2, 2, 3},
+     2, {3, 4, 5, 6, 3, 0}, {3, 3}, {6, 15}, {1, 3}, {12, 10}, {4, 4}, {0, 0}, 0, {0}},
+    {"a cycle of three loops, the one that it is walked from listed last", 7,
+     {0, 0, 0, 5, 0, 0, 0, 5, 0, 1, 0, 0, 0, 1, 0, 2, 0, 0, 0, 2, 0}, 7,
+     {6, 0, 1, 2, 0, 3, 4, 0, 5, 1, 2, 3, 1, 3, 4, 1, 4, 5, 1, 5, 6}, {0},
+     3, {0, 1, 2, 0, 3, 4, 6, 0, 5}, {3, 3, 3}, {1, 4, 0}, {0, 0, 0}, {20, 4, 8}, {4, 1, 1}, {0, 1, 4}, 6, {0, 4, 3, 6, 5, 0}},
 };
 
 /* The pitches, and for each how far a coordinate may be moved that stays at its multiple. */
@@ -1073,18 +1148,48 @@ static void expect_reckoned(const struct reckoned *r, size_t p)
     expect(memcmp(pieces, r->pieces, r->triangles * sizeof pieces[0]) == 0, "other pieces than by hand");
     expect(answer.number == 0 && answer.loops == r->loops && answer.corners == r->laid, "another answer than by hand");
     for (size_t loop = 0; loop < r->loops; loop++) {
+        const uint64_t record[7] = {r->lengths[loop], r->states[loop], (uint64_t)(pitch * pitch) * r->weights[loop], 0,
+                                    r->firsts[loop], r->lies_in[loop], (uint64_t)(pitch * r->runs[loop])};
+        expect(memcmp(lent.records + 7 * loop, record, sizeof record) == 0, "another record than by hand");
         expect(reference_run(lent.grid, r->rings + at, r->lengths[loop]) == pitch * r->runs[loop], "another run than by hand");
-        expect(lent.weights[loop] == (uint64_t)(pitch * pitch) * r->weights[loop], "another weight than by hand");
         at += r->lengths[loop];
     }
-    expect(answer.vertices == at && memcmp(lent.rings, r->rings, at * sizeof lent.rings[0]) == 0
-               && memcmp(lent.lengths, r->lengths, r->loops * sizeof lent.lengths[0]) == 0,
-           "other rings than by hand");
-    expect(memcmp(lent.states, r->states, r->loops * sizeof lent.states[0]) == 0, "other states than by hand");
+    expect(answer.vertices == at && memcmp(lent.rings, r->rings, at * sizeof lent.rings[0]) == 0, "other rings than by hand");
     expect(memcmp(lent.patches, r->patches, r->laid * sizeof lent.patches[0]) == 0, "another patch than by hand");
     if (faults > before) {
         printf("this was: %s, at pitch %d\n", r->name, (int)pitch);
     }
+}
+
+/* The plate has 18 words, 18 corners and 6 triangles: each buffer with a number too few is refused, and that with the lower number first;
+   records that have too few for one of their numbers, and those that would do for the lengths alone, are too. */
+static void expect_short_buffers(size_t p)
+{
+    static const size_t exact[4] = {18, 18, 42, 54};
+    static const size_t short_records[6] = {0, 6, 18, 35, 36, 41};
+    static struct generated_surface surface;
+    struct reference_patch_answer answer;
+    take_reckoned(&by_hand[1], p, &surface);
+    expect(memcmp(surface.lent, exact, sizeof exact) == 0 && surface.lengths_lent == 6, "the plate needs other buffers than by hand");
+    for (size_t b = 0; b < 4; b++) {
+        surface.lent[b] = exact[b] - 1;
+        patch_lent(&surface, &answer);
+        expect(answer.number == 3 && answer.place == b + 1, "a buffer with a number too few is not refused");
+        for (size_t c = b + 1; c < 4; c++) {
+            surface.lent[c] = 0;
+        }
+        patch_lent(&surface, &answer);
+        expect(answer.number == 3 && answer.place == b + 1, "of two short buffers not the first is told");
+        memcpy(surface.lent, exact, sizeof exact);
+    }
+    for (size_t r = 0; r < 6; r++) {
+        surface.lent[2] = short_records[r];
+        patch_lent(&surface, &answer);
+        expect(answer.number == 3 && answer.place == 3, "short records are not refused");
+    }
+    surface.lent[2] = 42;
+    patch_lent(&surface, &answer);
+    expect(answer.number == 0 && answer.loops == 2, "records that are long enough are refused");
 }
 
 /* Rings of any length closed in by frames of any length: the frame lies far out, or the ring's points do. The frame's first edge is
@@ -1107,9 +1212,9 @@ static void expect_closed_in(size_t length, size_t edges, int frame_far, size_t 
     sheet_add_collar(&surface, points, length, points + length, edges);
     generate_lend_exactly(&surface);
     patch_lent(&surface, &answer);
-    expect(answer.number == 0 && answer.loops == 2 && lent.lengths[0] == length && lent.lengths[1] == edges,
+    expect(answer.number == 0 && answer.loops == 2 && length_of(0) == length && length_of(1) == edges,
            "a ring closed in has other loops");
-    expect(lent.states[0] == ring_state && lent.states[1] == frame_state, "a ring closed in has other states");
+    expect(state_of(0) == ring_state && state_of(1) == frame_state, "a ring closed in has other states");
     expect(answer.corners == 3 * (ring_state == 1 ? length - 2 : frame_state == 1 ? edges - 2 : 0), "what is laid is no hole's");
 }
 
@@ -1168,6 +1273,7 @@ static void expect_by_hand(void)
     }
     for (size_t p = 0; p < 4; p++) {
         expect_plate_verdicts(p);
+        expect_short_buffers(p);
     }
 }
 
@@ -1506,8 +1612,8 @@ static void expect_sheets(uint64_t seed, uint32_t pitch)
         size_t weightless = 0;
         patch_lent(&surface, &answer);
         for (size_t loop = 0; loop < answer.loops; loop++) {
-            met[lent.states[loop] - 1] += 1;
-            weightless += lent.states[loop] == 1 && lent.weights[loop] == 0;
+            met[state_of(loop) - 1] += 1;
+            weightless += state_of(loop) == 1 && weight_of(loop) == 0;
         }
         expect(answer.number == 0 && weightless == 0, "a sheet is refused, or has a hole that its pitch made flat");
         if (sheet >= sizeof counts / sizeof counts[0] || memcmp(met, counts[sheet], sizeof met) != 0) {
@@ -1533,10 +1639,13 @@ static void self_check(struct generator *generator)
     }
     patch_lent(&surface, &patch);
     generate_set(generator, &surface, &set);
+    expect_same_refusal(&surface, &set, &patch);
     if (patch.number == 0) {
+        /* what the patcher takes the checker takes too, unless its own third buffer is short */
+        surface.lengths_lent = REFERENCE_MOST_TRIANGLES;
         expect_rings(&surface, patch.loops, patch.vertices);
         expect_second_look(&surface, patch.loops, patch.vertices);
-        expect_rims(&surface, patch.loops);
+        expect_records(&surface, patch.loops);
         expect_patched_surface(&surface, &patch);
         expect_least_covers(&surface, patch.loops);
         expect_cover_test(&surface, &set, patch.loops);
@@ -1546,7 +1655,6 @@ static void self_check(struct generator *generator)
         tallies[TALLY_PATCHED] += 1;
         tallies[TALLY_LOOPS] += patch.loops;
     }
-    expect_same_refusal(&surface, &set, &patch);
     expect_sheet_text(generator, &surface);
     expect_surface_written(&surface);
     expect_set_text(&set);

@@ -33,14 +33,13 @@ uint32_t wazelpunt_survey(const uint32_t *words, size_t words_count, const uint1
 }
 
 uint32_t wazelpunt_patch(const uint32_t *words, size_t words_count, const uint16_t *corners, size_t corners_count,
-                         int32_t *grid, size_t grid_length, uint16_t *rings, size_t rings_length, uint16_t *lengths,
-                         size_t lengths_length, uint16_t *states, size_t states_length, uint64_t *weights,
-                         size_t weights_length, uint16_t *patches, size_t patches_length, size_t *place, size_t *loops,
+                         int32_t *grid, size_t grid_length, uint16_t *rings, size_t rings_length, uint64_t *records,
+                         size_t records_length, uint16_t *patches, size_t patches_length, size_t *place, size_t *loops,
                          size_t *vertices, size_t *laid, uint32_t pitch)
 {
     struct reference_patch_answer answer;
-    reference_patch(words, words_count, corners, corners_count, grid, grid_length, rings, rings_length, lengths, lengths_length,
-                    states, states_length, weights, weights_length, patches, patches_length, pitch, &answer);
+    reference_patch(words, words_count, corners, corners_count, grid, grid_length, rings, rings_length, records, records_length,
+                    patches, patches_length, pitch, &answer);
     *place = answer.place;
     *loops = answer.loops;
     *vertices = answer.vertices;
@@ -127,8 +126,7 @@ static struct {
     int32_t grid[REFERENCE_MOST_WORDS];
     uint16_t rings[REFERENCE_MOST_CORNERS];
     uint16_t lengths[REFERENCE_MOST_TRIANGLES];
-    uint16_t states[REFERENCE_MOST_TRIANGLES];
-    uint64_t weights[REFERENCE_MOST_TRIANGLES];
+    uint64_t records[REFERENCE_MOST_RECORDS];
     uint16_t patches[REFERENCE_MOST_PATCH_CORNERS];
 } desk;
 
@@ -179,13 +177,17 @@ static void print_loops(size_t loops)
     const uint16_t *patch = desk.patches;
     print_number("loops=", loops, "\n");
     for (size_t loop = 0; loop < loops; loop++) {
-        size_t length = desk.lengths[loop];
-        print_number("loop=", length, "");
-        print_number(",", desk.states[loop], "");
-        print_number(",", desk.weights[loop], "\n");
+        const struct wazelpunt_record record = wazelpunt_record_at(desk.records, REFERENCE_MOST_RECORDS, loop);
+        size_t length = (size_t)record.length;
+        print_number("loop=", record.length, "");
+        print_number(",", record.state, "");
+        print_number(",", record.weight, "");
+        print_number(",", record.first, "");
+        print_number(",", record.piece, "");
+        print_number(",", record.run, "\n");
         print_list("ring=", ring, length);
         ring += length;
-        for (size_t t = 0; desk.states[loop] == WAZELPUNT_PATCHED && t < length - 2; t++) {
+        for (size_t t = 0; record.state == WAZELPUNT_PATCHED && t < length - 2; t++) {
             print_list("patch=", patch, 3);
             patch += 3;
         }
@@ -208,8 +210,7 @@ uint32_t wazelpunt_list_text(const uint8_t *text, size_t text_length, uint8_t *o
     struct reference_patch_answer patched = {.number = sheet.number, .place = sheet.place};
     if (sheet.number == 0) {
         reference_patch(desk.words, sheet.words, desk.corners, sheet.corners, desk.grid, REFERENCE_MOST_WORDS,
-                        desk.rings, REFERENCE_MOST_CORNERS, desk.lengths, REFERENCE_MOST_TRIANGLES,
-                        desk.states, REFERENCE_MOST_TRIANGLES, desk.weights, REFERENCE_MOST_TRIANGLES,
+                        desk.rings, REFERENCE_MOST_CORNERS, desk.records, REFERENCE_MOST_RECORDS,
                         desk.patches, REFERENCE_MOST_PATCH_CORNERS, (uint32_t)sheet.pitch, &patched);
     }
     print_answer(patched.number, patched.place);

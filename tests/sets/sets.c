@@ -54,8 +54,8 @@ static int agree(const struct generated_surface *s, struct set t) {
     const size_t *lent = s->lent;
     cases++;
     ours = theirs = before;
-    said.number = wazelpunt_judge(s->words, s->word_count, s->corners, s->corner_count, t.states, t.state_count, t.corners, t.corner_count, ours.grid + GUARD, lent[0], ours.rings + GUARD, lent[1], ours.lengths + GUARD, lent[2], &said.place, &said.loops, &said.vertices, s->pitch);
-    reference_check(s->words, s->word_count, s->corners, s->corner_count, t.states, t.state_count, t.corners, t.corner_count, theirs.grid + GUARD, lent[0], theirs.rings + GUARD, lent[1], theirs.lengths + GUARD, lent[2], s->pitch, &due);
+    said.number = wazelpunt_judge(s->words, s->word_count, s->corners, s->corner_count, t.states, t.state_count, t.corners, t.corner_count, ours.grid + GUARD, lent[0], ours.rings + GUARD, lent[1], ours.lengths + GUARD, s->lengths_lent, &said.place, &said.loops, &said.vertices, s->pitch);
+    reference_check(s->words, s->word_count, s->corners, s->corner_count, t.states, t.state_count, t.corners, t.corner_count, theirs.grid + GUARD, lent[0], theirs.rings + GUARD, lent[1], theirs.lengths + GUARD, s->lengths_lent, s->pitch, &due);
     return same_answer() && same_buffers();
 }
 
@@ -430,6 +430,7 @@ static void refuse_pitches(struct generated_surface *s, uint32_t pitch) {
     s->word_count = 31;
     s->corner_count = 29;
     memset(s->lent, 0, sizeof s->lent);
+    s->lengths_lent = 0;
     for (size_t n = 0; n < sizeof no_pitches / sizeof *no_pitches; n++) {
         s->pitch = no_pitches[n];
         refuses(s, 17, 0);
@@ -454,11 +455,15 @@ static void refuse_buffers(struct generated_surface *s) {
     static struct generated_surface exact;
     exact = *s;
     generate_lend_exactly(&exact);
-    for (size_t b = 0; b < 3; b++) {
+    for (size_t b = 0; b < 2; b++) {
         s->lent[b] = exact.lent[b] - 1;
         refuses(s, 3, b + 1);
         s->lent[b]++;
     }
+    /* the third is of lengths, one for each triangle; neither records nor patches are lent */
+    s->lengths_lent = s->corner_count / 3 - 1;
+    refuses(s, 3, 3);
+    s->lengths_lent++;
 }
 
 static void refuse_triangles(struct generated_surface *s) {
@@ -763,12 +768,16 @@ static size_t loops, begins[REFERENCE_MOST_TRIANGLES + 1];
 /* The patcher's own set. */
 static void take_own(const struct generated_surface *s, struct generated_set *t) {
     static int32_t grid[REFERENCE_MOST_WORDS];
-    static uint16_t rings[REFERENCE_MOST_CORNERS], lengths[REFERENCE_MOST_TRIANGLES];
-    static uint64_t weights[REFERENCE_MOST_TRIANGLES];
+    static uint16_t rings[REFERENCE_MOST_CORNERS];
+    static uint64_t records[REFERENCE_MOST_RECORDS];
     size_t place, vertices;
-    wazelpunt_patch(s->words, s->word_count, s->corners, s->corner_count, grid, s->lent[0], rings, s->lent[1], lengths, s->lent[2], t->states, s->lent[3], weights, s->lent[4], t->corners, s->lent[5], &place, &loops, &vertices, &t->corner_count, s->pitch);
+    wazelpunt_patch(s->words, s->word_count, s->corners, s->corner_count, grid, s->lent[0], rings, s->lent[1], records, s->lent[2], t->corners, s->lent[3], &place, &loops, &vertices, &t->corner_count, s->pitch);
     t->state_count = loops;
-    for (size_t l = 0; l < loops; l++) begins[l + 1] = begins[l] + (t->states[l] == 1 ? 3 * (lengths[l] - 2u) : 0);
+    for (size_t l = 0; l < loops; l++) {
+        struct wazelpunt_record record = wazelpunt_record_at(records, REFERENCE_MOST_RECORDS, l);
+        t->states[l] = (uint16_t)record.state;
+        begins[l + 1] = begins[l] + (record.state == 1 ? 3 * (size_t)(record.length - 2) : 0);
+    }
 }
 
 /* The set is wrong at a loop that is patched: declared open, declared a rim, one triangle turned round, and the set's end within it. */
@@ -838,9 +847,9 @@ static void compare_pairs(uint64_t seed) {
 
 #define STATES 6
 
-/* by answers; by pitches those too heavy; by the states that were found right; and, each by the state it had, the rims and the other loops
-   that were not */
-static size_t by_answer[HIGHEST + 1], heavy[PITCHES], at_first[HIGHEST + 1], patched[REFERENCE_LONGEST_LOOP + 1], right[STATES], rims_wrong[STATES], others_wrong[STATES];
+/* by answers; those of short buffers by their places; by pitches those too heavy; by the states that were found right; and, each by the state
+   it had, the rims and the other loops that were not */
+static size_t by_answer[HIGHEST + 1], by_buffer[4], heavy[PITCHES], at_first[HIGHEST + 1], patched[REFERENCE_LONGEST_LOOP + 1], right[STATES], rims_wrong[STATES], others_wrong[STATES];
 
 /* Counts a loop that got 11: by its state, the last standing for all that are not given, and whether it is a rim. */
 static void meet_wrong_state(const struct generated_surface *s, const struct generated_set *t) {
@@ -856,6 +865,7 @@ static void meet(const struct generated_surface *s, const struct generated_set *
     for (size_t p = 0; p < PITCHES; p++) heavy[p] += due.number == 14 && s->pitch == (uint32_t)pitches[p];
     size_t found = due.number >= 11 && due.number <= 14 ? due.place : due.loops;
     by_answer[due.number]++;
+    by_buffer[due.number == 3 ? due.place : 0]++;
     at_first[due.number] += due.place == 0;
     for (size_t l = 0; l < found; l++) {
         right[t->states[l]]++;
@@ -864,10 +874,11 @@ static void meet(const struct generated_surface *s, const struct generated_set *
     if (due.number == 11) meet_wrong_state(s, t);
 }
 
-/* Whether every answer was met, 14 at every pitch, 11 to 14 at the first loop and at later ones, every state right and wrong, on rims and
+/* Whether every answer was met, every buffer short, 14 at every pitch, 11 to 14 at the first loop and at later ones, every state right and wrong, on rims and
    on others, and loops of every length that are found patched. */
 static void met_all(void) {
     size_t missing = (by_answer[0] == 0) + (by_answer[15] == 0) + (by_answer[17] == 0);
+    for (size_t b = 1; b <= 3; b++) missing += by_buffer[b] == 0;
     for (size_t p = 0; p < PITCHES; p++) missing += heavy[p] == 0;
     for (size_t n = 1; n <= 9; n++) missing += by_answer[n] == 0;
     for (size_t n = 1; n <= 4; n++) missing += right[n] == 0;

@@ -3,7 +3,7 @@
    stl made COUNT SEED: named files with what is due for them, files at each limit, sizes of every kind, small files cut at every byte and
    with every byte changed, and that many made files of each kind, sound and damaged, from that seed on.
    stl files FILE...: files FOLDER/SHEET.TOOL.stl that a tool made from examples/SHEET.sheet. Each has to list as FOLDER/SHEET.listing says,
-   and its loops have to be those of the sheet at every pitch: as many, with the same lengths, states and weights, at the same points. */
+   and its loops have to be those of the sheet at every pitch: as many, with the same records, at the same points. */
 #define _GNU_SOURCE
 #include <inttypes.h>
 #include <stdint.h>
@@ -584,9 +584,8 @@ static void run_made(struct generator *g) {
 /* the loops of a surface as they are patched */
 struct loops {
     uint32_t words[WAZELPUNT_WORDS];
-    uint16_t corners[WAZELPUNT_CORNERS], rings[WAZELPUNT_CORNERS], lengths[WAZELPUNT_TRIANGLES], states[WAZELPUNT_TRIANGLES];
-    uint16_t patches[WAZELPUNT_SET_CORNERS];
-    uint64_t weights[WAZELPUNT_TRIANGLES];
+    uint16_t corners[WAZELPUNT_CORNERS], rings[WAZELPUNT_CORNERS], patches[WAZELPUNT_SET_CORNERS];
+    uint64_t records[WAZELPUNT_RECORDS_FOR(WAZELPUNT_CORNERS)];
     size_t word_count, corner_count, loops, vertices, laid, place;
     uint32_t number;
 };
@@ -594,8 +593,8 @@ struct loops {
 static void patch(struct loops *l, uint32_t pitch) {
     static int32_t grid[WAZELPUNT_WORDS];
     l->number = wazelpunt_patch(l->words, l->word_count, l->corners, l->corner_count, grid, WAZELPUNT_WORDS, l->rings, WAZELPUNT_CORNERS,
-                                l->lengths, WAZELPUNT_TRIANGLES, l->states, WAZELPUNT_TRIANGLES, l->weights, WAZELPUNT_TRIANGLES,
-                                l->patches, WAZELPUNT_SET_CORNERS, &l->place, &l->loops, &l->vertices, &l->laid, pitch);
+                                l->records, WAZELPUNT_RECORDS_FOR(WAZELPUNT_CORNERS), l->patches, WAZELPUNT_SET_CORNERS, &l->place,
+                                &l->loops, &l->vertices, &l->laid, pitch);
 }
 
 /* Whether the points that two lists name, one after the other, have the same words, negative zero read as zero. */
@@ -609,10 +608,8 @@ static int same_points(const struct loops *a, const uint16_t *of_a, const struct
 
 static int same_loops(const struct loops *a, const struct loops *b) {
     return a->number == b->number && a->place == b->place && a->loops == b->loops && a->vertices == b->vertices && a->laid == b->laid &&
-           memcmp(a->lengths, b->lengths, a->loops * sizeof *a->lengths) == 0 &&
-           memcmp(a->states, b->states, a->loops * sizeof *a->states) == 0 &&
-           memcmp(a->weights, b->weights, a->loops * sizeof *a->weights) == 0 && same_points(a, a->rings, b, b->rings, a->vertices) &&
-           same_points(a, a->patches, b, b->patches, a->laid);
+           memcmp(a->records, b->records, a->loops * WAZELPUNT_RECORD * sizeof *a->records) == 0 &&
+           same_points(a, a->rings, b, b->rings, a->vertices) && same_points(a, a->patches, b, b->patches, a->laid);
 }
 
 static size_t take(const char *name, uint8_t *bytes, size_t room) {

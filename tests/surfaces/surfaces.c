@@ -15,15 +15,16 @@
 #define HIGHEST 17
 
 static struct lent_survey before, ours, theirs;
-static size_t refused[HIGHEST + 1], loops, by_pitch[11];
+static size_t refused[HIGHEST + 1], by_buffer[4], loops, by_pitch[11];
 static const uint32_t pitches[4] = {1, 2, 5, 10};
 
 static int agree(const struct generated_surface *surface) {
     struct reference_answer due, said;
     ours = theirs = before;
-    said.number = wazelpunt_survey(surface->words, surface->word_count, surface->corners, surface->corner_count, ours.grid + GUARD, surface->lent[0], ours.rings + GUARD, surface->lent[1], ours.lengths + GUARD, surface->lent[2], &said.place, &said.loops, &said.vertices, surface->pitch);
-    reference_survey(surface->words, surface->word_count, surface->corners, surface->corner_count, theirs.grid + GUARD, surface->lent[0], theirs.rings + GUARD, surface->lent[1], theirs.lengths + GUARD, surface->lent[2], surface->pitch, &due);
+    said.number = wazelpunt_survey(surface->words, surface->word_count, surface->corners, surface->corner_count, ours.grid + GUARD, surface->lent[0], ours.rings + GUARD, surface->lent[1], ours.lengths + GUARD, surface->lengths_lent, &said.place, &said.loops, &said.vertices, surface->pitch);
+    reference_survey(surface->words, surface->word_count, surface->corners, surface->corner_count, theirs.grid + GUARD, surface->lent[0], theirs.rings + GUARD, surface->lent[1], theirs.lengths + GUARD, surface->lengths_lent, surface->pitch, &due);
     refused[due.number]++;
+    by_buffer[due.number == 3 ? due.place : 0]++;
     loops += due.loops;
     if (due.number == 0) by_pitch[surface->pitch] += due.loops;
     if (said.number != due.number || said.place != due.place || said.loops != due.loops || said.vertices != due.vertices) {
@@ -144,9 +145,10 @@ static size_t compare_grids(void) {
     return wrong;
 }
 
-/* Whether every answer was met, and loops at every pitch. */
+/* Whether every answer was met, every buffer short, and loops at every pitch. */
 static int met_all(void) {
     size_t missing = refused[17] == 0;
+    for (int b = 1; b <= 3; b++) missing += by_buffer[b] == 0;
     for (int n = 0; n <= 8; n++) missing += refused[n] == 0;
     for (int p = 0; p < 4; p++) missing += by_pitch[pitches[p]] == 0;
     if (missing > 0) printf("%zu answers or pitches were not met\n", missing);
@@ -169,8 +171,9 @@ int main(int count, char **arguments) {
         fill(&before, sizeof before, &generator);
         if (i % 2 == 0) generate_sound_surface(&generator, &surface);
         else generate_surface(&generator, &surface);
-        for (int b = 0; b < 3; b++)
+        for (int b = 0; b < 2; b++)
             if (surface.lent[b] > ROOM) surface.lent[b] = ROOM;
+        if (surface.lengths_lent > ROOM) surface.lengths_lent = ROOM;
         if (!agree(&surface) && wrong++ < 10) printf("surface of seed %" PRIu64 "\n", seed + i);
     }
     wrong += count < 2 && !met_all();

@@ -2,7 +2,7 @@
 use Prim.Native.Nat.{_+_, _-_, _*_, _/_}
 use mathlib.Core.Path.{_≡_, refl}
 use Rattle.base_limits.specs.States as state
-use Rattle.base_limits.specs.Limits.{points, triangles, words, corners, states, patches, set-corners, greatest, longest, sheet-text, set-text, file}
+use Rattle.base_limits.specs.Limits.{points, triangles, words, corners, states, patches, set-corners, greatest, longest, record-numbers, sheet-text, set-text, file}
 
 -- three words a point and three corners a triangle
 pub words-are : words ≡ 3 * points
@@ -49,6 +49,10 @@ greatest-weight = refl
 -- The pairs of positions in the longest loop that is patched.
 pub pairs : longest * (longest - 1) / 2 ≡ 2016
 pairs = refl
+
+-- The numbers that all records of a surface take.
+pub most-records : record-numbers * triangles ≡ 7168
+most-records = refl
 
 -- The numbers of the states.
 pub patched-is : state.patched ≡ 1

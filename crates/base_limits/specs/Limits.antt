@@ -12,6 +12,7 @@ use Rattle.base_types.proofs.PatchSet.takes_corners.⟦Self·CORNERS⟧-asked.L
 use Rattle.base_types.proofs.PatchSet.takes_text.⟦Self·TEXT⟧-asked.Lts as for-set-text
 use Rattle.base_types.proofs.Grid.holds.⟦Self·GREATEST⟧-asked.Lts as for-grid
 use Rattle.base_types.proofs.Loop.is_long.⟦Self·LONGEST⟧-asked.Lts as for-loop
+use Rattle.base_types.proofs.Loop.records.⟦Self·RECORD⟧-asked.Lts as for-record
 
 -- how many points and triangles a surface has at most, and how many words and corners those have
 abbrev pub points : ℕ
@@ -43,6 +44,10 @@ greatest = for-grid.answer tt tt
 -- how many edges a loop has at most that is not long
 abbrev pub longest : ℕ
 longest = for-loop.answer tt tt
+
+-- how many numbers a loop's record has
+abbrev pub record-numbers : ℕ
+record-numbers = for-record.answer tt tt
 
 -- how many bytes the longest sheet text has, and the longest text of a patch set
 abbrev pub sheet-text : ℕ

@@ -211,6 +211,9 @@ pub struct Loop {
 impl Loop {
     pub const LONGEST: usize = 64;
 
+    // The numbers of a loop's record: length, state, weight, count, first half-edge, piece and run.
+    pub const RECORD: usize = 7;
+
     // The loop of that many edges.
     pub fn of(length: usize) -> Loop
         ensures { λ r. ⌜ r .length ≡ length ⌝ }
@@ -224,6 +227,13 @@ impl Loop {
     {
         let length = self.length;
         Self::LONGEST < length
+    }
+
+    // How many records that many numbers hold.
+    pub fn records(numbers: usize) -> usize
+        ensures { λ r. do width ← ⟦Self::RECORD⟧ .entry; ⌜ r ≡ numbers / width ⌝ }
+    {
+        numbers / Self::RECORD
     }
 }
 

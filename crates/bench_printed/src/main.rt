@@ -134,13 +134,11 @@ fn fan(corners: &mut [u16])
 }
 
 // The line of one surface: the answer's number and place, how many loops, ring vertices and patch corners there are, the first
-// loop's state and weight, and the corners of its first two triangles.
+// loop's state, weight, first half-edge, piece and run, and the corners of its first two triangles.
 fn surface(words: &[u32], corners: &[u16]) {
     let mut grid = [0i32; 195];
     let mut rings = [0u16; 189];
-    let mut lengths = [0u16; 63];
-    let mut states = [0u16; 63];
-    let mut weights = [0u64; 63];
+    let mut records = [0u64; 441];
     let mut patches = [0u16; 567];
     let mut place: usize = 0;
     let mut loops: usize = 0;
@@ -151,9 +149,7 @@ fn surface(words: &[u32], corners: &[u16]) {
         corners,
         &mut grid,
         &mut rings,
-        &mut lengths,
-        &mut states,
-        &mut weights,
+        &mut records,
         &mut patches,
         &mut place,
         &mut loops,
@@ -162,7 +158,7 @@ fn surface(words: &[u32], corners: &[u16]) {
         1,
     );
     print_answer(number, place, loops, vertices, laid);
-    print_loop(states[0], weights[0]);
+    print_loop(records[1], records[2], records[4], records[5], records[6]);
     print_triangle(patches[0], patches[1], patches[2]);
     print_triangle(patches[3], patches[4], patches[5]);
     io::write_all(STDOUT_FILENO, b"\n");
@@ -176,9 +172,12 @@ fn print_answer(number: u32, place: usize, loops: usize, vertices: usize, laid: 
     print_after(b", ", laid as u64);
 }
 
-fn print_loop(state: u16, weight: u64) {
-    print_after(b"; ", state as u64);
+fn print_loop(state: u64, weight: u64, first: u64, piece: u64, run: u64) {
+    print_after(b"; ", state);
     print_after(b", ", weight);
+    print_after(b", ", first);
+    print_after(b", ", piece);
+    print_after(b", ", run);
 }
 
 fn print_triangle(a: u16, b: u16, c: u16) {

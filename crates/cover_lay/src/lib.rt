@@ -28,7 +28,8 @@ pub fn lay_patch(
     let Least::Weight(_) = least else {
         return Least::Nothing;
     };
-    let end = cover_trace::list(table, ring, out, p, 0, ring.len() - 1, table.len() / 4);
+    cover_trace::list(table, ring, out, p, 0, ring.len() - 1, table.len() / 4);
+    let end = p + 3 * (ring.len() - 2);
     Least::Weight(cover_sum::weigh_set(grid, &out[p..end]))
 }
 

@@ -62,7 +62,8 @@ pub fn lay(ring: &[u16], out: &mut [u16], p: usize, i: usize, k: usize, m: usize
     out[p + 2] = ring[m];
 }
 
-// The patch of i..k from p on, which is no side: the triangle, then i..m, then m..k. Gives the place after it.
+// The patch of i..k from p on: the triangle, then i..m, then m..k; a side has none. The stretch that is left to list is from..to, whose
+// patch begins at `at`. Of its two parts the shorter is listed by a call and the longer in the next turn, so that calls are few deep.
 pub fn list(
     table: &[f64],
     ring: &[u16],
@@ -71,22 +72,35 @@ pub fn list(
     i: usize,
     k: usize,
     quarter: usize,
-) -> usize
+)
     requires { ⌜ ListRoom quarter (now table) (now ring) (now out) p i k ⌝ }
-    ensures { λ r. ⌜ ListsPatch quarter (was table) (was ring) (was out) p i k r (left out) ⌝ }
+    ensures { λ _. ⌜ ListsPatch quarter (was table) (was ring) (was out) p i k (left out) ⌝ }
 {
-    let m = middle(table, i, k, quarter);
-    lay(ring, out, p, i, k, m);
-    // a part that is a side has no triangle
-    if i + 1 == m {
-        if m + 1 == k {
-            return p + 3;
+    let mut at = p;
+    let mut from = i;
+    let mut to = k;
+    while from + 1 < to {
+        let m = middle(table, from, to, quarter);
+        lay(ring, out, at, from, to, m);
+        if from + 1 == m {
+            at += 3;
+            from = m;
+            continue;
         }
-        return list(table, ring, out, p + 3, m, k, quarter);
+        if m + 1 == to {
+            at += 3;
+            to = m;
+            continue;
+        }
+        let after = at + 3 * (m - from);
+        if m - from <= to - m {
+            list(table, ring, out, at + 3, from, m, quarter);
+            at = after;
+            from = m;
+            continue;
+        }
+        list(table, ring, out, after, m, to, quarter);
+        at += 3;
+        to = m;
     }
-    let q = list(table, ring, out, p + 3, i, m, quarter);
-    if m + 1 == k {
-        return q;
-    }
-    list(table, ring, out, q, m, k, quarter)
 }

@@ -6,6 +6,7 @@ pub mod Kept
 pub mod Closing
 pub mod Passable
 pub mod Sets
+pub mod Records
 pub mod Grid
 pub mod Pieces
 pub mod Texts

@@ -1,8 +1,8 @@
 -- Demand 3 is kept by every outcome of the checker and of the patcher.
-use mathlib.Core.Path.{_≡_, refl, sym, ap, _∙_, subst}
+use mathlib.Core.Path.{_≡_, refl, sym, ap, ap₂, _∙_, subst}
 use mathlib.Core.Bool.{Bool, true, false, true≢false}
-use mathlib.Core.List.{List, [], flatten}
-use Prim.Native.Nat.{ℕ, _*_, _≤_, _<_}
+use mathlib.Core.List.{List, [], _∷_, flatten}
+use Prim.Native.Nat.{ℕ, suc, _*_, _/_, _≤_, _<_}
 use native.Mathlib.Omega.{arith}
 use borrow.Author.Tests.{eqb-true, eqb-false}
 use lib.Dec.{eqb}
@@ -16,14 +16,15 @@ use Rattle.surface_rules.specs.Refusals.{refusal}
 use Rattle.surface_rules.proofs.Laws.Lists.{map-at}
 use Rattle.surface_rules.proofs.Laws.Over.{start-of}
 use Rattle.surface_rules.proofs.Laws.Sound.{Passed, passed, passes, passed-sound}
+use Rattle.surface_rules.proofs.Laws.Thens.{buffers-long}
 use Rattle.loop_rules.specs.Loops.{loops, ring}
-use Rattle.loop_rules.proofs.Theorems.{vertices-in-all, vertices-few}
+use Rattle.loop_rules.proofs.Theorems.{vertices-in-all, vertices-few, loops-third}
 use Rattle.rim_pieces.specs.Computed.{numbersBelow}
 use Rattle.rim_pieces.proofs.Laws.Uniting.{numbers-length, numbers-at}
 use Rattle.survey_grid.specs.Grid.{gridOf}
 use Rattle.survey_rules.specs.Outcome as survey
 use Rattle.rim_rules.specs.Rims.{isRim, rimList}
-use Rattle.fill_fates.specs.Fates.{Fate}
+use Rattle.fill_fates.specs.Fates.{Fate, rim, stateOf}
 use Rattle.fill_fates.specs.Course.{Course, ringList, statesOf, laidBy}
 use Rattle.fill_fates.proofs.Laws.Grows.{course-length}
 use Rattle.fill_fates.proofs.Laws.Lengths.{laid-length, states-length}
@@ -33,12 +34,22 @@ use Rattle.judge_rules.proofs.Theorems.{verdict-once}
 use Rattle.judge_rules.proofs.Laws.Passes.{passes-right, right-passes}
 use Rattle.judge_rules.proofs.Laws.Patched.{course-right}
 use Rattle.judge_rules.proofs.Laws.Filled.{right-filled, parts-all, part-empty, empty-part}
+use Rattle.patch_records.specs.declared.Record.{Record}
+use Rattle.patch_records.specs.Records.{recordOf, recordsOf, recordIn}
+use Rattle.patch_records.proofs.Laws.Reading.{record-found}
 use Rattle.patch_surface.specs.Outcome as patcher
 use Rattle.judge_surface.specs.Outcome.{JudgesCounted, JudgesIf, Judges}
 use Rattle.judge_surface.proofs.Laws.Apart.{rings-apart}
 use Rattle.demands.specs.Sets.{begins, Passable, Closes, CheckerDemand, statesLeft, setLeft, PatcherDemand}
 use Rattle.demands.proofs.Closing.{closing-demand}
 use Rattle.demands.proofs.Passable.{right-each, right-none-left, each-right}
+
+-- lists of numbers that are as long and have the same at each place are equal
+items-same : (k l : List ℕ) → length k ≡ length l → ((i : ℕ) → i < length k → getD k i 0 ≡ getD l i 0) → k ≡ l
+items-same [] [] e h = refl
+items-same [] (y ∷ l) e h = absurd (omega arith)
+items-same (x ∷ k) [] e h = absurd (omega arith)
+items-same (x ∷ k) (y ∷ l) e h = ap₂ (λ (z : ℕ) (m : List ℕ). z ∷ m) (h 0 (omega arith)) (items-same k l (omega arith) (λ i b. h (suc i) (omega arith)))
 
 -- ---- the rings of a sound surface
 
@@ -145,44 +156,70 @@ module _ (pitch : ℕ) (words corners states set : List ℕ) (b : survey.Buffers
 -- ---- the patcher
 
 module _ (pitch : ℕ) (words corners : List ℕ) (b : patcher.Buffers) (o : patcher.Outcome) where
-  abbrev refuses : Answer
+  abbrev pub refuses : Answer
   refuses = refusal pitch words corners (patcher.lent b) (patcher.needs words corners)
 
-  done-demand : refusing refuses ≡ false → (fates : List Fate) → Course (gridOf pitch words) corners [] (rimList (gridOf pitch words) corners) (ringList corners) fates → o ≡ patcher.done pitch words corners fates b
-      → PatcherDemand pitch words corners o
-  done-demand r fates course e = record {
-    fits = fit;
-    passes = λ c p l j.
-        checker-demand pitch words corners (statesLeft o) (setLeft o) c p j .passed-always
-        (passes pitch words corners (survey.lent c) (survey.needs words corners) (record { pitched = table .pitched; counts = table .counts; buffers = l; corner = table .corner; word = table .word }))
-        (passable corners sound (gridOf pitch words) (statesLeft o) (setLeft o) right (ap length states ∙ fated));
-    closes = closes corners sound (gridOf pitch words) (statesLeft o) (setLeft o) right;
-  }
-    where
-      table : Passed pitch words corners (patcher.lent b) (patcher.needs words corners)
-      table = passed pitch words corners (patcher.lent b) (patcher.needs words corners) r
+  module _ (r : refusing refuses ≡ false) (fates : List Fate) (course : Course (gridOf pitch words) corners [] (rimList (gridOf pitch words) corners) (ringList corners) fates)
+      (e : o ≡ patcher.done pitch words corners fates b) where
+    table-passed : Passed pitch words corners (patcher.lent b) (patcher.needs words corners)
+    table-passed = passed pitch words corners (patcher.lent b) (patcher.needs words corners) r
 
-      sound : Sound corners
-      sound = passed-sound pitch words corners (patcher.lent b) (patcher.needs words corners) table
+    pub done-sound : Sound corners
+    done-sound = passed-sound pitch words corners (patcher.lent b) (patcher.needs words corners) table-passed
 
-      fated : length (statesOf fates) ≡ length (loops corners)
-      fated = states-length fates ∙ course-length (gridOf pitch words) corners [] (rimList (gridOf pitch words) corners) (ringList corners) fates course ∙ many corners sound
+    -- the record of each loop stands where records are left
+    pub record-left : (l : ℕ) → l < length (loops corners) → recordIn (o .left .records) l ≡ recordOf (gridOf pitch words) corners fates l
+    unfolding recordsOf
+    record-left l h =
+        let room : 7 * (length corners / 3) ≤ length (b .records) = buffers-long (patcher.lent b) (patcher.needs words corners) (table-passed .buffers) 2 (omega arith) in
+        ap (λ (x : patcher.Outcome). recordIn (x .left .records) l) e
+        ∙ record-found (recordOf (gridOf pitch words) corners fates) (b .records) (length (loops corners)) l h (omega (arith, loops-third corners done-sound))
 
-      states : statesLeft o ≡ statesOf fates
-      states = ap statesLeft e ∙ start-of (statesOf fates) (b .states) (length (loops corners)) (sym fated)
+    fates-many : length fates ≡ length (loops corners)
+    fates-many = course-length (gridOf pitch words) corners [] (rimList (gridOf pitch words) corners) (ringList corners) fates course ∙ many corners done-sound
 
-      set : setLeft o ≡ laidBy (ringList corners) fates
-      set = ap setLeft e ∙ start-of (laidBy (ringList corners) fates) (b .patches) (length (laidBy (ringList corners) fates)) refl
+    loops-are : o .loops ≡ length (loops corners)
+    loops-are = ap (λ (x : patcher.Outcome). x .loops) e
 
-      right : AllRight (gridOf pitch words) corners [] (rimList (gridOf pitch words) corners) (ringList corners) (statesLeft o) (setLeft o)
-      right = subst (λ (x : List ℕ). AllRight (gridOf pitch words) corners [] (rimList (gridOf pitch words) corners) (ringList corners) x (setLeft o)) (sym states)
-          (subst (λ (x : List ℕ). AllRight (gridOf pitch words) corners [] (rimList (gridOf pitch words) corners) (ringList corners) (statesOf fates) x) (sym set) (course-right (gridOf pitch words) corners [] (rimList (gridOf pitch words) corners) (ringList corners) fates course))
+    -- the state that is left for loop l is that of its record
+    pub state-left : (l : ℕ) → l < o .loops → getD (statesLeft o) l 0 ≡ recordIn (o .left .records) l .state
+    state-left l h =
+        map-at (λ (k : ℕ). recordIn (o .left .records) k .state) 0 0 (numbersBelow (o .loops)) l (omega (arith, numbers-length (o .loops)))
+        ∙ ap (λ (k : ℕ). recordIn (o .left .records) k .state) (numbers-at (o .loops) l h)
 
-      fit : o .corners ≤ 3 * length corners
-      fit =
-          let a : o .corners ≡ length (laidBy (ringList corners) fates) = ap (λ (x : patcher.Outcome). x .corners) e in
-          let c : length (laidBy (ringList corners) fates) ≤ 3 * length (flatten (ringList corners)) = laid-length (gridOf pitch words) corners [] (rimList (gridOf pitch words) corners) (ringList corners) fates course in
-          omega (arith, vertices-in-all corners sound, vertices-few corners sound)
+    states-many : length (statesLeft o) ≡ o .loops
+    states-many = length-map (numbersBelow (o .loops)) (λ (l : ℕ). recordIn (o .left .records) l .state) ∙ numbers-length (o .loops)
+
+    states-are : statesLeft o ≡ statesOf fates
+    states-are =
+        items-same (statesLeft o) (statesOf fates) (states-many ∙ loops-are ∙ sym (states-length fates ∙ fates-many))
+        (λ l h.
+        state-left l (omega (arith, states-many))
+        ∙ ap (λ (x : Record). x .state) (record-left l (omega (arith, states-many, loops-are)))
+        ∙ sym (map-at stateOf rim 0 fates l (omega (arith, states-many, loops-are, fates-many))))
+
+    set-is : setLeft o ≡ laidBy (ringList corners) fates
+    set-is = ap setLeft e ∙ start-of (laidBy (ringList corners) fates) (b .patches) (length (laidBy (ringList corners) fates)) refl
+
+    all-laid : AllRight (gridOf pitch words) corners [] (rimList (gridOf pitch words) corners) (ringList corners) (statesLeft o) (setLeft o)
+    all-laid = subst (λ (x : List ℕ). AllRight (gridOf pitch words) corners [] (rimList (gridOf pitch words) corners) (ringList corners) x (setLeft o)) (sym states-are)
+        (subst (λ (x : List ℕ). AllRight (gridOf pitch words) corners [] (rimList (gridOf pitch words) corners) (ringList corners) (statesOf fates) x) (sym set-is) (course-right (gridOf pitch words) corners [] (rimList (gridOf pitch words) corners) (ringList corners) fates course))
+
+    fit : o .corners ≤ 3 * length corners
+    fit =
+        let a : o .corners ≡ length (laidBy (ringList corners) fates) = ap (λ (x : patcher.Outcome). x .corners) e in
+        let c : length (laidBy (ringList corners) fates) ≤ 3 * length (flatten (ringList corners)) = laid-length (gridOf pitch words) corners [] (rimList (gridOf pitch words) corners) (ringList corners) fates course in
+        omega (arith, vertices-in-all corners done-sound, vertices-few corners done-sound)
+
+    pub done-demand : PatcherDemand pitch words corners o
+    done-demand = record {
+      fits = fit;
+      passes = λ c p l j.
+          checker-demand pitch words corners (statesLeft o) (setLeft o) c p j .passed-always
+          (passes pitch words corners (survey.lent c) (survey.needs words corners) (record { pitched = table-passed .pitched; counts = table-passed .counts; buffers = l; corner = table-passed .corner; word = table-passed .word }))
+          (passable corners done-sound (gridOf pitch words) (statesLeft o) (setLeft o) all-laid (states-many ∙ loops-are));
+      closes = closes corners done-sound (gridOf pitch words) (statesLeft o) (setLeft o) all-laid;
+    }
 
   -- where the outcome is no refusal the table gave none, and the course was run
   pub patch-done : patcher.Patches pitch words corners b o → refusing (o .answer) ≡ false → (refusing refuses ≡ false) × patcher.PatchesIf false refuses pitch words corners b o

@@ -15,6 +15,7 @@ use Rattle.judge_surface.specs.Outcome.{Judges}
 use Rattle.demands.specs.Answers.{AnswersDemand}
 use Rattle.demands.specs.Grid.{GridDemand}
 use Rattle.demands.specs.Loops.{LoopsDemand}
+use Rattle.demands.specs.Records.{RecordsDemand}
 use Rattle.demands.specs.Texts.{TextsDemand}
 use Rattle.demands.specs.Closing.{ClosingDemand}
 use Rattle.demands.specs.Sets.{CheckerDemand, PatcherDemand}
@@ -22,6 +23,7 @@ use Rattle.demands.specs.Pieces.{GroupsDemand, PiecesDemand}
 use Rattle.demands.proofs.Answers.{answers-demand}
 use Rattle.demands.proofs.Grid.{grid-demand}
 use Rattle.demands.proofs.Kept.{loops-demand}
+use Rattle.demands.proofs.Records.{records-demand}
 use Rattle.demands.proofs.Texts.{texts-demand}
 use Rattle.demands.proofs.Closing.{closing-demand}
 use Rattle.demands.proofs.Sets.{checker-demand, patcher-demand}
@@ -39,6 +41,10 @@ demand-2-grid = grid-demand
 -- Each open edge lies in one loop, and no loop meets a vertex twice.
 pub demand-2-loops : (corners : List ℕ) → Sound corners → LoopsDemand corners
 demand-2-loops = loops-demand
+
+-- The record of each loop that the patcher leaves is the fact: its length, state and weight, its first half-edge, its piece and its run.
+pub demand-2-records : (pitch : ℕ) (words corners : List ℕ) (b : patcher.Buffers) (o : patcher.Outcome) → patcher.Patches pitch words corners b o → refusing (o .answer) ≡ false → RecordsDemand pitch words corners b o
+demand-2-records = records-demand
 
 -- A sheet that is written reads back as the same sheet, and a text that is accepted is the one that would be written.
 pub demand-2-texts : TextsDemand

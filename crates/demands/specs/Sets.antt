@@ -2,7 +2,7 @@
 use mathlib.Core.Path.{_≡_}
 use mathlib.Core.Bool.{true, false}
 use mathlib.Core.Logic.{_⊎_}
-use mathlib.Core.List.{List, [], _∷_, flatten}
+use mathlib.Core.List.{List, [], _∷_, map, flatten}
 use Prim.Native.Nat.{ℕ, zero, suc, _+_, _*_, _<_, _≤_}
 use lib.IntN.{ℤ}
 use lib.ListN.{length, getD, take, drop}
@@ -13,10 +13,12 @@ use Rattle.surface_rules.specs.Refusals.{bufferRefusal, refusal}
 use Rattle.loop_rules.specs.Loops.{loops}
 use Rattle.survey_grid.specs.Grid.{gridOf}
 use Rattle.survey_rules.specs.Outcome as survey
+use Rattle.rim_pieces.specs.Computed.{numbersBelow}
 use Rattle.rim_rules.specs.Rims.{isRim}
 use Rattle.fill_fates.specs.Course.{ringList}
 use Rattle.judge_rules.specs.Faults.{RightIf}
 use Rattle.judge_rules.specs.Verdicts.{taken, parts}
+use Rattle.patch_records.specs.Records.{recordIn}
 use Rattle.patch_surface.specs.Outcome as patcher
 use Rattle.judge_surface.specs.Outcome.{Judges}
 use Rattle.demands.specs.Closing.{ClosingDemand, laidIn}
@@ -76,7 +78,7 @@ pub record CheckerDemand (pitch : ℕ) (words corners states set : List ℕ) (b 
 
 -- the states and the set that the patcher leaves
 abbrev pub statesLeft : patcher.Outcome → List ℕ
-statesLeft o = take (o .loops) (o .left .states)
+statesLeft o = map (λ (l : ℕ). recordIn (o .left .records) l .state) (numbersBelow (o .loops))
 
 abbrev pub setLeft : patcher.Outcome → List ℕ
 setLeft o = take (o .corners) (o .left .patches)

@@ -1,2 +1,5 @@
 -- The laws of the patcher, each file for one idea.
+pub mod Checking
+pub mod Weighing
 pub mod Patching
+pub mod Answering

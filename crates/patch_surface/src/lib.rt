@@ -1,12 +1,17 @@
-// Patches a surface whose counts fit, with lent scratch: the other checks, the grid, the loops and the rims; then what becomes of each
-// loop. These are two functions, so that what the first needs on the stack is gone when the second begins.
+// Patches a surface whose counts fit, with lent scratch: the other checks and the grid; then the loops, what becomes of each, and their
+// records.
 ghost use mathlib.Core.Path.{_≡_};
+ghost use Prim.Native.Nat.{_/_};
+ghost use lib.ListN.{length};
 ghost use Rattle.base_types.specs.Lent.{was, left};
 ghost use Rattle.base_types.specs.Pitches.{pitchOf};
-ghost use Rattle.fill_scratch.specs.Workings.Scratch.{Scratch};
-ghost use Rattle.patch_surface.specs.Outcome.{outcome, buffers};
-ghost use Rattle.patch_surface.specs.Workings.Finding.{Finds, Readied, Finishes};
+ghost use Rattle.check_surface.specs.Workings.Checks.{Fitted};
+ghost use Rattle.fill_scratch.specs.Workings.Tray.{EdgeRoom};
+ghost use Rattle.patch_surface.specs.Outcome.{buffers};
+ghost use Rattle.patch_surface.specs.Workings.Checking.{Bench, Checks, PatchRoom, Finishes};
+ghost use Rattle.patch_surface.specs.Workings.Weighing.{weighing, WeighRoom, Weighs};
 use base_answers::Answer;
+use base_types::Loop;
 use base_types::Pitch;
 
 // What the patcher answers: done or a refusal, how many loops there are, how many vertices their rings have, and how many corners
@@ -18,98 +23,119 @@ pub struct Patched {
     pub corners: usize,
 }
 
-// Refusals 3 to 8 at that pitch, and what comes before the course: the grid, the loops, and the rims marked among the states; with a table
-// of turns, a path and places that are long enough.
-pub fn find_with(
+// Refusals 3 to 8 at that pitch, with a table of turns that is long enough. Where none is given, the table is filled and the grid is laid:
+// from then on nobody needs the words.
+pub fn check(
     words: &[u32],
+    corners: &[u16],
+    turns: &mut [u16],
+    grid: &mut [i32],
+    rings: &[u16],
+    records: &[u64],
+    patches: &[u16],
+    pitch: Pitch,
+) -> Answer
+    requires { ⌜ Fitted (now words) (now corners) (now turns) ⌝ }
+    ensures { λ r. ⌜ Checks (pitchOf pitch) (was words) (was corners) (buffers (was grid) (was rings) (was records) (was patches)) r (left turns) (left grid) ⌝ }
+{
+    let n = corners.len();
+    let lent = [grid.len(), rings.len(), records.len(), patches.len()];
+    let needs = [words.len(), n, Loop::RECORD * (n / 3), 3 * n];
+    let checked = check_surface::check(words, corners, &lent, &needs, turns, pitch);
+    if checked.refuses() {
+        return checked;
+    }
+    survey_grid::lay_grid(words, grid, pitch);
+    checked
+}
+
+// Patches a surface that passed the checks, on its grid, which ends with the last point: the loops are listed, the rims marked, the course
+// run, and the columns of what is known of each loop laid as records. The scratch is long enough; nobody needs the turns and the path once
+// the rims are marked, and they become the links and the ends of the chained edges.
+pub fn patch_checked(
     corners: &[u16],
     turns: &mut [u16],
     path: &mut [u16],
     places: &mut [u16],
-    grid: &mut [i32],
-    rings: &mut [u16],
     lengths: &mut [u16],
     states: &mut [u16],
-    weights: &mut [u64],
+    firsts: &mut [u16],
+    runs: &mut [u32],
+    grid: &[i32],
+    rings: &mut [u16],
+    records: &mut [u64],
     patches: &mut [u16],
-    pitch: Pitch,
 ) -> Patched
-    requires { ⌜ Scratch (now words) (now corners) (now turns) (now path) (now places) ⌝ }
-    ensures { λ r. ⌜ Finds (pitchOf pitch) (was words) (was corners) (buffers (was grid) (was rings) (was lengths) (was states) (was weights) (was patches))
-        r (buffers (left grid) (left rings) (left lengths) (left states) (left weights) (left patches)) (left turns) (left path) ⌝ }
+    requires { ⌜ PatchRoom (now corners) (now turns) (now grid) (now rings) (now records) (now patches) ⌝ }
+    requires { ⌜ Bench (length (now grid) / 3) (now corners) (now turns) (now path) (now places) (now lengths) (now states) (now firsts) (now runs) ⌝ }
+    ensures { λ r. ⌜ Finishes (was corners) (was turns) (was grid) (buffers (was grid) (was rings) (was records) (was patches)) r
+        (buffers (was grid) (left rings) (left records) (left patches)) ⌝ }
 {
-    let n = corners.len();
-    let lent = [
-        grid.len(),
-        rings.len(),
-        lengths.len(),
-        states.len(),
-        weights.len(),
-        patches.len(),
-    ];
-    let needs = [words.len(), n, n / 3, n / 3, n / 3, 3 * n];
-    let checked = check_surface::check(words, corners, &lent, &needs, turns, pitch);
-    if checked.refuses() {
-        return refused(checked);
-    }
-    survey_grid::lay_grid(words, grid, pitch);
-    // the first half-edges stand among the states until the rims are marked there
-    let listed = loop_find::list_with(corners, turns, path, places, rings, lengths, states);
-    rim_mark::mark(
-        &grid[..words.len()],
+    let listed = loop_find::list_with(corners, turns, path, places, rings, lengths, firsts);
+    let loops = listed.loops;
+    let vertices = listed.vertices;
+    rim_mark::mark_all(
+        grid,
         corners,
-        &rings[..listed.vertices],
-        &lengths[..listed.loops],
+        &rings[..vertices],
+        &lengths[..loops],
+        firsts,
         turns,
         path,
         places,
+        runs,
         states,
     );
-    Patched {
-        answer: checked,
-        loops: listed.loops,
-        vertices: listed.vertices,
-        corners: 0,
-    }
-}
-
-// The course over the loops that were found. Nobody needs the turns and the path any more: they become the links and the ends of the
-// chained edges.
-pub fn patch_found(
-    words: &[u32],
-    corners: &[u16],
-    turns: &mut [u16],
-    path: &mut [u16],
-    grid: &[i32],
-    rings: &[u16],
-    lengths: &[u16],
-    states: &mut [u16],
-    weights: &mut [u64],
-    patches: &mut [u16],
-    found: Patched,
-) -> Patched
-    requires { ⌜ Readied (now words) (now corners) found (buffers (now grid) (now rings) (now lengths) (now states) (now weights) (now patches))
-        (now turns) (now path) ⌝ }
-    ensures { λ r. ⌜ Finishes (was words) (was corners) found (buffers (was grid) (was rings) (was lengths) (was states) (was weights) (was patches))
-        (was turns) (was path) (outcome r (buffers (was grid) (was rings) (was lengths) (left states) (left weights) (left patches))) ⌝ }
-{
-    let laid = patch_all::patch_all(
-        &grid[..words.len()],
+    let laid = run_course(
+        grid,
         corners,
-        &rings[..found.vertices],
-        &lengths[..found.loops],
+        &rings[..vertices],
+        &lengths[..loops],
         states,
-        weights,
+        records,
         patches,
         turns,
         path,
     );
+    patch_records::lay(&lengths[..loops], states, firsts, places, runs, records);
     Patched {
         answer: Answer::Done,
-        loops: found.loops,
-        vertices: found.vertices,
+        loops,
+        vertices,
         corners: laid,
     }
+}
+
+// The course over the loops that were found. The weights come to stand in the last seventh of the place of the records, until these are
+// laid.
+fn run_course(
+    grid: &[i32],
+    corners: &[u16],
+    rings: &[u16],
+    lengths: &[u16],
+    states: &mut [u16],
+    records: &mut [u64],
+    patches: &mut [u16],
+    links: &mut [u16],
+    ends: &mut [u16],
+) -> usize
+    requires { ⌜ WeighRoom (now grid) (now corners) (now rings) (now lengths) (now states) (now records) (now patches) × EdgeRoom (now corners) (now links) (now ends) ⌝ }
+    ensures { λ r. ⌜ Weighs (was grid) (was corners) (was rings) (was lengths) (weighing (was states) (was records) (was patches)) r
+        (weighing (left states) (left records) (left patches)) ⌝ }
+{
+    let from = (Loop::RECORD - 1) * lengths.len();
+    let end = Loop::RECORD * lengths.len();
+    patch_all::patch_all(
+        grid,
+        corners,
+        rings,
+        lengths,
+        states,
+        &mut records[from..end],
+        patches,
+        links,
+        ends,
+    )
 }
 
 // A refusal has zero in every count.

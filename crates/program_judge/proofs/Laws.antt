@@ -2,3 +2,4 @@
 pub mod Answered
 pub mod Sets
 pub mod Sheets
+pub mod Takes

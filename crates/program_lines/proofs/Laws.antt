@@ -3,6 +3,7 @@ pub mod Digits
 pub mod Lines
 pub mod Patches
 pub mod Parts
+pub mod Records
 pub mod Widths
 pub mod Answering
 pub mod Nexts

@@ -16,6 +16,7 @@ use base_answers::Answer;
 use base_types::Loop;
 use base_types::State;
 use base_types::Surface;
+use patch_records::Record;
 
 // How many bytes an answer's line has at most, and the lines of one loop: six for each vertex of its ring, with the comma, and for each
 // triangle of its patch the key and three numbers.
@@ -105,6 +106,30 @@ fn put_three(out: &mut [u8], at: usize, key: &[u8], a: u64, b: u64, c: u64) -> u
     put_number(out, j, c, b'\n')
 }
 
+// Puts a line of a key and six numbers.
+fn put_six(
+    out: &mut [u8],
+    at: usize,
+    key: &[u8],
+    a: u64,
+    b: u64,
+    c: u64,
+    d: u64,
+    e: u64,
+    f: u64,
+) -> usize
+    requires { ⌜ at + length (line (now key) (a ∷ b ∷ c ∷ d ∷ e ∷ f ∷ [])) ≤ length (now out) ⌝ }
+    ensures { λ r. ⌜ PutAt at (line (was key) (a ∷ b ∷ c ∷ d ∷ e ∷ f ∷ [])) (was out) r (left out) ⌝ }
+{
+    text_figures::put_bytes(out, at, key);
+    let i = put_number(out, at + key.len(), a, b',');
+    let j = put_number(out, i, b, b',');
+    let k = put_number(out, j, c, b',');
+    let l = put_number(out, k, d, b',');
+    let m = put_number(out, l, e, b',');
+    put_number(out, m, f, b'\n')
+}
+
 // Puts the line `answer=`, and answers how many bytes it has.
 pub fn put_answer(out: &mut [u8], answer: Answer) -> usize
     requires { do most ← ⟦LINE⟧; ⌜ most ≤ length (now out) ⌝ }
@@ -163,28 +188,31 @@ fn put_patch(out: &mut [u8], at: usize, patch: &[u16]) -> usize
 }
 
 // Puts the lines of one loop.
-fn put_loop(
-    out: &mut [u8],
-    at: usize,
-    ring: &[u16],
-    state: u16,
-    weight: u64,
-    patch: &[u16],
-) -> usize
-    requires { ⌜ at + length (loopLines (shown (now ring) state weight (now patch))) ≤ length (now out) ⌝ }
-    ensures { λ r. ⌜ PutAt at (loopLines (shown (was ring) state weight (was patch))) (was out) r (left out) ⌝ }
+fn put_loop(out: &mut [u8], at: usize, ring: &[u16], kept: Record, patch: &[u16]) -> usize
+    requires { ⌜ at + length (loopLines (shown (now ring) kept (now patch))) ≤ length (now out) ⌝ }
+    ensures { λ r. ⌜ PutAt at (loopLines (shown (was ring) kept (was patch))) (was out) r (left out) ⌝ }
 {
-    let i = put_three(out, at, b"loop=", ring.len() as u64, state as u64, weight);
+    let i = put_six(
+        out,
+        at,
+        b"loop=",
+        kept.length,
+        kept.state,
+        kept.weight,
+        kept.first,
+        kept.piece,
+        kept.run,
+    );
     let j = put_ring(out, i, ring);
     put_patch(out, j, patch)
 }
 
 // How many corners the patch of a loop with that many edges has in that state.
-fn corners_of(n: usize, state: u16) -> usize
+fn corners_of(n: usize, state: u64) -> usize
     requires { ⌜ (2 ≤ n) × (n < 2 ^ 16) ⌝ }
     ensures { λ r. ⌜ r ≡ cond (eqb state stated.patched) (3 * (n - 2)) 0 ⌝ }
 {
-    if state == State::PATCHED {
+    if state == State::PATCHED as u64 {
         3 * (n - 2)
     } else {
         0
@@ -196,28 +224,25 @@ pub fn put_next(
     out: &mut [u8],
     progress: Progress,
     rings: &[u16],
-    lengths: &[u16],
-    states: &[u16],
-    weights: &[u64],
+    records: &[u64],
     patches: &[u16],
 ) -> Progress
     requires { do most ← ⟦WIDEST⟧; ⌜ progress .bytes + most ≤ length (now out) ⌝ }
-    requires { ⌜ NextRoom (inventory (now rings) (now lengths) (now states) (now weights) (now patches)) progress ⌝ }
-    ensures { λ r. ⌜ TellsNext (inventory (was rings) (was lengths) (was states) (was weights) (was patches)) progress r (was out) (left out) ⌝ }
+    requires { ⌜ NextRoom (inventory (now rings) (now records) (now patches)) progress ⌝ }
+    ensures { λ r. ⌜ TellsNext (inventory (was rings) (was records) (was patches)) progress r (was out) (left out) ⌝ }
     ensures { λ r. do most ← ⟦WIDEST⟧ .entry; ⌜ r .bytes ≤ progress .bytes + most ⌝ }
 {
     let l = progress.loops;
-    let n = lengths[l] as usize;
-    let state = states[l];
-    let k = corners_of(n, state);
+    let kept = patch_records::record_at(records, l);
+    let n = kept.length as usize;
+    let k = corners_of(n, kept.state);
     let r = progress.vertices;
     let p = progress.corners;
     let bytes = put_loop(
         out,
         progress.bytes,
         &rings[r..r + n],
-        state,
-        weights[l],
+        kept,
         &patches[p..p + k],
     );
     Progress {

@@ -5,6 +5,7 @@ use mathlib.Core.Bool.{Bool, true, false, true≢false}
 use mathlib.Core.Logic.{inl, inr}
 use mathlib.Core.List.{List, [], flatten}
 use Prim.Native.Nat.{ℕ, _<_, _≤_}
+use lib.IntN.{ℤ}
 use lib.ListN.{length, take}
 use Rattle.base_answers.specs.Numbers.{refusing}
 use Rattle.base_answers.specs.declared.Answer.{Answer}
@@ -20,7 +21,7 @@ use Rattle.patch_surface.proofs.Theorems.{patches-once}
 use Rattle.text_rules.specs.Text.{TextOf}
 use Rattle.text_rules.specs.Room.{ReadInto}
 use Rattle.text_rules.proofs.Theorems.{Known}
-use Rattle.text_rules.proofs.Laws.Cut.{read-itself, room-text, room-fault}
+use Rattle.text_rules.proofs.Laws.Cut.{room-text, room-fault}
 use Rattle.text_sheet.specs.Sheet.{Sheet, sheet, pitchSaid, wordsSaid, cornersSaid}
 use Rattle.text_sheet.proofs.Laws.Texts.{text-or-fault}
 use Rattle.text_sheet.proofs.Theorems.{longest}
@@ -29,8 +30,10 @@ use Rattle.program_lines.specs.Printout.{PrintOutcome, PrintsOver}
 use Rattle.program_lines.proofs.Theorems.{print-once}
 use Rattle.program_roll.specs.Sections.{Sections}
 use Rattle.program_roll.proofs.Theorems.{sections-joined}
-use Rattle.program_list.specs.Lists.{Lists, ListsIn, loopsOf, PrintsIf, Prints}
+use Rattle.program_list.specs.Lists.{Lists, loopsOf, PrintsIf, Prints}
 use Rattle.program_list.specs.Workings.Printed.{Full, Printed}
+use Rattle.program_list.specs.Workings.TakingUp.{TakesUp}
+use Rattle.program_list.specs.declared.Taken.{Taken}
 use Rattle.program_list.proofs.Laws.Printed.{text-refused, text-done, fault-prints}
 
 -- two outcomes that are allowed are equal
@@ -49,7 +52,7 @@ prints-once bytes out out′ x y = go (text-or-fault bytes)
     of-text pitch words corners true a p q = p ∙ sym q
     of-text pitch words corners false a p q =
         p .2
-        ∙ ap (λ (fs : List Fate). listing (loopsOf (gridOf pitch words) (ringList corners) fs)) (course-once (gridOf pitch words) corners [] (rimList (gridOf pitch words) corners) (ringList corners) (p .0) (q .0) (p .1) (q .1))
+        ∙ ap (λ (fs : List Fate). listing (loopsOf (gridOf pitch words) corners fs)) (course-once (gridOf pitch words) corners [] (rimList (gridOf pitch words) corners) (ringList corners) (p .0) (q .0) (p .1) (q .1))
         ∙ sym (q .2)
 
     go : Known sheet bytes → out ≡ out′
@@ -81,8 +84,9 @@ sections-printed bytes loops sections p q = subst (Prints bytes) (sym (sections-
 no-longer : (bytes : List ℕ) (s : Sheet) → TextOf sheet bytes s → length bytes ≤ limits.sheet-text
 no-longer bytes s t = longest t
 
-pub lists-front : {room input : List ℕ} {n : ℕ} {b : Buffers} {o : Outcome} → limits.sheet-text < length room → ReadInto room n input → Lists (take n room) b o → Lists input b o
-lists-front roomy held p =
+pub takes-front : {room input : List ℕ} {n : ℕ} {b : Buffers} {r : Taken} {corners turns : List ℕ} {grid : List ℤ} → limits.sheet-text < length room → ReadInto room n input
+    → TakesUp (take n room) b r corners turns grid → TakesUp input b r corners turns grid
+takes-front roomy held p =
     record {
       of-fault = λ line f. p .of-fault line (room-fault no-longer roomy held f);
       of-text = λ s t. p .of-text s (room-text no-longer roomy held t);
@@ -94,7 +98,3 @@ prints-front roomy held p =
       of-fault = λ line f. p .of-fault line (room-fault no-longer roomy held f);
       of-text = λ s t. p .of-text s (room-text no-longer roomy held t);
     }
-
--- so what is answered and left is determined by what was read into the room
-pub lists-in-once : {room : List ℕ} {n : ℕ} {b : Buffers} {o p : Outcome} → n ≤ length room → ListsIn room n b o → ListsIn room n b p → o ≡ p
-lists-in-once {room} {n} {b} {o} {p} h x y = lists-once (take n room) b o p (x .due (take n room) (read-itself h)) (y .due (take n room) (read-itself h))

@@ -2,21 +2,24 @@
 -- reads a text from standard input and prints `answer=number,place`; if the number is 0, then `loops=`, and for each loop ..."
 use mathlib.Core.Path.{_≡_}
 use mathlib.Core.Bool.{Bool, true, false}
-use mathlib.Core.List.{List, [], _∷_}
+use mathlib.Core.List.{List, [], map}
 use Prim.Native.Nat.{ℕ}
 use lib.IntN.{ℤ}
+use lib.ListN.{length}
 use Rattle.base_answers.specs.Numbers.{refusing}
 use Rattle.base_answers.specs.declared.Answer.{Answer}
 use Rattle.base_answers.specs.declared.Answer.the-variants.{Line}
 use Rattle.surface_rules.specs.Refusals.{sheetRefusal}
 use Rattle.survey_grid.specs.Grid.{gridOf}
-use Rattle.rim_rules.specs.Rims.{rimList}
-use Rattle.fill_fates.specs.Fates.{Fate, stateOf, weighs, lays}
+use Rattle.loop_rules.specs.Loops.{loops, ring}
+use Rattle.rim_pieces.specs.Computed.{numbersBelow}
+use Rattle.rim_rules.specs.Rims.{loopAt, rimList}
+use Rattle.fill_fates.specs.Fates.{Fate, lays}
 use Rattle.fill_fates.specs.Course.{Course, ringList}
+use Rattle.patch_records.specs.Records.{fateAt, recordOf}
 use Rattle.patch_surface.specs.Outcome.{Buffers, Outcome, refused, Patches}
 use Rattle.text_rules.specs.Text.{TextOf}
 use Rattle.text_rules.specs.Fault.{Fault}
-use Rattle.text_rules.specs.Room.{ReadInto}
 use Rattle.text_sheet.specs.Sheet.{Sheet, sheet, pitchSaid, wordsSaid, cornersSaid}
 use Rattle.program_lines.specs.Lines.{answerLine}
 use Rattle.program_lines.specs.Listing.{Shown, listing}
@@ -26,22 +29,23 @@ pub record Lists (bytes : List ℕ) (b : Buffers) (o : Outcome) : Type 0 where
   pub of-fault : (line : ℕ) → Fault sheet bytes line → o ≡ refused (Line line) b
   pub of-text : (s : Sheet) → TextOf sheet bytes s → Patches (pitchSaid s) (wordsSaid s) (cornersSaid s) b o
 
--- the same of the input that n bytes of a room are of, whichever that is
-pub record ListsIn (room : List ℕ) (n : ℕ) (b : Buffers) (o : Outcome) : Type 0 where
-  pub due : (input : List ℕ) → ReadInto room n input → Lists input b o
+-- what is told of loop l, and of all in listed order
+abbrev pub showOf : List ℤ → List ℕ → List Fate → ℕ → Shown
+showOf grid corners fates l = record {
+  ring = ring corners (loopAt corners l);
+  kept = recordOf grid corners fates l;
+  patch = lays (ring corners (loopAt corners l)) (fateAt fates l);
+}
 
--- what is told of each loop
-abbrev pub loopsOf : List ℤ → List (List ℕ) → List Fate → List Shown
-loopsOf grid [] fates = []
-loopsOf grid (r ∷ rings) [] = []
-loopsOf grid (r ∷ rings) (f ∷ fates) = record { ring = r; state = stateOf f; weight = weighs grid r f; patch = lays r f } ∷ loopsOf grid rings fates
+abbrev pub loopsOf : List ℤ → List ℕ → List Fate → List Shown
+loopsOf grid corners fates = map (showOf grid corners fates) (numbersBelow (length (loops corners)))
 
 -- what is printed of a sheet with this pitch and these words and corners, no buffer being too short
 abbrev pub PrintsIf : Bool → Answer → ℕ → List ℕ → List ℕ → List ℕ → Type 0
 PrintsIf true a pitch words corners out = out ≡ answerLine a
 PrintsIf false a pitch words corners out =
     (fates : List Fate) × Course (gridOf pitch words) corners [] (rimList (gridOf pitch words) corners) (ringList corners) fates
-    × (out ≡ listing (loopsOf (gridOf pitch words) (ringList corners) fates))
+    × (out ≡ listing (loopsOf (gridOf pitch words) corners fates))
 
 abbrev pub PrintsSheet : ℕ → List ℕ → List ℕ → List ℕ → Type 0
 PrintsSheet pitch words corners out = let a = sheetRefusal pitch words corners in PrintsIf (refusing a) a pitch words corners out

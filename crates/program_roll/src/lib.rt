@@ -57,21 +57,19 @@ pub fn fill(
     progress: Progress,
     loops: usize,
     rings: &[u16],
-    lengths: &[u16],
-    states: &[u16],
-    weights: &[u64],
+    records: &[u64],
     patches: &[u16],
 ) -> Progress
     requires { ⌜ progress .bytes ≤ length (now out) ⌝ }
-    requires { ⌜ Going (inventory (now rings) (now lengths) (now states) (now weights) (now patches)) loops progress ⌝ }
-    ensures { λ r. do most ← ⟦WIDEST⟧ .entry; ⌜ FillsOn most (inventory (was rings) (was lengths) (was states) (was weights) (was patches)) loops progress r (was out) (left out) ⌝ }
+    requires { ⌜ Going (inventory (now rings) (now records) (now patches)) loops progress ⌝ }
+    ensures { λ r. do most ← ⟦WIDEST⟧ .entry; ⌜ FillsOn most (inventory (was rings) (was records) (was patches)) loops progress r (was out) (left out) ⌝ }
 {
     let mut m = progress;
     while m.loops < loops {
         if out.len() < m.bytes + WIDEST {
             return m;
         }
-        m = program_lines::put_next(out, m, rings, lengths, states, weights, patches);
+        m = program_lines::put_next(out, m, rings, records, patches);
     }
     m
 }
@@ -82,26 +80,15 @@ pub fn put_all(
     answer: Answer,
     loops: usize,
     rings: &[u16],
-    lengths: &[u16],
-    states: &[u16],
-    weights: &[u64],
+    records: &[u64],
     patches: &[u16],
 ) -> usize
     requires { do most ← ⟦LISTING⟧; ⌜ most ≤ length (now out) ⌝ }
-    requires { ⌜ Listed (inventory (now rings) (now lengths) (now states) (now weights) (now patches)) loops ⌝ }
+    requires { ⌜ Listed (inventory (now rings) (now records) (now patches)) loops ⌝ }
     requires { ⌜ Few (now rings) (now patches) loops ⌝ }
-    ensures { λ r. ⌜ PutsAll (inventory (was rings) (was lengths) (was states) (was weights) (was patches)) answer loops r (was out) (left out) ⌝ }
+    ensures { λ r. ⌜ PutsAll (inventory (was rings) (was records) (was patches)) answer loops r (was out) (left out) ⌝ }
 {
     let progress = begin(out, answer, loops);
-    let told = fill(
-        out,
-        progress,
-        loops,
-        rings,
-        lengths,
-        states,
-        weights,
-        patches,
-    );
+    let told = fill(out, progress, loops, rings, records, patches);
     told.bytes
 }

@@ -4,9 +4,9 @@ ghost use Prim.Native.Nat.{_≤_};
 ghost use lib.ListN.{length};
 ghost use Rattle.base_types.specs.Lent.{was, left};
 ghost use Rattle.surface_rules.specs.Buffers.{over};
-ghost use Rattle.rim_mark.specs.Workings.Running.{ringRun, RingRoom, MeasureRoom, Measures};
+ghost use Rattle.rim_mark.specs.Workings.Running.{ringRun, RingRoom, MeasureRoom, Measures, MeasuresAll};
 ghost use Rattle.rim_mark.specs.Workings.Ranking.{HouseRoom, Houses, RankRoom, Rivals, Ranks, toldMarks, TellRoom};
-ghost use Rattle.rim_mark.specs.Workings.Marking.{MarkRoom, Marked};
+ghost use Rattle.rim_mark.specs.Workings.Marking.{MarkRoom, Marked, AllRoom, AllMarked};
 use base_types::State;
 use base_types::Surface;
 
@@ -47,6 +47,43 @@ pub fn mark(
         return;
     }
     mark_many(grid, corners, rings, lengths, turns, path, places, marks);
+}
+
+// For every loop a mark, its piece and its run. The first half-edges and the table of turns stay. The pieces come to stand where the places
+// were; the path is used up.
+pub fn mark_all(
+    grid: &[i32],
+    corners: &[u16],
+    rings: &[u16],
+    lengths: &[u16],
+    firsts: &[u16],
+    turns: &[u16],
+    path: &mut [u16],
+    pieces: &mut [u16],
+    runs: &mut [u32],
+    marks: &mut [u16],
+)
+    requires { ⌜ AllRoom (now grid) (now corners) (now rings) (now lengths) (now firsts) (now turns) (now path) (now pieces) (now runs) (now marks) ⌝ }
+    ensures { λ _. ⌜ AllMarked (was grid) (was corners) (was marks) (left pieces) (left runs) (left marks) ⌝ }
+{
+    let n = lengths.len();
+    if n == 0 {
+        return;
+    }
+    measure_all(grid, rings, lengths, runs);
+    // a loop without another is a rim; if it begins on triangle 0, it lies in piece 0
+    if n == 1 {
+        if firsts[0] < 3 {
+            pieces[0] = 0;
+            marks[0] = State::RIM;
+            return;
+        }
+    }
+    let count = rim_pieces::number(corners, turns, pieces, path);
+    house(firsts, path, n, pieces);
+    rim_pieces::clear(path, count);
+    rank(pieces, runs, n, path);
+    tell(pieces, path, n, marks);
 }
 
 // The same for a few loops, with a short list of runs.
@@ -184,6 +221,21 @@ fn measure(grid: &[i32], rings: &[u16], lengths: &[u16], runs: &mut [u32])
             l += 1;
             continue;
         }
+        runs[l] = run_of(grid, &rings[r..end]);
+        r = end;
+        l += 1;
+    }
+}
+
+// The run of each loop; their rings stand one after the other.
+fn measure_all(grid: &[i32], rings: &[u16], lengths: &[u16], runs: &mut [u32])
+    requires { ⌜ MeasureRoom (now grid) (now rings) (now lengths) (now runs) ⌝ }
+    ensures { λ _. ⌜ MeasuresAll (was grid) (was rings) (was lengths) (left runs) ⌝ }
+{
+    let mut r = 0;
+    let mut l = 0;
+    while l < lengths.len() {
+        let end = r + lengths[l] as usize;
         runs[l] = run_of(grid, &rings[r..end]);
         r = end;
         l += 1;

@@ -105,17 +105,15 @@ pub extern "C" fn wazelpunt_survey(
     said.number()
 }
 
-// Patches a surface at that pitch, as `patch` does: the grid, the ring vertices and lengths, the states and weights, and the patch corners
-// are left in the lent buffers; the number of the answer is returned, and its place and the three counts are left too.
+// Patches a surface at that pitch, as `patch` does: the grid, the ring vertices, the records of the loops and the patch corners are left
+// in the lent buffers; the number of the answer is returned, and its place and the three counts are left too.
 #[no_mangle]
 pub extern "C" fn wazelpunt_patch(
     words: &[u32],
     corners: &[u16],
     grid: &mut [i32],
     rings: &mut [u16],
-    lengths: &mut [u16],
-    states: &mut [u16],
-    weights: &mut [u64],
+    records: &mut [u64],
     patches: &mut [u16],
     place: &mut usize,
     loops: &mut usize,
@@ -123,21 +121,11 @@ pub extern "C" fn wazelpunt_patch(
     laid: &mut usize,
     pitch: u32,
 ) -> u32
-    ensures { λ r. ⌜ PatchesTold pitch (was words) (was corners) (patcher.buffers (was grid) (was rings) (was lengths) (was states) (was weights) (was patches))
+    ensures { λ r. ⌜ PatchesTold pitch (was words) (was corners) (patcher.buffers (was grid) (was rings) (was records) (was patches))
         (patchTold r (left place) (left loops) (left vertices) (left laid)
-        (patcher.buffers (left grid) (left rings) (left lengths) (left states) (left weights) (left patches))) ⌝ }
+        (patcher.buffers (left grid) (left rings) (left records) (left patches))) ⌝ }
 {
-    let done = patch::patch(
-        words,
-        corners,
-        grid,
-        rings,
-        lengths,
-        states,
-        weights,
-        patches,
-        pitch,
-    );
+    let done = patch::patch(words, corners, grid, rings, records, patches, pitch);
     let answer = done.answer;
     *place = answer.place();
     *loops = done.loops;

@@ -50,12 +50,16 @@ part-laid p q xs w l e =
     ap (take (q - p)) (drop-at (take p w) (xs ++ drop (p + length xs) w) p (length-take-le p w l))
     ∙ take-at xs (drop (p + length xs) w) (q - p) (omega arith)
 
--- the loop's patch stands in the buffer from p to q
-record Stood (grid : List ℤ) (ring : List ℕ) (barred : ℕ → ℕ → Bool) (buffer : List ℕ) (p q : ℕ) (buffer′ : List ℕ) : Type 0 where
+-- the place after a loop's patch that stands from p on
+abbrev behind : ℕ → List ℕ → ℕ
+behind p ring = p + 3 * (length ring - 2)
+
+-- the loop's patch stands in the buffer from p on
+record Stood (grid : List ℤ) (ring : List ℕ) (barred : ℕ → ℕ → Bool) (buffer : List ℕ) (p : ℕ) (buffer′ : List ℕ) : Type 0 where
   cover : Cover
   patch : Patch naturals (triOf (along grid ring)) barred 0 (length ring - 1) cover
   lay : buffer′ ≡ laid p (patchOf ring cover) buffer
-  stands : part p q buffer′ ≡ patchOf ring cover
+  stands : part p (behind p ring) buffer′ ≡ patchOf ring cover
 
 -- ---- the patch of a loop
 
@@ -79,49 +83,43 @@ module _ {grid : List ℤ} {ring bars : List ℕ} {table : List Float} {buffer :
     pub list-room : ListRoom (quarterOf table′) table′ ring buffer p 0 (length ring - 1)
     list-room = record {
       weighable = record { at = along grid ring; barred = r .loop .barred; n = length ring; w = w; weighed = weighed (r .loop .barred) (r .loop .barring) };
-      no-side = omega (arith, r .loop .some);
       in-ring = omega (arith, r .loop .some);
       room = omega (arith, r .loop .some, r .room);
     }
 
-    module _ {o : ℕ} {buffer′ : List ℕ} (l : ListsPatch (quarterOf table′) table′ ring buffer p 0 (length ring - 1) o buffer′) where
+    module _ {buffer′ : List ℕ} (l : ListsPatch (quarterOf table′) table′ ring buffer p 0 (length ring - 1) buffer′) where
       -- the patch by whatever bars these rows are, and where it stands
-      stood : (barred : ℕ → ℕ → Bool) → Barring barred ring bars → Stood grid ring barred buffer p o buffer′
+      stood : (barred : ℕ → ℕ → Bool) → Barring barred ring bars → Stood grid ring barred buffer p buffer′
       stood barred b = go (patched naturals naturals-lawful (triOf (along grid ring)) barred 0 (length ring - 1) (x .low))
         where
           x : Weighed (along grid ring) barred (quarterOf table′) (length ring) table′ 0 (length ring - 1) w
           x = weighed barred b
 
-          go : Patched naturals (triOf (along grid ring)) barred 0 (length ring - 1) → Stood grid ring barred buffer p o buffer′
+          go : Patched naturals (triOf (along grid ring)) barred 0 (length ring - 1) → Stood grid ring barred buffer p buffer′
           go (inl (c, q)) =
               let n : length (patchOf ring c) ≡ 3 * (length ring - 2) = patch-length ring c (q .among .covers) in
-              let k : o ≡ p + 3 * (length ring - 1 - 0 - 1) = l .0 in
-              let i : buffer′ ≡ laid p (patchOf ring c) buffer = l .1 (along grid ring) barred (length ring) w x c q in
+              let i : buffer′ ≡ laid p (patchOf ring c) buffer = l (along grid ring) barred (length ring) w x c q in
               record {
                 cover = c;
                 patch = q;
                 lay = i;
-                stands = ap (part p o) i ∙ part-laid p o (patchOf ring c) buffer (omega (arith, r .room)) (omega arith);
+                stands = ap (part p (behind p ring)) i ∙ part-laid p (behind p ring) (patchOf ring c) buffer (omega (arith, r .room)) (omega arith);
               }
           go (inr n) = absurd (n (x .least .cover) (x .least .among))
 
-      pub listed-from : p ≤ o
-      listed-from = let k : o ≡ p + 3 * (length ring - 1 - 0 - 1) = l .0 in omega arith
-
-      pub listed-in : o ≤ length buffer′
+      pub listed-in : behind p ring ≤ length buffer′
       listed-in =
           let s = stood (r .loop .barred) (r .loop .barring) in
           let n : length (patchOf ring (s .cover)) ≡ 3 * (length ring - 2) = patch-length ring (s .cover) (s .patch .among .covers) in
-          let k : o ≡ p + 3 * (length ring - 1 - 0 - 1) = l .0 in
           let m : length buffer′ ≡ length buffer = ap length (s .lay) ∙ laid-length p buffer (patchOf ring (s .cover)) (omega (arith, r .room)) in
           omega (arith, r .room)
 
-      pub weigh-room : WeighRoom grid (part p o buffer′)
+      pub weigh-room : WeighRoom grid (part p (behind p ring) buffer′)
       weigh-room =
           let s = stood (r .loop .barred) (r .loop .barring) in
           subst (WeighRoom grid) (sym (s .stands)) (patch-room grid ring (r .loop .on .coordinates) (r .loop .on .named) (r .loop .on .few) (s .cover) (s .patch .among .covers))
 
-      pub lays-some : {v : ℕ} → v ≡ setWeight grid (threes (part p o buffer′)) → LaysPatch grid ring bars buffer p (Weight v) buffer′
+      pub lays-some : {v : ℕ} → v ≡ setWeight grid (threes (part p (behind p ring) buffer′)) → LaysPatch grid ring bars buffer p (Weight v) buffer′
       lays-some h barred b =
           let s = stood barred b in
           (s .cover, s .patch, h ∙ ap (λ (t : List ℕ). setWeight grid (threes t)) (s .stands) ∙ patch-weight grid ring (s .cover), s .lay)

@@ -1,8 +1,7 @@
 -- `lay_patch` lists the whole loop as one stretch, if a least weight was found, and weighs what it listed; of four it knows both covers.
-use Prim.Native.Nat.{_≤_}
 use native.Mathlib.Omega.{arith}
 use borrow.Author.Needs.{needs}
-use Rattle.cover_lay.proofs.Laws.Patches.{list-room, listed-from, listed-in, weigh-room, lays-some, lays-none, four-room, shut-room, lays-shut, takes-table}
+use Rattle.cover_lay.proofs.Laws.Patches.{list-room, listed-in, weigh-room, lays-some, lays-none, four-room, shut-room, lays-shut, takes-table}
 use Rattle.cover_lay.proofs.lay_patch.Statement.{statement}
 use Rattle.cover_lay.proofs.lay_patch.Tie as tie
 
@@ -16,14 +15,11 @@ found l = search
 abbrev told : tie.After-list → tie.After-enum-told
 told l = search
 
-from : (l : tie.After-list) → entry (found l) .args .p ≤ l .list .result
-from l = let w = found l in listed-from (entry w .pre) _ (w .least-weight .ensures) (told l .enum-told .given .1) (l .list .ensures)
-
 part-end : tie.Need-part-weigh-set-end
 part-end c =
     let l : tie.After-list = search in
     let w = found l in
-    omega (arith, from l, listed-in (entry w .pre) _ (w .least-weight .ensures) (told l .enum-told .given .1) (l .list .ensures))
+    omega (arith, listed-in (entry w .pre) _ (w .least-weight .ensures) (told l .enum-told .given .1) (l .list .ensures))
 
 -- what was listed is lent to be weighed,
 weigh-requires : tie.Need-weigh-set-requires
@@ -58,9 +54,12 @@ lay-patch-spec =
     let w : tie.After-least-weight = search in
     let e : tie.After-enum-told = search in
     list-room (entry w .pre) _ (w .least-weight .ensures) (e .enum-told .given .1))
+    (λ c. search needs)
+    (λ c. search needs)
+    (λ c. search needs)
     (λ c. let l : tie.After-list = search in omega (arith, entry (found l) .pre .room, entry (found l) .good))
-    (λ c. omega (arith, from (search)))
-    (λ c. omega (arith, from (search)))
+    (λ c. search needs)
+    (λ c. search needs)
     part-end
     weigh-requires
     (λ c. search needs)

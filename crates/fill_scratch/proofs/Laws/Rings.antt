@@ -55,7 +55,7 @@ word-near pitch words on j l =
     (second-false (finite x) (ltb limits.greatest (natAbs (whole pitch (units x))))
     (not-false _ (least-never (notFinite words) (length words) (on .numbers) j l)) (least-never (tooFar pitch words) (length words) (on .near) j l))
 
-coordinates-of : (pitch : ℕ) (words : List ℕ) → OnGrid pitch words → Coordinates (gridOf pitch words)
+pub coordinates-of : (pitch : ℕ) (words : List ℕ) → OnGrid pitch words → Coordinates (gridOf pitch words)
 coordinates-of pitch words on j =
     ⊎-elim (λ l. subst Coordinate (sym (map-at (wholeOf pitch) 0 (pos 0) words j l)) (word-near pitch words on j l))
     (λ m.

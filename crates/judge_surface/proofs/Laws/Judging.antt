@@ -24,7 +24,7 @@ use Rattle.loop_cut.specs.declared.Listed.{Listed}
 use Rattle.survey_grid.specs.Grid.{gridOf}
 use Rattle.check_surface.specs.Workings.Checks.{Checked}
 use Rattle.survey_rules.specs.Outcome.{Buffers, Outcome, buffers, refused, needs, lent}
-use Rattle.survey_rules.proofs.Laws.Known.{Known, rings-few, loops-few}
+use Rattle.survey_rules.proofs.Laws.Known.{Suited, rings-few, loops-few}
 use Rattle.survey_rules.proofs.Laws.Parts.{grid-in, grid-part, rings-in, lengths-in}
 use Rattle.rim_rules.specs.Rims.{rimList}
 use Rattle.fill_fates.specs.Course.{ringList}
@@ -89,7 +89,7 @@ module _ (pitch : ℕ) (words corners states set : List ℕ) (b : Buffers) where
   at-pitch p o e h = subst (λ (n : ℕ). Judges n words corners states set b o) (sym e) h
 
   -- 9 comes after all checks of the surface
-  pub states-refuse : {table : List ℕ} → Known pitch words corners table (b .grid) (b .rings) (b .lengths) [] []
+  pub states-refuse : {table : List ℕ} → Suited pitch words corners table (b .grid) (b .rings) (b .lengths)
       → (at : Listed) (found sizes firsts found′ sizes′ firsts′ : List ℕ) → ListsLoops corners (loops corners) found sizes firsts at found′ sizes′ firsts′
       → (r : Judged) → Refuses r (States (at .loops)) → (at .loops ≡ length states → ⊥) → Judges pitch words corners states set b (outcome r b)
   states-refuse k at found sizes firsts found′ sizes′ firsts′ ls r h n =
@@ -113,33 +113,36 @@ module _ {pitch : ℕ} {words corners states : List ℕ} {b b′ : Buffers} {mar
 
 -- ---- what was listed apart has room where it goes
 
-module _ {pitch : ℕ} {words corners table : List ℕ} {grid : List ℤ} {rings lengths : List ℕ} (k : Known pitch words corners table grid rings lengths [] [])
+module _ {pitch : ℕ} {words corners table : List ℕ} {grid : List ℤ} {rings lengths : List ℕ} (k : Suited pitch words corners table grid rings lengths)
     {at : Listed} {found sizes firsts found′ sizes′ firsts′ : List ℕ} (ls : ListsLoops corners (loops corners) found sizes firsts at found′ sizes′ firsts′) where
   pub rings-room : (at .vertices ≤ length found′) × (at .vertices ≤ length rings)
-  rings-room = (rings-in ls, omega (arith, ls .vertices, rings-few k, k .rings-long))
+  rings-room = (rings-in ls, omega (arith, ls .vertices, rings-few (k .known), k .rings-long))
 
   pub lengths-room : (at .loops ≤ length sizes′) × (at .loops ≤ length lengths)
-  lengths-room = (lengths-in ls, omega (arith, ls .count, loops-few k, k .lengths-long))
+  lengths-room = (lengths-in ls, omega (arith, ls .count, loops-few (k .known), k .lengths-long))
 
 -- ---- the verdict on what stands in the lent buffers
 
-module _ {pitch : ℕ} (words corners : List ℕ) (b : Buffers) {table : List ℕ} (k : Known pitch words corners table (b .grid) (b .rings) (b .lengths) [] [])
+module _ {pitch : ℕ} (words corners : List ℕ) (b : Buffers) {table : List ℕ} (k : Suited pitch words corners table (b .grid) (b .rings) (b .lengths))
     {at : Listed} {firsts rings′ lengths′ firsts′ : List ℕ} {grid′ : List ℤ} (ls : ListsLoops corners (loops corners) (b .rings) (b .lengths) firsts at rings′ lengths′ firsts′) (eg : grid′ ≡ over (gridOf pitch words) (b .grid)) where
   abbrev g : List ℤ
   g = take (length words) grid′
 
+  gridded : g ≡ gridOf pitch words
+  gridded = grid-part pitch words (b .grid) grid′ eg
+
   module _ {marks : List ℕ} (marked : Marked g corners firsts′ marks) (states : List ℕ) (same : at .loops ≡ length states) where
     as-declared : Declared (rimList g corners) (ringList corners) marks states
-    as-declared = record { rims-many = rims-here k ls eg marked; marked = marks-here k ls eg marked; states-many = sym same ∙ ls .count ∙ sym (as-many-loops k) }
+    as-declared = record { rims-many = rims-here (k .known) ls gridded marked; marked = marks-here (k .known) ls gridded marked; states-many = sym same ∙ ls .count ∙ sym (as-many-loops (k .known)) }
 
     verdict-room : VerdictRoom g corners (take (at .vertices) rings′) (take (at .loops) lengths′) marks states
-    verdict-room = record { rims = rimList g corners; rs = ringList corners; loops = loops-here k ls eg; corners = input-here k; declared = as-declared }
+    verdict-room = record { rims = rimList g corners; rs = ringList corners; loops = loops-here (k .known) ls gridded; corners = input-here (k .known); declared = as-declared }
 
     judges : (set : List ℕ) (v : Answer) → Gives g corners (take (at .vertices) rings′) (take (at .loops) lengths′) marks states set v
         → Judges pitch words corners states set b (outcome (record { answer = v; loops = at .loops; vertices = at .vertices }) (buffers grid′ rings′ lengths′))
     judges set v h =
         rw (k .none-refused, eq-eqb (length (loops corners)) (length states) (sym (ls .count) ∙ same))
-        (v, subst (λ (y : List ℤ). Verdict y corners [] 0 0 (rimList y corners) (ringList corners) states set v) (grid-part pitch words (b .grid) grid′ eg) (h (rimList g corners) (ringList corners) (loops-here k ls eg) as-declared), left)
+        (v, subst (λ (y : List ℤ). Verdict y corners [] 0 0 (rimList y corners) (ringList corners) states set v) gridded (h (rimList g corners) (ringList corners) (loops-here (k .known) ls gridded) as-declared), left)
       where
         left : outcome (record { answer = v; loops = at .loops; vertices = at .vertices }) (buffers grid′ rings′ lengths′) ≡ judged v pitch words corners b
         left = λ t. record { answer = v; loops = ls .count t; vertices = ls .vertices t; left = record { grid = eg t; rings = ls .all-rings t; lengths = ls .all-lengths t } }

@@ -7,8 +7,8 @@ use borrow.Author.Needs.{needs}
 use Rattle.base_types.specs.Pitches.{pitchOf}
 use Rattle.surface_rules.proofs.Laws.Lists.{as-long}
 use Rattle.survey_rules.specs.Outcome.{Buffers, buffers}
-use Rattle.survey_rules.proofs.Laws.Known.{Known, known, still-long, grid-ready, ready, lent-long}
-use Rattle.survey_rules.proofs.Laws.Parts.{grid-in, rings-in, lengths-in, lists-laid}
+use Rattle.survey_rules.proofs.Laws.Known.{Suited, suited, still-long, ready, lent-long}
+use Rattle.survey_rules.proofs.Laws.Parts.{grid-part, grid-in, rings-in, lengths-in, lists-laid}
 use Rattle.fill_scratch.proofs.Laws.Tray.{edges-kept, scratch-turns-long, scratch-path-long, scratch-edges-room}
 use Rattle.rim_mark.proofs.Laws.Listed.{mark-room}
 use Rattle.judge_surface.proofs.Laws.Judging.{content-refuse, states-refuse, rings-room, lengths-room, finds-refused, finds}
@@ -72,12 +72,12 @@ lent-here c = buffers (c .args .grid .now) (c .args .rings .now) (c .args .lengt
 abbrev known-here : (c : tie.Else1)
     → let s = entry (checked c) in
     let b = lent-here s in
-    (table : List ℕ) × Known (pitchOf (s .args .pitch)) (s .args .words .now) (s .args .corners .now) table (b .grid) (b .rings) (b .lengths) [] []
+    (table : List ℕ) × Suited (pitchOf (s .args .pitch)) (s .args .words .now) (s .args .corners .now) table (b .grid) (b .rings) (b .lengths)
 known-here c =
     let s = entry (checked c) in
     let b = lent-here s in
     let k = checked c .before .check .ensures in
-    (_, known (s .args .pitch) _ _ _ (b .grid) (b .rings) (b .lengths) [] [] _ (s .pre .scratch .counts) k (sym (c .before .refuses .ensures) ∙ c .if1 .left))
+    (_, suited (s .args .pitch) _ _ _ (b .grid) (b .rings) (b .lengths) _ (s .pre .scratch .counts) k (sym (c .before .refuses .ensures) ∙ c .if1 .left))
 
 -- the loops as they were listed, and as they stand in the lent buffers
 abbrev surveyed : tie.After-lengths → tie.After-marks
@@ -112,9 +112,9 @@ find-with-spec =
     let p : tie.Else1 = search in
     let k = known-here p .1 in
     let s = entry (checked p) in (
-      ready k _ _ _ (still-long (scratch-turns-long (s .pre .scratch)) (checked p .turns .given)) (s .pre .rings-long) (s .pre .lengths-long)
+      ready (k .known) _ _ _ (still-long (scratch-turns-long (s .pre .scratch)) (checked p .turns .given)) (s .pre .rings-long) (s .pre .lengths-long)
           (s .pre .marks-long),
-      lent-long k _ _
+      lent-long (k .known) _ _
           (scratch-path-long (s .pre .scratch)) (s .pre .scratch .places-long),
     ))
     (λ c κs. search needs)
@@ -130,7 +130,7 @@ find-with-spec =
     finds-refused _ _ (c .refused2 .ensures) refl
     (λ set. states-refuse (pitchOf (entry (checked (passed l)) .args .pitch)) _ _ _ _ (lent-here (entry (checked (passed l)))) (known-here (passed l) .1) _ _ _ _ _ _ _ (l .before .list-with .ensures .0) _ (c .refused2 .ensures)
     (c .before .if2 .taken)))
-    (λ c κs. let p : tie.Else2 = search in grid-ready (known-here (passed (turns-listed (listed p))) .1))
+    (λ c κs. let p : tie.Else2 = search in let k = known-here (passed (turns-listed (listed p))) .1 in (k .known .on-grid, k .grid-long))
     (λ c κs. let g : tie.After-grid = search in let l = turns-listed (listed (counted g)) in rings-room (known-here (passed l) .1) (l .before .list-with .ensures .0))
     (λ c κs.
     let r : tie.After-rings = search in let l = turns-listed (listed (counted (gridded r))) in lengths-room (known-here (passed l) .1)
@@ -148,10 +148,10 @@ find-with-spec =
     let l = turns-listed n in
     let p = passed l in
     let s = entry (checked p) in
-    mark-room (known-here p .1)
+    mark-room (known-here p .1 .known)
     (lists-laid (turns-listed (surveyed q) .before .list-with .ensures .0) _ _ _ _ (ringed q .before .lay-front .ensures)
     (q .before .lay-front2 .ensures))
-    (g .before .lay-grid .ensures) (l .before .list-with .ensures .1)
+    (grid-part (pitchOf (s .args .pitch)) (s .args .words .now) _ _ (g .before .lay-grid .ensures)) (l .before .list-with .ensures .1)
     (still-long (still-long (scratch-turns-long (s .pre .scratch)) (checked p .turns .given)) (l .turns2 .given))
     (still-long (scratch-path-long (s .pre .scratch)) (path-listed n .path .given))
     (still-long (s .pre .scratch .pieces-long) (places-listed n .places .given)))

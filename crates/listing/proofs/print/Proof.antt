@@ -12,10 +12,10 @@ use Rattle.listing.proofs.print.Statement.{statement}
 use Rattle.listing.proofs.print.Tie as tie
 
 abbrev Inv-loop : tie.InvT-loop
-Inv-loop room₀ loops rings lengths states weights patches mark₀ going₀ room progress going = Printing (inventory rings lengths states weights patches) loops room₀ room progress
+Inv-loop room₀ loops rings records patches mark₀ going₀ room progress going = Printing (inventory rings records patches) loops room₀ room progress
 
 abbrev μ-loop : tie.MeasureT-loop
-μ-loop room₀ loops rings lengths states weights patches mark₀ going₀ room progress going = left loops (progress .loops) going
+μ-loop room₀ loops rings records patches mark₀ going₀ room progress going = left loops (progress .loops) going
 
 -- where a turn begins, and where its section was filled
 abbrev Turn : Type 0

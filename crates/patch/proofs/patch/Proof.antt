@@ -2,7 +2,7 @@
 use borrow.Author.Needs.{needs}
 use Rattle.base_types.proofs.Laws.Pitches.{named-none, named-is}
 use Rattle.patch_surface.specs.Outcome.{Buffers, buffers}
-use Rattle.patch_surface.proofs.Laws.Patching.{pitch-refuse, at-pitch}
+use Rattle.patch_surface.proofs.Laws.Answering.{pitch-refuse, at-pitch}
 use Rattle.patch.proofs.patch.Statement.{statement}
 use Rattle.patch.proofs.patch.Tie as tie
 
@@ -17,7 +17,7 @@ named n = search
 
 -- the buffers as they are lent
 abbrev lent : tie.Start → Buffers
-lent c = buffers (c .args .grid .now) (c .args .rings .now) (c .args .lengths .now) (c .args .states .now) (c .args .weights .now) (c .args .patches .now)
+lent c = buffers (c .args .grid .now) (c .args .rings .now) (c .args .records .now) (c .args .patches .now)
 
 returns : tie.Need-returns
 returns c =
@@ -45,8 +45,6 @@ patch-spec =
     (λ c. search needs)
     (λ c κs. search needs)
     returns
-    (λ c. search needs)
-    (λ c. search needs)
     (λ c. search needs)
     (λ c. search needs)
     (λ c. search needs)

@@ -7,7 +7,7 @@ use Rattle.base_answers.specs.declared.Answer.the-variants.{Done}
 use Rattle.surface_rules.specs.Refusals.{countRefusal}
 use Rattle.surface_rules.proofs.Laws.Deciding.{counts-pass}
 use Rattle.patch_surface.specs.Outcome.{buffers}
-use Rattle.patch_surface.proofs.Laws.Patching.{counts-refuse}
+use Rattle.patch_surface.proofs.Laws.Answering.{counts-refuse}
 use Rattle.patch.proofs.patch_at.Statement.{statement}
 use Rattle.patch.proofs.patch_at.Tie as tie
 
@@ -32,7 +32,7 @@ returns c =
     let r : tie.After-refuses = search in
     let s = entry (counted r) in
     let a = s .args in
-    counts-refuse (a .pitch) (a .words .now) (a .corners .now) (buffers (a .grid .now) (a .rings .now) (a .lengths .now) (a .states .now) (a .weights .now) (a .patches .now))
+    counts-refuse (a .pitch) (a .words .now) (a .corners .now) (buffers (a .grid .now) (a .rings .now) (a .records .now) (a .patches .now))
     (c .refused .ensures) (sym (r .refuses .ensures) ∙ c .before .if1 .taken) (counted r .check-counts .ensures)
 
 pub patch-at-spec : {M : Type 1} → statement M
@@ -54,11 +54,7 @@ patch-at-spec =
     (λ c. search needs)
     (λ c. search needs)
     (λ c. search needs)
-    (λ c. search needs)
-    (λ c. search needs)
     (λ c κs. passed (search))
-    (λ c. search needs)
-    (λ c. search needs)
     (λ c. search needs)
     (λ c. search needs)
     (λ c. search needs)

@@ -1,179 +1,193 @@
--- From the checks, the listing and the course to what the patcher answers and leaves.
-use mathlib.Core.Path.{_≡_, refl, sym, ap, _∙_, subst}
-use mathlib.Core.Bool.{true, false, true≢false}
+-- From a surface that passed the checks, by its loops, their rims and the course, to what the patcher leaves.
+use mathlib.Core.Path.{_≡_, refl, sym, ap, ap₂, _∙_, subst}
 use mathlib.Core.List.{List, [], _∷_, map, flatten}
-use Prim.Native.Nat.{ℕ, _*_, _/_, _≤_}
-use native.Mathlib.Nat.{le-trans}
+use Prim.Native.Nat.{ℕ, zero, suc, _+_, _*_, _/_, _≤_, _<_}
+use native.Mathlib.Nat.{not-suc-le-zero, le-of-suc-le-suc}
 use native.Mathlib.Omega.{arith}
 use lib.IntN.{ℤ}
-use lib.ListN.{length, take, length-map}
-use Rattle.base_answers.specs.Numbers.{refusing}
-use Rattle.base_answers.specs.declared.Answer.{Answer}
-use Rattle.base_answers.specs.declared.Answer.the-variants.{Done, NoPitch}
-use Rattle.base_types.specs.Pitches.{pitchOf, isPitch}
-use Rattle.base_types.specs.declared.Pitch.{Pitch}
+use lib.ListN.{length, getD, take, length-map}
 use Rattle.base_limits.specs.Limits as limits
+use Rattle.base_answers.specs.declared.Answer.the-variants.{Done}
 use Rattle.surface_rules.specs.Buffers.{over}
-use Rattle.surface_rules.specs.Refusals.{countRefusal, refusal}
-use Rattle.surface_rules.proofs.Laws.Thens.{counts-fit}
-use Rattle.surface_rules.proofs.Laws.Over.{over-again}
-use Rattle.surface_rules.proofs.Laws.Deciding.{pitch-decides, count-decides, content-decides}
-use Rattle.loop_rules.specs.Loops.{loops}
-use Rattle.loop_cut.specs.Listing.{ListsLoops, ringsOf}
+use Rattle.surface_rules.proofs.Laws.Lists.{map-at}
+use Rattle.surface_rules.proofs.Laws.Over.{front-at, over-long}
+use Rattle.loop_rules.specs.Loops.{loops, ring}
+use Rattle.loop_cut.specs.Listing.{ListsLoops, firstOf, ringsOf}
 use Rattle.loop_cut.specs.declared.Listed.{Listed}
-use Rattle.loop_find.specs.Workings.Asked.{Ready}
-use Rattle.survey_grid.specs.Grid.{gridOf}
-use Rattle.check_surface.specs.Workings.Checks.{Checked}
-use Rattle.survey_rules.proofs.Laws.Known.{Known, ready, rings-few, loops-few}
-use Rattle.survey_rules.proofs.Laws.Parts.{grid-part, grid-in, rings-in, lengths-in}
-use Rattle.rim_rules.specs.Rims.{rimList}
-use Rattle.fill_fates.specs.Course.{Course, ringList, statesOf, weightsOf}
+use Rattle.loop_find.specs.Workings.Asked as asked
+use Rattle.loop_find.specs.Workings.Walking.{KeepsTurns}
+use Rattle.survey_grid.specs.Grid.{wholeOf, gridOf}
+use Rattle.survey_rules.proofs.Laws.Known.{ready, lent-long, rings-few, loops-few, still-long}
+use Rattle.survey_rules.proofs.Laws.Parts.{lengths-part}
+use Rattle.fill_fates.specs.Fates.{Fate, rim, stateOf, weighs}
+use Rattle.fill_fates.specs.Course.{Course, ringList, weightsOf}
 use Rattle.fill_fates.proofs.Laws.Grows.{course-length}
-use Rattle.fill_fates.proofs.Laws.Lengths.{states-length}
-use Rattle.fill_scratch.specs.Workings.Scratch.{few, Scratch}
+use Rattle.fill_fates.proofs.Laws.Lengths.{states-length, weights-length}
+use Rattle.rim_rules.specs.Rims.{loopAt, rimList}
+use Rattle.rim_mark.specs.Workings.Marking.{markOf, AllRoom, AllMarked}
+use Rattle.rim_mark.proofs.Laws.Marks.{marks-told, rims-many}
+use Rattle.rim_mark.proofs.Laws.Listed.{input-here, as-many-loops, loops-here, found}
+use Rattle.fill_scratch.specs.Workings.Rings.{Marks}
 use Rattle.fill_scratch.specs.Workings.Tray.{EdgeRoom}
-use Rattle.rim_mark.specs.Workings.Marking.{markOf, Marked}
-use Rattle.rim_mark.proofs.Laws.Listed.{input-here, as-many-loops, loops-here, all-marked, marks-here, rims-here}
-use Rattle.patch_all.specs.Workings.Courses.{Docket, docket, Lent, CourseRoom, RanAll, CourseDone}
-use Rattle.patch_surface.specs.Outcome.{Buffers, Outcome, outcome, buffers, done, needs, lent, Patches}
-use Rattle.patch_surface.specs.Workings.Finding.{left-by, Finds}
+use Rattle.patch_all.specs.Workings.Courses.{docket, Lent, CourseRoom, RanAll}
+use Rattle.patch_records.specs.Records.{numbers, recordOf, recordsOf, fateAt}
+use Rattle.patch_records.specs.Workings.Columns.{Columns, columns, rowOf, rows, laidRecords, LayRoom}
+use Rattle.patch_records.proofs.Laws.Sevens.{listed-same}
+use Rattle.patch_records.proofs.Laws.Laying.{rows-length}
+use Rattle.patch_surface.specs.Outcome.{Buffers, outcome, buffers, done, Completes}
+use Rattle.patch_surface.specs.Workings.Checking.{Checked, Roomy, Bench}
+use Rattle.patch_surface.specs.Workings.Weighing.{weighing, weightsIn, WeighRoom, Weighs}
 use Rattle.patch_surface.specs.declared.Patched.{Patched}
+use Rattle.patch_surface.proofs.Laws.Checking.{known}
+use Rattle.patch_surface.proofs.Laws.Weighing.{part-long, weights-hidden, weight-at, laid-long}
 
-module _ {words corners turns path places : List ℕ} (c : countRefusal (length words) (length corners) ≡ Done) where
-  -- room for any surface is room for this one
-  pub scratch-most : 2 * limits.corners ≤ length turns → 2 * limits.corners ≤ length path → limits.points ≤ length places
-      → Scratch words corners turns path places
-  scratch-most t p q =
-      let f = counts-fit (length words) (length corners) c in
-      record {
-        counts = c;
-        turns-long = omega (arith, f .few-corners);
-        path-long = omega (arith, f .few-corners);
-        places-long = omega (arith, f .few-words);
-        pieces-long = omega (arith, f .few-corners);
+-- the weight of loop l among those of all
+weights-at : (grid : List ℤ) (rings : List (List ℕ)) (fates : List Fate) (l : ℕ) → length fates ≡ length rings → l < length rings
+    → getD (weightsOf grid rings fates) l 0 ≡ weighs grid (getD rings l []) (fateAt fates l)
+weights-at grid [] fates l e h = absurd (not-suc-le-zero h)
+weights-at grid (r ∷ rings) [] l e h = absurd (omega arith)
+weights-at grid (r ∷ rings) (f ∷ fates) zero e h = refl
+weights-at grid (r ∷ rings) (f ∷ fates) (suc l) e h = weights-at grid rings fates l (omega arith) (le-of-suc-le-suc h)
+
+module _ {pitch : ℕ} {words corners turns : List ℕ} {grid : List ℤ} (c : Checked pitch words corners turns grid) where
+  as-long : length grid ≡ length words
+  as-long = ap length (c .gridded) ∙ length-map words (wholeOf pitch)
+
+  module _ {rings records patches : List ℕ} (roomy : Roomy corners rings records patches) {path places lengths states firsts runs : List ℕ}
+      (bench : Bench (length grid / 3) corners turns path places lengths states firsts runs) where
+    pub list-room : asked.Ready corners turns rings lengths firsts × asked.Lent corners path places
+    list-room = (
+      ready (known c) rings lengths firsts (let t = bench .turns-long in omega arith) (roomy .rings-long) (bench .lengths-long) (bench .firsts-long),
+      lent-long (known c) path places (let p = bench .path-long in omega arith) (let p = bench .places-long in omega (arith, as-long)),
+    )
+
+    module _ {at : Listed} {rings′ lengths′ firsts′ : List ℕ} (ls : ListsLoops corners (loops corners) rings lengths firsts at rings′ lengths′ firsts′) where
+      abbrev lengths-here : List ℕ
+      lengths-here = take (at .loops) lengths′
+
+      -- as many loops as lengths
+      many : length lengths-here ≡ length (loops corners)
+      many = ap length (lengths-part ls) ∙ length-map (loops corners) length
+
+      few-loops : length (loops corners) ≤ length corners / 3
+      few-loops = loops-few (known c)
+
+      pub mark-room : {turns′ path′ places′ : List ℕ} → KeepsTurns corners turns′ → length turns′ ≡ length turns → length path′ ≡ length path → length places′ ≡ length places
+          → AllRoom grid corners (take (at .vertices) rings′) lengths-here firsts′ turns′ path′ places′ runs states
+      mark-room kept t p q = record {
+        found = found (known c) ls (c .gridded) kept (let l = bench .turns-long in omega arith);
+        path-long = let l = bench .path-long in omega arith;
+        pieces-long = let l = bench .pieces-long in omega arith;
+        runs-long = let l = bench .runs-long in omega (arith, few-loops);
+        marks-long = let l = bench .states-long in omega (arith, few-loops);
       }
 
-  -- room for few is room for a surface with few points and corners
-  pub scratch-few : length words / 3 ≤ few → length corners ≤ few → 2 * few ≤ length turns → 2 * few ≤ length path → few ≤ length places
-      → Scratch words corners turns path places
-  scratch-few p q t u v = record { counts = c; turns-long = omega arith; path-long = omega arith; places-long = le-trans p v; pieces-long = omega arith }
+      module _ {places′ runs′ states′ : List ℕ} (m : AllMarked grid corners states places′ runs′ states′) where
+        marks-here : Marks (rimList grid corners) states′
+        marks-here = subst (Marks (rimList grid corners)) (sym (m .marked)) (marks-told (rimList grid corners) states (let l = bench .states-long in omega (arith, few-loops, rims-many grid corners)))
 
--- a refusal as the code makes it
-abbrev pub Refuses : Patched → Answer → Type 0
-Refuses r a = (r .answer ≡ a) × (r .loops ≡ 0) × (r .vertices ≡ 0) × (r .corners ≡ 0)
+        -- there is room for a weight of each loop in the last seventh of the records
+        records-room : 7 * length lengths-here ≤ length records
+        records-room = let r = roomy .records-long in omega (arith, many, few-loops)
 
--- how long the buffers 4 to 6 are, and how long each need be
-abbrev pub lentBesides : Buffers → List ℕ
-lentBesides b = length (b .states) ∷ length (b .weights) ∷ length (b .patches) ∷ []
+        the-lent : Lent (rimList grid corners) (ringList corners) (docket states′ (weightsIn (length lengths-here) records) patches)
+        unfolding ringsOf
+        the-lent =
+            let v : length (flatten (ringList corners)) ≤ length corners = rings-few (known c) in
+            let n : length (ringList corners) ≡ length (loops corners) = as-many-loops (known c) in
+            let p = roomy .patches-long in
+            let s = marks-here .long in
+            let w = part-long (length lengths-here) records records-room in
+            let k = rims-many grid corners in
+            record { rims-many = k ∙ sym n; marked = marks-here; states-room = omega arith; weights-room = omega (arith, many); patches-room = omega arith }
 
-abbrev pub needsBesides : List ℕ → List ℕ
-needsBesides corners = length corners / 3 ∷ length corners / 3 ∷ 3 * length corners ∷ []
+        pub weigh-room : WeighRoom grid corners (take (at .vertices) rings′) lengths-here states′ records patches
+        weigh-room = record {
+          course = record { rims = rimList grid corners; rs = ringList corners; loops = loops-here (known c) ls (c .gridded); lent = the-lent; corners = input-here (known c) };
+          room = records-room;
+          few = let f = c .counts in omega (arith, many, few-loops, known c .fits .few-corners);
+        }
 
-module _ (pitch : ℕ) (words corners : List ℕ) (b : Buffers) where
-  -- what the table says decides
-  decided : {r : Patched} {a : Answer} → Refuses r a → refusing a ≡ true → refusal pitch words corners (lent b) (needs words corners) ≡ a → Patches pitch words corners b (outcome r b)
-  decided h t e = rw (e, t) (λ i. record { answer = h .0 i; loops = h .1 i; vertices = h .2 i; corners = h .3 i; left = b })
+        module _ {p : ℕ} {states″ records″ patches′ : List ℕ}
+            (w : Weighs grid corners (take (at .vertices) rings′) lengths-here (weighing states′ records patches) p (weighing states″ records″ patches′)) where
+          abbrev cols : Columns
+          cols = columns lengths-here states″ firsts′ places′ runs′
 
-  pub pitch-refuse : {r : Patched} → Refuses r NoPitch → isPitch pitch ≡ false → Patches pitch words corners b (outcome r b)
-  pitch-refuse h e = decided h refl (pitch-decides pitch words corners (lent b) (needs words corners) e)
+          q : RanAll grid corners (rimList grid corners) (ringList corners) (docket states′ (weightsIn (length lengths-here) records) patches) p (docket states″ (w .weights) patches′)
+          q = w .course (rimList grid corners) (ringList corners) (loops-here (known c) ls (c .gridded)) the-lent
 
-  -- what is promised at a pitch is promised at its number
-  pub at-pitch : (p : Pitch) (o : Outcome) → pitch ≡ pitchOf p → Patches (pitchOf p) words corners b o → Patches pitch words corners b o
-  at-pitch p o e h = subst (λ (n : ℕ). Patches n words corners b o) (sym e) h
+          fated : length (q .fates) ≡ length (loops corners)
+          fated = course-length grid corners [] (rimList grid corners) (ringList corners) (q .fates) (q .course) ∙ as-many-loops (known c)
 
-module _ (p : Pitch) (words corners : List ℕ) (b : Buffers) {r : Patched} {a : Answer} (h : Refuses r a) (t : refusing a ≡ true) where
-  pub counts-refuse : a ≡ countRefusal (length words) (length corners) → Patches (pitchOf p) words corners b (outcome r b)
-  counts-refuse e = decided (pitchOf p) words corners b h t (count-decides p words corners (lent b) (needs words corners) a e t)
+          pub lay-room : length states″ ≡ length states → length firsts′ ≡ length firsts → length places′ ≡ length places → length runs′ ≡ length runs → LayRoom cols records″
+          lay-room a b d e =
+              let s = bench .states-long in let f = bench .firsts-long in let o = bench .pieces-long in let r = bench .runs-long in
+              record {
+                states-long = omega (arith, many, few-loops);
+                firsts-long = omega (arith, many, few-loops);
+                pieces-long = omega (arith, many, few-loops);
+                runs-long = omega (arith, many, few-loops);
+                room = omega (arith, ap length (w .stand), laid-long (length lengths-here) records (w .weights) (w .as-many) records-room, records-room);
+                few = weigh-room .few;
+              }
 
-  pub content-refuse : countRefusal (length words) (length corners) ≡ Done → {table : List ℕ} → Checked (pitchOf p) words corners (lent b) (needs words corners) a table
-      → Patches (pitchOf p) words corners b (outcome r b)
-  content-refuse c k = decided (pitchOf p) words corners b h t (content-decides p words corners (lent b) (needs words corners) c a (k .said))
+          -- each number of each record is the fact
+          module _ (l : ℕ) (h : l < length (loops corners)) where
+            length-is : getD lengths-here l 0 ≡ length (loopAt corners l)
+            length-is = ap (λ (x : List ℕ). getD x l 0) (lengths-part ls) ∙ map-at length [] 0 (loops corners) l h
 
--- what is known once nothing is refused
-abbrev pub KnownWith : ℕ → List ℕ → List ℕ → List ℕ → Buffers → Type 0
-KnownWith pitch words corners table b = Known pitch words corners table (b .grid) (b .rings) (b .lengths) (lentBesides b) (needsBesides corners)
+            state-is : getD states″ l 0 ≡ stateOf (fateAt (q .fates) l)
+            state-is =
+                ap (λ (x : List ℕ). getD x l 0) (q .states-are)
+                ∙ front-at (map stateOf (q .fates)) states′ l 0 (omega (arith, states-length (q .fates), fated))
+                ∙ map-at stateOf rim 0 (q .fates) l (omega (arith, fated))
 
-module _ {pitch : ℕ} {words corners : List ℕ} (b : Buffers) {table : List ℕ} (k : KnownWith pitch words corners table b) where
-  -- the loops can be listed in the lent buffers, with their first half-edges among the states
-  pub listing-ready : length corners ≤ length table → Ready corners table (b .rings) (b .lengths) (b .states)
-  listing-ready t = ready k (b .rings) (b .lengths) (b .states) t (k .rings-long) (k .lengths-long) (k .others-long 0 (omega arith))
+            weight-is : getD records″ (6 * length lengths-here + l) 0 ≡ weighs grid (ring corners (loopAt corners l)) (fateAt (q .fates) l)
+            weight-is =
+                ap (λ (x : List ℕ). getD x (6 * length lengths-here + l) 0) (w .stand)
+                ∙ weight-at (length lengths-here) records (w .weights) (w .as-many) records-room l (omega (arith, many))
+                ∙ ap (λ (x : List ℕ). getD x l 0) (q .weights-are)
+                ∙ front-at (weightsOf grid (ringList corners) (q .fates)) (weightsIn (length lengths-here) records) l 0
+                (omega (arith, fated, weights-length grid (ringList corners) (q .fates) (fated ∙ sym (as-many-loops (known c)))))
+                ∙ weights-at grid (ringList corners) (q .fates) l (fated ∙ sym (as-many-loops (known c))) (omega (arith, as-many-loops (known c)))
+                ∙ ap (λ (x : List ℕ). weighs grid x (fateAt (q .fates) l)) (map-at (ring corners) [] [] (loops corners) l h)
 
-  module _ {at : Listed} {rings′ lengths′ firsts : List ℕ} {grid′ : List ℤ}
-      (ls : ListsLoops corners (loops corners) (b .rings) (b .lengths) (b .states) at rings′ lengths′ firsts) (eg : grid′ ≡ over (gridOf pitch words) (b .grid)) where
-    abbrev g : List ℤ
-    g = take (length words) grid′
+            first-is : getD firsts′ l 0 ≡ firstOf (loopAt corners l)
+            first-is = ap (λ (x : List ℕ). getD x l 0) (ls .all-firsts) ∙ front-at (map firstOf (loops corners)) firsts l 0 (omega (arith, length-map (loops corners) firstOf)) ∙ map-at firstOf [] 0 (loops corners) l h
 
-    module _ {states : List ℕ} (marked : Marked g corners firsts states) where
-      -- there is room for what the course leaves
-      the-lent : Lent (rimList g corners) (ringList corners) (docket states (b .weights) (b .patches))
-      unfolding ringsOf
-      the-lent =
-          let v : length (flatten (ringList corners)) ≤ length corners = rings-few k in
-          let n : length (ringList corners) ≤ length corners / 3 = omega (arith, as-many-loops k, loops-few k) in
-          let q : length corners / 3 ≤ length (b .weights) = k .others-long 1 (omega arith) in
-          let r : 3 * length corners ≤ length (b .patches) = k .others-long 2 (omega arith) in
-          let x = marks-here k ls eg marked in
-          let z : length (rimList g corners) ≤ length states = x .long in
-          let m : length (rimList g corners) ≡ length (ringList corners) = rims-here k ls eg marked in
-          record { rims-many = m; marked = x; states-room = omega arith; weights-room = omega arith; patches-room = omega arith }
+            row-is : numbers (rowOf cols records″ l) ≡ numbers (recordOf grid corners (q .fates) l)
+            row-is = λ t. length-is t ∷ state-is t ∷ weight-is t ∷ 0 ∷ first-is t ∷ m .pieces-are l h t ∷ m .runs-are l h t ∷ []
 
-      pub course-room : CourseRoom g corners (take (at .vertices) rings′) (take (at .loops) lengths′) (docket states (b .weights) (b .patches))
-      course-room = record { rims = rimList g corners; rs = ringList corners; loops = loops-here k ls eg; lent = the-lent; corners = input-here k }
+          rows-are : laidRecords cols records″ ≡ recordsOf grid corners (q .fates)
+          unfolding rows recordsOf
+          rows-are =
+              ap (rows cols records″) many
+              ∙ listed-same (λ (l : ℕ). numbers (rowOf cols records″ l)) (λ (l : ℕ). numbers (recordOf grid corners (q .fates) l)) (length (loops corners)) row-is
 
-      -- the loops that were found, and the buffers then
-      abbrev found : Answer → Patched
-      found a = record { answer = a; loops = at .loops; vertices = at .vertices; corners = 0 }
+          -- over the records as they were, since the weights lie where records are laid
+          records-are : {records‴ : List ℕ} → records‴ ≡ over (laidRecords cols records″) records″ → records‴ ≡ over (recordsOf grid corners (q .fates)) records
+          records-are e =
+              e
+              ∙ ap (over (laidRecords cols records″)) (w .stand)
+              ∙ weights-hidden (length lengths-here) records (w .weights) (w .as-many) records-room (laidRecords cols records″) (rows-length cols records″ (length lengths-here))
+              ∙ ap (λ (x : List ℕ). over x records) rows-are
 
-      abbrev then : Buffers
-      then = buffers grid′ rings′ lengths′ states (b .weights) (b .patches)
-
-      -- what the course leaves is what the patcher promises
-      done-is : (p : ℕ) (c : Docket) → CourseDone g corners (take (at .vertices) rings′) (take (at .loops) lengths′) (docket states (b .weights) (b .patches)) p c
-          → Patches pitch words corners b (left-by (found Done) then p c)
-      done-is p c r =
-          rw (k .none-refused) (q .fates, subst (λ (x : List ℤ). Course x corners [] (rimList x corners) (ringList corners) (q .fates)) gridded (q .course), left)
-        where
-          q : RanAll g corners (rimList g corners) (ringList corners) (docket states (b .weights) (b .patches)) p c
-          q = r (rimList g corners) (ringList corners) (loops-here k ls eg) the-lent
-
-          gridded : g ≡ gridOf pitch words
-          gridded = grid-part pitch words (b .grid) grid′ eg
-
-          -- as many states as marks
-          es : c .states ≡ over (statesOf (q .fates)) (b .states)
-          es =
-              q .states-are
-              ∙ ap (over (statesOf (q .fates))) (all-marked k ls eg marked)
-              ∙ over-again (statesOf (q .fates)) (map markOf (rimList g corners)) (b .states)
-              (states-length (q .fates) ∙ course-length g corners [] (rimList g corners) (ringList corners) (q .fates) (q .course)
-              ∙ sym (the-lent .rims-many) ∙ sym (length-map (rimList g corners) markOf))
-
-          ew : c .weights ≡ over (weightsOf (gridOf pitch words) (ringList corners) (q .fates)) (b .weights)
-          ew = q .weights-are ∙ ap (λ (x : List ℤ). over (weightsOf x (ringList corners) (q .fates)) (b .weights)) gridded
-
-          left : left-by (found Done) then p c ≡ done pitch words corners (q .fates) b
-          left = λ t. record {
-            answer = Done;
-            loops = ls .count t;
-            vertices = ls .vertices t;
-            corners = q .count t;
-            left = record { grid = eg t; rings = ls .all-rings t; lengths = ls .all-lengths t; states = es t; weights = ew t; patches = q .patches-are t };
-          }
-
-      pub finds-ready : {a : Answer} {turns path : List ℕ} → refusing a ≡ false → EdgeRoom corners turns path → Finds pitch words corners b (found a) then turns path
-      finds-ready t edges = (
-        (λ e. absurd (true≢false (sym e ∙ t))),
-        λ e. record {
-          grid-in = grid-in pitch words _ _ eg;
-          rings-in = rings-in ls;
-          lengths-in = lengths-in ls;
-          course = course-room;
-          edges = edges;
-          finish = done-is;
-        },
-      )
-
--- a refusal leaves nothing ready
-pub finds-refusal : {pitch : ℕ} {words corners : List ℕ} {b : Buffers} {r : Patched} {a : Answer} {turns path : List ℕ} → Refuses r a → refusing a ≡ true
-    → Patches pitch words corners b (outcome r b) → Finds pitch words corners b r b turns path
-finds-refusal h t p = ((λ e. p), λ e. absurd (true≢false (sym (ap refusing (h .0) ∙ t) ∙ e)))
+          pub completes : {records‴ : List ℕ} → records‴ ≡ over (laidRecords cols records″) records″ → (before : List ℤ)
+              → Completes pitch words corners (buffers before rings records patches)
+              (outcome (record { answer = Done; loops = at .loops; vertices = at .vertices; corners = p }) (buffers (over (gridOf pitch words) before) rings′ records‴ patches′))
+          completes e before = (
+            q .fates,
+            subst (λ (x : List ℤ). Course x corners [] (rimList x corners) (ringList corners) (q .fates)) (c .gridded) (q .course),
+            λ t. record {
+              answer = Done;
+              loops = ls .count t;
+              vertices = ls .vertices t;
+              corners = q .count t;
+              left = record {
+                grid = over (gridOf pitch words) before;
+                rings = ls .all-rings t;
+                records = (records-are e ∙ ap (λ (x : List ℤ). over (recordsOf x corners (q .fates)) records) (c .gridded)) t;
+                patches = q .patches-are t;
+              };
+            },
+          )

@@ -1,17 +1,27 @@
--- `hear_texts` has room for the longest sheet, and tells its wrong line or hands on what was taken in.
+-- `hear_texts` has room for whatever the texts say.
+use lib.Dec.{lit≤}
 use borrow.Author.Needs.{needs}
-use Rattle.surface_rules.proofs.Laws.Lists.{as-long}
 use Rattle.text_sheet.proofs.Laws.Rooms.{long-words, long-corners}
-use Rattle.program_judge.proofs.Laws.Sheets.{wrong-bytes, words-small, corners-small, words-within, corners-within, few-here, cut-few, whole-bytes}
+use Rattle.program_judge.proofs.Laws.Takes.{few-taken, from-texts, heard-texts}
 use Rattle.program_judge.proofs.hear_texts.Statement.{statement}
 use Rattle.program_judge.proofs.hear_texts.Tie as tie
 
--- where the text was found to be whole
-abbrev Whole : Type 0
-Whole = tie.After-pitch
+take-set-requires : tie.Need-take-set-requires
+take-set-requires c κs =
+    let t : tie.After-take-in = search in
+    few-taken (t .take-in .result) _ _ _ _ _ (t .take-in .ensures)
 
-abbrev taken : Whole → tie.After-take-in
-taken w = search
+hear-taken-requires : tie.Need-hear-taken-requires
+hear-taken-requires c κs =
+    let t : tie.After-take-in = search in
+    let u : tie.After-take-set = search in
+    from-texts _ _ _ _ _ _ _ _ _ _ _ (t .take-in .ensures) (u .take-set .ensures) (lit≤ tt) (lit≤ tt)
+
+returns : tie.Need-returns
+returns c =
+    let t : tie.After-take-in = search in
+    let u : tie.After-take-set = search in
+    heard-texts _ _ _ _ _ _ _ _ _ _ _ (t .take-in .ensures) (u .take-set .ensures) (lit≤ tt) (lit≤ tt) _ (c .hear-taken .ensures)
 
 pub hear-texts-spec : {M : Type 1} → statement M
 hear-texts-spec =
@@ -22,13 +32,10 @@ hear-texts-spec =
     (λ c κs. search (long-words, long-corners))
     (λ c. search needs)
     (λ c. search needs)
-    (λ c. search words-small)
-    (λ c. search corners-small)
-    (λ c κs. let w : Whole = search in few-here (w .pitch .given .1) _ _ _ _ _ (taken w .take-in .ensures))
-    (λ c. search words-within)
-    (λ c. search (as-long, words-within))
-    (λ c. search corners-within)
-    (λ c. search (as-long, corners-within))
-    (λ c κs. let w : Whole = search in cut-few (w .pitch .given .1) _ _ _ _ _ (taken w .take-in .ensures))
-    (λ c. search wrong-bytes)
-    (λ c. search whole-bytes))
+    take-set-requires
+    (λ c. search needs)
+    (λ c. search needs)
+    (λ c. search needs)
+    (λ c. search needs)
+    hear-taken-requires
+    returns)

@@ -48,6 +48,19 @@ module _ (key : List ℕ) (a : ℕ) where
   pub three-length : (b c : ℕ) → length (line key (a ∷ b ∷ c ∷ [])) ≡ length key + size a + size b + size c + 3
   three-length b c = omega (arith, line-length key (a ∷ b ∷ c ∷ []), next-length a b (c ∷ []), next-length b c [], last-length c)
 
+  pub six-length : (b c d e f : ℕ) → length (line key (a ∷ b ∷ c ∷ d ∷ e ∷ f ∷ [])) ≡ length key + size a + size b + size c + size d + size e + size f + 6
+  six-length b c d e f =
+      omega (
+        arith,
+        line-length key (a ∷ b ∷ c ∷ d ∷ e ∷ f ∷ []),
+        next-length a b (c ∷ d ∷ e ∷ f ∷ []),
+        next-length b c (d ∷ e ∷ f ∷ []),
+        next-length c d (e ∷ f ∷ []),
+        next-length d e (f ∷ []),
+        next-length e f [],
+        last-length f,
+      )
+
 pub line-begins : (key l before : List ℕ) (at : ℕ) → at + length (line key l) ≤ length before → at + length key ≤ length before
 line-begins key l before at h = omega (arith, line-length key l)
 
@@ -64,15 +77,15 @@ ended : {whole before rest out : List ℕ} {at place : ℕ} → Laying whole at 
 ended g e = let h = laying-ends g e in record { put = h .0; behind = h .1 }
 
 module _ {whole before out : List ℕ} {at place a : ℕ} where
-  number-fits : {l : List ℕ} → Lining whole at before (a ∷ l) place out → place + size a + 1 ≤ length out
+  pub number-fits : {l : List ℕ} → Lining whole at before (a ∷ l) place out → place + size a + 1 ≤ length out
   number-fits {l = []} g = omega (arith, g .laying .same, g .laying .room, g .laying .reach, last-length a)
   number-fits {l = b ∷ l} g = omega (arith, g .laying .same, g .laying .room, g .laying .reach, next-length a b l)
 
-  next-put : {b next : ℕ} {l after : List ℕ} → Lining whole at before (a ∷ b ∷ l) place out → PutAt place (decimal a ++ (comma ∷ [])) out next after
+  pub next-put : {b next : ℕ} {l after : List ℕ} → Lining whole at before (a ∷ b ∷ l) place out → PutAt place (decimal a ++ (comma ∷ [])) out next after
       → Lining whole at before (b ∷ l) next after
   next-put {b} {l = l} g q = record { laying = laying-more (g .laying) (decimal a ++ (comma ∷ [])) (joined (b ∷ l)) (joined-next a b l) (q .put) (q .behind) }
 
-  last-put : {next : ℕ} {after : List ℕ} → Lining whole at before (a ∷ []) place out → PutAt place (decimal a ++ (feed ∷ [])) out next after → PutAt at whole before next after
+  pub last-put : {next : ℕ} {after : List ℕ} → Lining whole at before (a ∷ []) place out → PutAt place (decimal a ++ (feed ∷ [])) out next after → PutAt at whole before next after
   last-put g q = ended (laying-more (g .laying) (decimal a ++ (feed ∷ [])) (joined []) (joined-last a) (q .put) (q .behind)) joined-none
 
 -- lines of one number, of two and of three, number by number behind the key

@@ -8,18 +8,19 @@ use lib.Dec.{eqb}
 use lib.ListN.{length, take, drop, getD, length-append, length-take}
 use lib.Seq.{getD-take, getD-drop}
 use mir.Val as val
-use mir.Syntax.{w16, w64}
+use mir.Syntax.{w16}
 use borrow.Author.Tests.{eqb-true}
 use Rattle.base_limits.specs.Limits as limits
 use Rattle.base_limits.specs.States as stated
 use Rattle.text_digits.specs.Numeral.{size}
+use Rattle.text_digits.proofs.Laws.Sizes.{size-below}
 use Rattle.program_lines.specs.Lines.{line, joined, loop=, ring=, patch=}
-use Rattle.program_lines.specs.Listing.{Shown, patchLines, loopLines}
+use Rattle.program_lines.specs.Listing.{Shown, told, patchLines, loopLines}
 use Rattle.program_lines.specs.Workings.Telling.{Fits}
 use Rattle.program_lines.proofs.Laws.Answering.{line-most}
-use Rattle.program_lines.proofs.Laws.Digits.{size-word, size-short}
+use Rattle.program_lines.proofs.Laws.Digits.{size-short}
 use Rattle.program_lines.proofs.put_next.⟦WIDEST⟧-asked.Lts as for-widest
-use Rattle.program_lines.proofs.Laws.Lines.{joined-none, line-length, next-length, last-length, three-length}
+use Rattle.program_lines.proofs.Laws.Lines.{joined-none, line-length, next-length, last-length, three-length, six-length}
 
 -- every number is one of 16 bits
 pub Short : List ℕ → Type 0
@@ -52,12 +53,30 @@ patch-wide (a ∷ b ∷ c ∷ l) h =
     let j = short-tail b (c ∷ l) i in
     omega (arith, length-append (line patch= (a ∷ b ∷ c ∷ [])) (patchLines l), three-length patch= a b c, short-head a (b ∷ c ∷ l) h, short-head b (c ∷ l) i, short-head c l j, patch-wide l (short-tail c l j))
 
-share-few : (s : Shown) → Fits s → 8 * length (s .patch) ≤ 24 * limits.longest
-share-few s f = go (eqb (s .state) stated.patched) refl
+-- a patch has two triangles fewer than its ring has vertices, and is of a ring that is not long
+share-few : (s : Shown) → Fits s → (length (s .patch) + 6 ≤ 3 * length (s .ring)) × (length (s .patch) + 6 ≤ 3 * limits.longest)
+share-few s f = go (eqb (s .kept .state) stated.patched) refl
   where
-    go : (t : Bool) → eqb (s .state) stated.patched ≡ t → 8 * length (s .patch) ≤ 24 * limits.longest
-    go true e = let z : length (s .patch) ≡ 3 * (length (s .ring) - 2) = f .share ∙ rw e in omega (arith, f .patched (eqb-true _ _ e))
-    go false e = let z : length (s .patch) ≡ 0 = f .share ∙ rw e in omega arith
+    go : (t : Bool) → eqb (s .kept .state) stated.patched ≡ t → (length (s .patch) + 6 ≤ 3 * length (s .ring)) × (length (s .patch) + 6 ≤ 3 * limits.longest)
+    go true e =
+        let z : length (s .patch) ≡ 3 * (length (s .ring) - 2) = f .share ∙ rw e in
+        (omega (arith, f .three), omega (arith, f .three, f .patched (eqb-true _ _ e)))
+    go false e = let z : length (s .patch) ≡ 0 = f .share ∙ rw e in (omega (arith, f .three), omega arith)
+
+-- the line `loop=`, by how many digits each of its numbers has at most
+told-wide : (s : Shown) → Fits s → length (line loop= (told (s .kept))) ≤ line-most
+told-wide s f =
+    let r = s .kept in
+    omega (
+      arith,
+      six-length loop= (r .length) (r .state) (r .weight) (r .first) (r .piece) (r .run),
+      size-below 3 (r .length) (omega (arith, f .as-long, f .few)),
+      size-below 0 (r .state) (omega (arith, f .state-small)),
+      size-below 12 (r .weight) (omega (arith, f .weight-small)),
+      size-below 3 (r .first) (omega (arith, f .first-small)),
+      size-below 3 (r .piece) (omega (arith, f .piece-small)),
+      size-below 9 (r .run) (omega (arith, f .run-small)),
+    )
 
 -- how wide the code says that they can be
 abbrev pub widest : ℕ
@@ -65,14 +84,18 @@ widest = for-widest.answer tt tt
 
 -- how wide they are at most, by the vertices of the ring and the corners of the patch
 abbrev pub width : Shown → ℕ
-width s = line-most + 6 * length (s .ring) + 8 * length (s .patch)
+width s = line-most + length ring= + 6 * length (s .ring) + 8 * length (s .patch)
 
 pub width-most : (s : Shown) → Fits s → width s ≤ widest
-width-most s f = omega (arith, share-few s f, f .few)
+width-most s f = omega (arith, share-few s f .1, f .few)
 
-pub loop-wide : (s : Shown) → Fits s → Short (s .ring) → Short (s .patch) → val.Fits w16 (s .state) → val.Fits w64 (s .weight) → length (loopLines s) ≤ width s
+-- and by the vertices alone: the triangles that a patch has fewer leave room for the key `ring=`
+pub width-share : (s : Shown) → Fits s → width s ≤ line-most + 6 * length (s .ring) + 24 * length (s .ring)
+width-share s f = omega (arith, share-few s f .0)
+
+pub loop-wide : (s : Shown) → Fits s → Short (s .ring) → Short (s .patch) → length (loopLines s) ≤ width s
 unfolding loopLines
-loop-wide s f a b u v =
-    let x = length-append (line loop= (length (s .ring) ∷ s .state ∷ s .weight ∷ [])) (line ring= (s .ring) ++ patchLines (s .patch)) in
+loop-wide s f a b =
+    let x = length-append (line loop= (told (s .kept))) (line ring= (s .ring) ++ patchLines (s .patch)) in
     let y = length-append (line ring= (s .ring)) (patchLines (s .patch)) in
-    omega (arith, x, y, three-length loop= (length (s .ring)) (s .state) (s .weight), line-length ring= (s .ring), joined-wide (s .ring) a, patch-wide (s .patch) b, size-short (length (s .ring)) (omega (arith, f .few)), size-short (s .state) u, size-word (s .weight) v)
+    omega (arith, x, y, told-wide s f, line-length ring= (s .ring), joined-wide (s .ring) a, patch-wide (s .patch) b)

@@ -11,5 +11,6 @@ corners-of-spec =
     (tie.spec
     (λ c. search needs)
     (λ c. search needs)
+    (λ c. search needs)
     (λ c. sym (rw (eq-eqb _ _ (c .if1 .taken))))
     (λ c. sym (rw (ne-eqb _ _ (c .if1 .left)))))

@@ -10,59 +10,63 @@ use Rattle.program_lines.proofs.Laws.Nexts.{Typed, NextPlace, handed, n
 use Rattle.program_lines.proofs.put_next.Statement.{statement}
 use Rattle.program_lines.proofs.put_next.Tie as tie
 
--- where the corners of the patch were counted, and where the lines were put
+-- where the record was read, where the corners of the patch were counted, and where the lines were put
+abbrev Read : Type 0
+Read = tie.After-record-at
+
 abbrev Counted : Type 0
 Counted = tie.After-corners-of
 
 abbrev Put : Type 0
 Put = tie.After-put-loop
 
-abbrev entry : Counted → tie.Start
-entry k = search
+abbrev entry : Read → tie.Start
+entry r = search
+
+abbrev kept : Counted → Read
+kept k = search
 
 abbrev counted : Put → Counted
 counted u = search
 
 -- what stands in the buffers, and where the next loop stands there
 abbrev lent : tie.Start → Inventory
-lent s = inventory (s .args .rings .now) (s .args .lengths .now) (s .args .states .now) (s .args .weights .now) (s .args .patches .now)
+lent s = inventory (s .args .rings .now) (s .args .records .now) (s .args .patches .now)
 
-here : (s : tie.Start) → NextPlace (lent s) (s .args .progress)
-here s = next-place (s .pre .1)
+here : (r : Read) → NextPlace (lent (entry r)) (entry r .args .progress) (r .record-at .result)
+here r = next-place (entry r .pre .1) (r .record-at .ensures)
 
-share-in : (k : Counted) → entry k .args .progress .corners + k .corners-of .result ≤ length (entry k .args .patches .now)
-share-in k = patch-in (entry k .pre .1) (k .corners-of .ensures)
+share-in : (k : Counted) → let s = entry (kept k) in s .args .progress .corners + k .corners-of .result ≤ length (s .args .patches .now)
+share-in k = let r = kept k in patch-in (entry r .pre .1) (r .record-at .ensures) (k .corners-of .ensures)
 
-wide : (k : Counted) → length (loopLines (handed (lent (entry k)) (entry k .args .progress) (k .corners-of .result))) ≤ widest
+wide : (k : Counted) → let r = kept k in
+    length (loopLines (handed (lent (entry r)) (entry r .args .progress) (r .record-at .result) (k .corners-of .result))) ≤ widest
 wide k =
-    let typed : Typed (lent (entry k)) = record { rings-short = search; states-short = search; weights-long = search; patches-short = search } in
-    next-wide (entry k .pre .1) (k .corners-of .ensures) typed
+    let r = kept k in
+    let typed : Typed (lent (entry r)) = record { rings-short = search; patches-short = search } in
+    next-wide (entry r .pre .1) (r .record-at .ensures) (k .corners-of .ensures) typed
 
 pub put-next-spec : {M : Type 1} → statement M
 put-next-spec =
     tie.close
     (tie.spec
-    (λ c. omega (arith, here (search)))
-    (λ c. here (search) .in-lengths)
-    (λ c. omega (arith, here (search)))
-    (λ c. omega (arith, here (search)))
-    (λ c. here (search) .in-states)
+    (λ c κs. tt)
     (λ c κs. let h = here (search) in (omega (arith, h), omega (arith, h)))
-    (λ c. let k : Counted = search in omega (arith, here (entry k)))
-    (λ c. let k : Counted = search in omega (arith, here (entry k)))
+    (λ c. let r : Read = search in omega (arith, here r))
+    (λ c. let r : Read = search in omega (arith, here r))
     (λ c. omega arith)
-    (λ c. let k : Counted = search in omega (arith, here (entry k)))
-    (λ c. let k : Counted = search in omega (arith, here (entry k)))
-    (λ c. let k : Counted = search in omega (arith, here (entry k), entry k .good))
-    (λ c. let k : Counted = search in here (entry k) .in-weights)
+    (λ c. let r : Read = search in omega (arith, here r))
+    (λ c. let r : Read = search in omega (arith, here r))
     (λ c. omega (arith, share-in (search)))
     (λ c. omega (arith, share-in (search)))
     (λ c. omega arith)
     (λ c. omega (arith, share-in (search)))
     (λ c. omega (arith, share-in (search)))
-    (λ c κs. let k : Counted = search in omega (arith, wide k, entry k .pre .0))
-    (λ c. let u : Put = search in let s = entry (counted u) in omega (arith, here s, s .good))
-    (λ c. let u : Put = search in let s = entry (counted u) in omega (arith, here s, s .good))
-    (λ c. let u : Put = search in let k = counted u in omega (arith, share-in k, entry k .good))
+    (λ c κs. let k : Counted = search in omega (arith, wide k, entry (kept k) .pre .0))
+    (λ c. let r : Read = search in omega (arith, here r, entry r .good))
+    (λ c. let r : Read = search in omega (arith, here r, entry r .good))
+    (λ c. let k : Counted = search in omega (arith, share-in k, entry (kept k) .good))
     (λ c. search needs)
-    (λ c. let u : Put = search in let k = counted u in (next-tells (k .corners-of .ensures) (u .put-loop .ensures), omega (arith, wide k, u .put-loop .ensures))))
+    (λ c.
+    let u : Put = search in
+    let k = counted u in (next-tells (kept k .record-at .ensures) (k .corners-of .ensures) (u .put-loop .ensures), omega (arith, wide k, u .put-loop .ensures))))

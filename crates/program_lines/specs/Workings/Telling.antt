@@ -2,52 +2,56 @@
 use mathlib.Core.Path.{_≡_}
 use mathlib.Core.Bool.{cond}
 use mathlib.Core.List.{List, [], map, flatten}
-use Prim.Native.Nat.{ℕ, _+_, _-_, _*_, _<_, _≤_}
+use Prim.Native.Nat.{ℕ, _+_, _-_, _*_, _^_, _<_, _≤_}
 use lib.Dec.{eqb}
 use lib.ListN.{length, take, getD}
 use Rattle.base_limits.specs.Limits as limits
 use Rattle.base_limits.specs.States as stated
 use Rattle.surface_rules.specs.Buffers.{laid}
+use Rattle.patch_records.specs.declared.Record.{Record}
+use Rattle.patch_records.specs.Records.{numbers, none}
 use Rattle.program_lines.specs.Listing.{Shown, loopLines}
 use Rattle.program_lines.specs.declared.Progress.{Progress}
 
--- what stands in the buffers: the vertices of the rings and how many each has, the states, the weights, and the corners of the patches
+-- what stands in the buffers: the vertices of the rings, the records, and the corners of the patches
 pub record Inventory : Type 0 where
   pub rings : List ℕ
-  pub lengths : List ℕ
-  pub states : List ℕ
-  pub weights : List ℕ
+  pub records : List ℕ
   pub patches : List ℕ
 
-abbrev pub inventory : List ℕ → List ℕ → List ℕ → List ℕ → List ℕ → Inventory
-inventory rings lengths states weights patches = record { rings = rings; lengths = lengths; states = states; weights = weights; patches = patches }
+abbrev pub inventory : List ℕ → List ℕ → List ℕ → Inventory
+inventory rings records patches = record { rings = rings; records = records; patches = patches }
 
 -- which are the loops, one after the other
 pub record Lying (loops : List Shown) (w : Inventory) : Type 0 where
   pub rings-are : w .rings ≡ flatten (map (λ (s : Shown). s .ring) loops)
-  pub lengths-are : w .lengths ≡ map (λ (s : Shown). length (s .ring)) loops
-  pub states-are : w .states ≡ map (λ (s : Shown). s .state) loops
-  pub weights-are : w .weights ≡ map (λ (s : Shown). s .weight) loops
+  pub records-are : w .records ≡ flatten (map (λ (s : Shown). numbers (s .kept)) loops)
   pub patches-are : w .patches ≡ flatten (map (λ (s : Shown). s .patch) loops)
 
 -- a loop whose lines are no wider than there is room for: a patched one is not long and its patch has its share of corners, and any
 -- other has none
 pub record Fits (s : Shown) : Type 0 where
+  pub as-long : s .kept .length ≡ length (s .ring)
   pub three : 3 ≤ length (s .ring)
   pub few : length (s .ring) ≤ limits.corners
-  pub patched : s .state ≡ stated.patched → length (s .ring) ≤ limits.longest
-  pub share : length (s .patch) ≡ cond (eqb (s .state) stated.patched) (3 * (length (s .ring) - 2)) 0
+  pub patched : s .kept .state ≡ stated.patched → length (s .ring) ≤ limits.longest
+  pub share : length (s .patch) ≡ cond (eqb (s .kept .state) stated.patched) (3 * (length (s .ring) - 2)) 0
+  pub state-small : s .kept .state < 10
+  pub weight-small : s .kept .weight < 2 ^ 41
+  pub first-small : s .kept .first < limits.corners
+  pub piece-small : s .kept .piece < limits.triangles
+  pub run-small : s .kept .run < 2 ^ 32
 
 -- the first loops were told
 pub record Told (loops : List Shown) (m : Progress) : Type 0 where
   pub vertices-are : m .vertices ≡ length (flatten (map (λ (s : Shown). s .ring) (take (m .loops) loops)))
   pub corners-are : m .corners ≡ length (flatten (map (λ (s : Shown). s .patch) (take (m .loops) loops)))
 
-abbrev pub shown : List ℕ → ℕ → ℕ → List ℕ → Shown
-shown ring state weight patch = record { ring = ring; state = state; weight = weight; patch = patch }
+abbrev pub shown : List ℕ → Record → List ℕ → Shown
+shown ring kept patch = record { ring = ring; kept = kept; patch = patch }
 
 abbrev pub nothing : Shown
-nothing = shown [] 0 0 []
+nothing = shown [] none []
 
 -- the loop that comes next
 abbrev pub next : List Shown → Progress → Shown

@@ -52,14 +52,12 @@ module _ {bytes : List ℕ} {s : Sheet} (t : TextOf sheet bytes s) (b : Buffers)
       few-corners : length corners ≤ limits.corners
       few-corners = omega (arith, flat-length (s .body .seconds), t .says .body-says .second-few)
 
-      at-each : (i : ℕ) → i < 6 → getD (needs words corners) i 0 ≤ getD (lent b) i 0
+      at-each : (i : ℕ) → i < 4 → getD (needs words corners) i 0 ≤ getD (lent b) i 0
       at-each zero l = omega (arith, few-words, full .grid-full)
       at-each (suc zero) l = omega (arith, few-corners, full .rings-full)
-      at-each (suc (suc zero)) l = omega (arith, few-corners, full .lengths-full)
-      at-each (suc (suc (suc zero))) l = omega (arith, few-corners, full .states-full)
-      at-each (suc (suc (suc (suc zero)))) l = omega (arith, few-corners, full .weights-full)
-      at-each (suc (suc (suc (suc (suc zero))))) l = omega (arith, few-corners, full .patches-full)
-      at-each (suc (suc (suc (suc (suc (suc i)))))) l = absurd (omega (arith, l))
+      at-each (suc (suc zero)) l = omega (arith, few-corners, full .records-full)
+      at-each (suc (suc (suc zero))) l = omega (arith, few-corners, full .patches-full)
+      at-each (suc (suc (suc (suc i)))) l = absurd (omega (arith, l))
 
   -- what is printed of what it says
   text-prints : (out : List ℕ) → PrintsIf (refusing answers) answers pitch words corners out → Prints bytes out

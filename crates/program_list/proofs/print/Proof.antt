@@ -21,7 +21,7 @@ entry k = search
 
 abbrev ended : Done → Outcome
 ended k = let l = k .list .last .1 in
-    outcome (k .list .result) (buffers (l .0) (l .1 .0) (l .1 .1 .0) (l .1 .1 .1 .0) (l .1 .1 .1 .1 .0) (l .1 .1 .1 .1 .1 .0))
+    outcome (k .list .result) (buffers (l .0) (l .1 .0) (l .1 .1 .0) (l .1 .1 .1 .0))
 
 left : (k : Done) → LeftListed (ended k)
 left k = lists-listed (k .list .ensures)
@@ -31,7 +31,7 @@ few k =
     let h = left k in
     let o = ended k in
     record {
-      few-loops = omega (arith, h .lengths-in, k .list .kept);
+      few-loops = omega (arith, h .records-in, k .list .kept);
       few-vertices = omega (arith, h .rings-in, k .list .kept, length-take (o .vertices) (o .left .rings));
       few-corners = omega (arith, h .patches-in, k .list .kept, length-take (o .corners) (o .left .patches));
     }
@@ -42,7 +42,7 @@ returns-2 c =
     let k : Done = search in
     let e : tie.Else1 = search in
     all-prints (ended k) (omega (arith, e .if1 .left)) (u .put-all .ensures)
-    (record { grid-full = omega arith; rings-full = omega arith; lengths-full = omega arith; states-full = omega arith; weights-full = omega arith; patches-full = omega arith })
+    (record { grid-full = omega arith; rings-full = omega arith; records-full = omega arith; patches-full = omega arith })
     (k .list .ensures)
 
 pub print-spec : {M : Type 1} → statement M
@@ -54,17 +54,12 @@ print-spec =
     (λ c. search needs)
     (λ c. search needs)
     (λ c. search needs)
-    (λ c. search needs)
-    (λ c. search needs)
     (λ c κs. search needs)
     (λ c. left (search) .rings-in)
     (λ c. as-long _ _ (left (search) .rings-in))
-    (λ c. left (search) .lengths-in)
-    (λ c. as-long _ _ (left (search) .lengths-in))
-    (λ c. left (search) .states-in)
-    (λ c. as-long _ _ (left (search) .states-in))
-    (λ c. left (search) .weights-in)
-    (λ c. as-long _ _ (left (search) .weights-in))
+    (λ c. let k : Done = search in omega (arith, left k .records-in, k .list .kept))
+    (λ c. left (search) .records-in)
+    (λ c. as-long _ _ (left (search) .records-in))
     (λ c. left (search) .patches-in)
     (λ c. as-long _ _ (left (search) .patches-in))
     (λ c κs. let k : Done = search in (search needs, (left k .listed, few k)))

@@ -1,7 +1,7 @@
 -- What is printed of what was left in buffers that are long enough for every surface.
 use mathlib.Core.Bool.{Bool, true, false}
 use mathlib.Core.List.{List}
-use Prim.Native.Nat.{ℕ, _≤_}
+use Prim.Native.Nat.{ℕ, _*_, _≤_}
 use lib.ListN.{length, take}
 use Rattle.base_limits.specs.Limits as limits
 use Rattle.patch_surface.specs.Outcome.{Buffers, Outcome}
@@ -14,16 +14,12 @@ use Rattle.program_list.specs.Lists.{Prints}
 pub record Full (b : Buffers) : Type 0 where
   pub grid-full : limits.words ≤ length (b .grid)
   pub rings-full : limits.corners ≤ length (b .rings)
-  pub lengths-full : limits.triangles ≤ length (b .lengths)
-  pub states-full : limits.triangles ≤ length (b .states)
-  pub weights-full : limits.triangles ≤ length (b .weights)
+  pub records-full : limits.record-numbers * limits.triangles ≤ length (b .records)
   pub patches-full : limits.set-corners ≤ length (b .patches)
 
 -- what is used of the buffers
 abbrev pub used : Outcome → Inventory
-used o =
-    inventory (take (o .vertices) (o .left .rings)) (take (o .loops) (o .left .lengths)) (take (o .loops) (o .left .states))
-    (take (o .loops) (o .left .weights)) (take (o .corners) (o .left .patches))
+used o = inventory (take (o .vertices) (o .left .rings)) (take (limits.record-numbers * o .loops) (o .left .records)) (take (o .corners) (o .left .patches))
 
 -- loops stand in it
 abbrev pub LoopsIn : Outcome → Type 0

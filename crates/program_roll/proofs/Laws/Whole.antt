@@ -19,7 +19,7 @@ use Rattle.program_lines.specs.Workings.Telling.{Inventory, nothing, NextRoom}
 use Rattle.program_lines.proofs.Laws.Answering.{line-most}
 use Rattle.program_lines.proofs.Laws.Nexts.{Typed, next-width}
 use Rattle.program_lines.proofs.Laws.Parts.{part-within, part-next}
-use Rattle.program_lines.proofs.Laws.Widths.{widest, width}
+use Rattle.program_lines.proofs.Laws.Widths.{widest, width-share}
 use Rattle.program_roll.specs.Sections.{head, between}
 use Rattle.program_roll.specs.Workings.Listed.{Listed}
 use Rattle.program_roll.specs.Workings.Roll.{Begins, Going, Fills, FillsOn, Few, whole, PutsAll}
@@ -35,29 +35,25 @@ head-most = for-head.answer tt tt
 abbrev pub listing-most : ℕ
 listing-most = for-listing.answer tt tt
 
--- the vertices and the corners of the first loops
+-- the vertices of the first loops
 abbrev vertices : ℕ → List Shown → ℕ
 vertices n loops = length (flatten (map (λ (s : Shown). s .ring) (take n loops)))
 
-abbrev corners : ℕ → List Shown → ℕ
-corners n loops = length (flatten (map (λ (s : Shown). s .patch) (take n loops)))
-
 module _ {w : Inventory} {count : ℕ} (l : Listed w count) (t : Typed w) where
-  one-width : (n : ℕ) → n < length (l .loops) → length (loopLines (getD (l .loops) n nothing)) ≤ width (getD (l .loops) n nothing)
+  one-width : (n : ℕ) → n < length (l .loops) → length (loopLines (getD (l .loops) n nothing)) ≤ line-most + 30 * length (getD (l .loops) n nothing .ring)
   one-width n h =
-      let m : Progress = record { loops = n; vertices = vertices n (l .loops); corners = corners n (l .loops); bytes = 0 } in
+      let corners = length (flatten (map (λ (s : Shown). s .patch) (take n (l .loops)))) in
+      let m : Progress = record { loops = n; vertices = vertices n (l .loops); corners = corners; bytes = 0 } in
       let room : NextRoom w m = record { loops = l .loops; lying = l .lying; told = record { vertices-are = refl; corners-are = refl }; more = h; fits = l .fits n h } in
-      next-width room refl t
+      omega (arith, next-width room t, width-share (getD (l .loops) n nothing) (l .fits n h))
 
-  first-width : (n : ℕ) → n ≤ length (l .loops) → length (between 0 n (l .loops)) ≤ line-most * n + 6 * vertices n (l .loops) + 8 * corners n (l .loops)
+  first-width : (n : ℕ) → n ≤ length (l .loops) → length (between 0 n (l .loops)) ≤ line-most * n + 30 * vertices n (l .loops)
   first-width zero h = omega (arith, ap length (between-none 0 (l .loops)))
   first-width (suc n) h =
       let s = getD (l .loops) n nothing in
-      let one = one-width n h in
       let lines : length (between 0 (n + 1) (l .loops)) ≡ length (between 0 n (l .loops)) + length (loopLines s) = ap length (between-more 0 n (l .loops) (omega arith) h) ∙ length-append (between 0 n (l .loops)) (loopLines s) in
       let ring = part-next (λ (s : Shown). s .ring) nothing (l .loops) n h in
-      let patch = part-next (λ (s : Shown). s .patch) nothing (l .loops) n h in
-      let all : length (between 0 (n + 1) (l .loops)) ≤ line-most * (n + 1) + 6 * vertices (n + 1) (l .loops) + 8 * corners (n + 1) (l .loops) = omega (arith, first-width n (omega (arith, h)), one, lines, ring, patch) in
+      let all : length (between 0 (n + 1) (l .loops)) ≤ line-most * (n + 1) + 30 * vertices (n + 1) (l .loops) = omega (arith, first-width n (omega (arith, h)), one-width n h, lines, ring) in
       rw (add-one n) at all
 
   -- as long as a loop is left to tell, the lines so far leave room for it
@@ -69,11 +65,8 @@ module _ {w : Inventory} {count : ℕ} (l : Listed w count) (t : Typed w) where
         l .many,
         few .few-loops,
         few .few-vertices,
-        few .few-corners,
         part-within (λ (s : Shown). s .ring) nothing (l .loops) n h,
-        part-within (λ (s : Shown). s .patch) nothing (l .loops) n h,
         ap length (l .lying .rings-are),
-        ap length (l .lying .patches-are),
       )
 
 -- what lies in the buffer, from its start

@@ -8,10 +8,10 @@ use Rattle.program_roll.proofs.fill.Statement.{statement}
 use Rattle.program_roll.proofs.fill.Tie as tie
 
 abbrev Inv-loop : tie.InvT-loop
-Inv-loop out₀ loops rings lengths states weights patches m₀ out m = Filling widest (inventory rings lengths states weights patches) loops m₀ m out₀ out
+Inv-loop out₀ loops rings records patches m₀ out m = Filling widest (inventory rings records patches) loops m₀ m out₀ out
 
 abbrev μ-loop : tie.MeasureT-loop
-μ-loop out₀ loops rings lengths states weights patches m₀ out m = loops - m .loops
+μ-loop out₀ loops rings records patches m₀ out m = loops - m .loops
 
 -- where a turn begins, where it has a loop left to tell, and where that was told
 abbrev Turn : Type 0

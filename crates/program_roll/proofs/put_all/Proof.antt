@@ -20,10 +20,10 @@ begun f = search
 
 -- what stands in the buffers
 abbrev lent : tie.Start → Inventory
-lent s = inventory (s .args .rings .now) (s .args .lengths .now) (s .args .states .now) (s .args .weights .now) (s .args .patches .now)
+lent s = inventory (s .args .rings .now) (s .args .records .now) (s .args .patches .now)
 
 typed : (b : Begun) → Typed (lent (entry b))
-typed b = record { rings-short = search; states-short = search; weights-long = search; patches-short = search }
+typed b = record { rings-short = search; patches-short = search }
 
 returns : tie.Need-returns
 returns c =

@@ -19,39 +19,37 @@ use Rattle.rim_rules.specs.Rims.{rimList}
 use Rattle.fill_fates.specs.Course.{ringList}
 use Rattle.fill_scratch.specs.Workings.Rings.{Loops, Input, Marks}
 use Rattle.fill_scratch.proofs.Laws.Rings.{loops-of}
-use Rattle.rim_mark.specs.Workings.Marking.{markOf, MarkRoom, Marked}
+use Rattle.rim_mark.specs.Workings.Marking.{markOf, Found, MarkRoom, Marked}
 use Rattle.rim_mark.proofs.Laws.Crossing.{still-crossing}
 use Rattle.rim_mark.proofs.Laws.Marks.{marks-told, rims-many, first-at}
 
-module _ {pitch : ℕ} {words corners table : List ℕ} {grid : List ℤ} {rings lengths others asked : List ℕ} (k : Known pitch words corners table grid rings lengths others asked) where
+module _ {pitch : ℕ} {words corners table : List ℕ} (k : Known pitch words corners table) where
   pub input-here : Input corners
   input-here = record { whole = k .fits .corner-threes; few = k .fits .few-corners; inside = corner-inside k }
 
   pub as-many-loops : length (ringList corners) ≡ length (loops corners)
   as-many-loops = length-map (loops corners) (ring corners)
 
-  module _ {at : Listed} {firsts rings′ lengths′ firsts′ : List ℕ} {grid′ : List ℤ} (ls : ListsLoops corners (loops corners) rings lengths firsts at rings′ lengths′ firsts′) (eg : grid′ ≡ over (gridOf pitch words) grid) where
-    abbrev g : List ℤ
-    g = take (length words) grid′
-
+  module _ {at : Listed} {rings lengths firsts rings′ lengths′ firsts′ : List ℕ} {g : List ℤ} (ls : ListsLoops corners (loops corners) rings lengths firsts at rings′ lengths′ firsts′) (eg : g ≡ gridOf pitch words) where
     pub loops-here : Loops g corners (ringList corners) (take (at .vertices) rings′) (take (at .loops) lengths′)
     loops-here =
-        of-parts ls pitch words grid grid′ eg (λ (x : List ℤ) (r l : List ℕ). Loops x corners (ringList corners) r l)
+        of-parts ls pitch words g eg (λ (x : List ℤ) (r l : List ℕ). Loops x corners (ringList corners) r l)
         (loops-of pitch words corners table (k .woven) (k .on-grid) (k .fits .few-words) (k .fits .few-corners))
 
     firsts-long : length (loops corners) ≤ length firsts′
     firsts-long = front-in (map firstOf (loops corners)) firsts firsts′ (length (loops corners)) (sym (length-map (loops corners) firstOf)) (ls .all-firsts)
 
-    pub mark-room : {turns path places : List ℕ} → KeepsTurns corners turns → length corners ≤ length turns → length corners ≤ length path → length corners / 3 ≤ length places
-        → MarkRoom g corners (take (at .vertices) rings′) (take (at .loops) lengths′) turns path places firsts′
-    mark-room {turns} kept t p q = record {
+    pub found : {turns : List ℕ} → KeepsTurns corners turns → length corners ≤ length turns → Found g corners (take (at .vertices) rings′) (take (at .loops) lengths′) firsts′ turns
+    found {turns} kept t = record {
       crossing = still-crossing corners turns (k .woven .sound) (k .fits .few-corners) t kept;
       listed = loops-here;
       firsts-are = λ l h. ap (λ (x : List ℕ). getD x l 0) (ls .all-firsts) ∙ first-at corners firsts l h;
-      marks-long = firsts-long;
-      path-long = omega arith;
-      places-long = q;
+      firsts-long = firsts-long;
     }
+
+    pub mark-room : {turns path places : List ℕ} → KeepsTurns corners turns → length corners ≤ length turns → length corners ≤ length path → length corners / 3 ≤ length places
+        → MarkRoom g corners (take (at .vertices) rings′) (take (at .loops) lengths′) turns path places firsts′
+    mark-room kept t p q = record { found = found kept t; path-long = omega arith; places-long = q }
 
     module _ {marks : List ℕ} (marked : Marked g corners firsts′ marks) where
       -- of the first half-edges nothing is left

@@ -10,23 +10,31 @@ use lib.Seq.{getD-set-same, getD-set-other}
 use Rattle.surface_rules.proofs.Laws.Tests.{eq-or-not}
 use Rattle.fill_scratch.specs.Workings.Rings.{RingOf, Loops, RingPlace}
 use Rattle.fill_scratch.proofs.Laws.Reading.{as-many, length-at, ring-at, ring-next, places-of}
-use Rattle.rim_mark.specs.Workings.Running.{ringRun, RingRoom, MeasureRoom, Measures}
+use Rattle.rim_mark.specs.Workings.Running.{ringRun, RingRoom, MeasureRoom}
 
--- of the first l loops those are measured for which there was a number, the others are as they were, and r ring vertices were read
-pub record Measured (grid : List ℤ) (rings lengths runs₀ : List ℕ) (l r : ℕ) (runs : List ℕ) : Type 0 where
+-- of the first l loops those are measured that are due, the others are as they were, and r ring vertices were read
+pub record Measured (due : ℕ → Type 0) (grid : List ℤ) (rings lengths runs₀ : List ℕ) (l r : ℕ) (runs : List ℕ) : Type 0 where
   pub kept : length runs ≡ length runs₀
   pub read : (input : List ℕ) (rs : List (List ℕ)) → Loops grid input rs rings lengths → r ≡ length (flatten (take l rs))
-  pub told : (input : List ℕ) (rs : List (List ℕ)) → Loops grid input rs rings lengths → (j : ℕ) → j < l → (getD runs₀ j 0 ≡ 0 → ⊥) → getD runs j 0 ≡ ringRun grid (getD rs j [])
+  pub told : (input : List ℕ) (rs : List (List ℕ)) → Loops grid input rs rings lengths → (j : ℕ) → j < l → due j → getD runs j 0 ≡ ringRun grid (getD rs j [])
   pub later : (j : ℕ) → l ≤ j → getD runs j 0 ≡ getD runs₀ j 0
 
-module _ {grid : List ℤ} {rings lengths runs₀ : List ℕ} (room : MeasureRoom grid rings lengths runs₀) where
-  pub measured-begins : Measured grid rings lengths runs₀ 0 0 runs₀
+-- those for which there was a number
+abbrev pub Numbered : List ℕ → ℕ → Type 0
+Numbered runs₀ j = getD runs₀ j 0 ≡ 0 → ⊥
+
+-- or all
+abbrev pub Every : ℕ → Type 0
+Every j = Unit {0}
+
+module _ {due : ℕ → Type 0} {grid : List ℤ} {rings lengths runs₀ : List ℕ} (room : MeasureRoom grid rings lengths runs₀) where
+  pub measured-begins : Measured due grid rings lengths runs₀ 0 0 runs₀
   unfolding flatten
   measured-begins = record { kept = refl; read = λ input rs s. refl; told = λ input rs s j h f. absurd (omega arith); later = λ j h. refl }
 
-  module _ {l r : ℕ} {runs : List ℕ} (m : Measured grid rings lengths runs₀ l r runs) where
-    pub measured-ends : length lengths ≤ l → Measures grid rings lengths runs₀ runs
-    measured-ends h = record { told = λ input rs s j k f. m .told input rs s j (let a = as-many grid input rs rings lengths s in omega (arith, a)) f }
+  module _ {l r : ℕ} {runs : List ℕ} (m : Measured due grid rings lengths runs₀ l r runs) where
+    pub measured-ends : length lengths ≤ l → (input : List ℕ) (rs : List (List ℕ)) → Loops grid input rs rings lengths → (j : ℕ) → j < length rs → due j → getD runs j 0 ≡ ringRun grid (getD rs j [])
+    measured-ends h input rs s j k f = m .told input rs s j (let a = as-many grid input rs rings lengths s in omega (arith, a)) f
 
     module _ (h : l < length lengths) where
       pub places : RingPlace rings lengths l r
@@ -60,19 +68,19 @@ module _ {grid : List ℤ} {rings lengths runs₀ : List ℕ} (room : MeasureRoo
           let b : length (flatten (take (l + 1) rs)) ≡ length (flatten (take l rs)) + length (getD rs l []) = ap length (ring-next rs l k) ∙ length-append (flatten (take l rs)) (getD rs l []) in
           omega (arith, b, m .read input rs s, length-at grid input rs rings lengths s l k)
 
-      -- a loop for which there was no number is passed over
-      pub measured-skips : getD runs l 0 ≡ 0 → Measured grid rings lengths runs₀ (l + 1) (r + getD lengths l 0) runs
+      -- a loop that is not due is passed over
+      pub measured-skips : (due l → ⊥) → Measured due grid rings lengths runs₀ (l + 1) (r + getD lengths l 0) runs
       measured-skips z = record {
         kept = m .kept;
         read = read-more;
         told = λ input rs s j k f. ⊎-elim
-            (λ (q : j ≡ l). absurd (f (ap (λ (x : ℕ). getD runs₀ x 0) q ∙ sym (m .later l (omega arith)) ∙ z)))
+            (λ (q : j ≡ l). absurd (z (subst due q f)))
             (λ (q : j ≡ l → ⊥). m .told input rs s j (let y : j ≡ l → ⊥ = q in omega arith) f)
             (eq-or-not j l);
         later = λ j k. m .later j (omega arith);
       }
 
-      pub measured-more : {run : ℕ} → run ≡ ringRun grid part → Measured grid rings lengths runs₀ (l + 1) (r + getD lengths l 0) (set runs l run)
+      pub measured-more : {run : ℕ} → run ≡ ringRun grid part → Measured due grid rings lengths runs₀ (l + 1) (r + getD lengths l 0) (set runs l run)
       measured-more {run} e = record {
         kept = length-set runs l run ∙ m .kept;
         read = read-more;

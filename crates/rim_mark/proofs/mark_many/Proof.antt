@@ -10,7 +10,7 @@ mark-many-spec =
     tie.close
     (tie.spec
     (λ c. search needs)
-    (λ c κs. let s : tie.Start = search in (s .pre, runs-long (s .pre) (lit≤ tt)))
+    (λ c κs. let s : tie.Start = search in (s .pre, runs-long (s .pre .found) (lit≤ tt)))
     (λ c. search needs)
     (λ c. search needs)
     (λ c. search needs)

@@ -1,15 +1,16 @@
 -- `measure` adds up ring after ring.
+use mathlib.Core.Path.{sym, _∙_}
 use Prim.Native.Nat.{_-_}
 use lib.ListN.{length}
 use native.Mathlib.Omega.{arith}
 use borrow.Author.Needs.{needs}
 use Rattle.fill_scratch.specs.Workings.Rings.{RingPlace}
-use Rattle.rim_mark.proofs.Laws.Measuring.{Measured, measured-begins, measured-ends, places, run-in, ring-room, measured-skips, measured-more}
+use Rattle.rim_mark.proofs.Laws.Measuring.{Measured, Numbered, measured-begins, measured-ends, places, run-in, ring-room, measured-skips, measured-more}
 use Rattle.rim_mark.proofs.measure.Statement.{statement}
 use Rattle.rim_mark.proofs.measure.Tie as tie
 
 abbrev Inv-loop : tie.InvT-loop
-Inv-loop grid rings lengths runs₀ r₀ l₀ runs r l = Measured grid rings lengths runs₀ l r runs
+Inv-loop grid rings lengths runs₀ r₀ l₀ runs r l = Measured (Numbered runs₀) grid rings lengths runs₀ l r runs
 
 abbrev μ-loop : tie.MeasureT-loop
 μ-loop grid rings lengths runs₀ r₀ l₀ runs r l = length lengths - l
@@ -37,7 +38,8 @@ measure-spec =
     (λ c. let t : Turn = search in search (run-in, t .before .loop .inv, entry t .pre, t .loop-test))
     (λ c. search needs)
     (λ c. search needs)
-    (λ c. let t : Turn = search in measured-skips (entry t .pre) (t .before .loop .inv) (t .loop-test .taken) (c .if1 .taken))
+    (λ c. let t : Turn = search in
+    measured-skips (entry t .pre) (t .before .loop .inv) (t .loop-test .taken) (λ f. f (sym (t .before .loop .inv .later _ (omega arith)) ∙ c .if1 .taken)))
     (λ c. omega (arith, here (search)))
     (λ c. search needs)
     (λ c. search needs)
@@ -49,4 +51,4 @@ measure-spec =
     (λ c. search needs)
     (λ c. let t : Turn = search in search (measured-more, t .before .loop .inv, entry t .pre, t .loop-test, c .run-of))
     (λ c. c .before .loop .inv .kept)
-    (λ c. search measured-ends))
+    (λ c. let s : tie.Start Inv-loop μ-loop = search in record { told = measured-ends (s .pre) (c .before .loop .inv) (c .loop-test .left) }))

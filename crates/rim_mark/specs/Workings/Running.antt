@@ -43,3 +43,8 @@ pub record MeasureRoom (grid : List ℤ) (rings lengths runs : List ℕ) : Type 
 pub record Measures (grid : List ℤ) (rings lengths runs runs′ : List ℕ) : Type 0 where
   pub told : (input : List ℕ) (rs : List (List ℕ)) → Loops grid input rs rings lengths
       → (l : ℕ) → l < length rs → (getD runs l 0 ≡ 0 → ⊥) → getD runs′ l 0 ≡ ringRun grid (getD rs l [])
+
+-- the runs of all loops
+pub record MeasuresAll (grid : List ℤ) (rings lengths runs′ : List ℕ) : Type 0 where
+  pub told : (input : List ℕ) (rs : List (List ℕ)) → Loops grid input rs rings lengths
+      → (l : ℕ) → l < length rs → getD runs′ l 0 ≡ ringRun grid (getD rs l [])

@@ -20,7 +20,7 @@ use Rattle.survey_grid.specs.Grid.{gridOf}
 use Rattle.check_surface.specs.Workings.Checks.{Checked}
 use Rattle.survey_rules.specs.Outcome.{Buffers, Outcome, outcome, buffers, needs, lent, surveyOf}
 use Rattle.survey_rules.specs.declared.Surveyed.{Surveyed}
-use Rattle.survey_rules.proofs.Laws.Known.{Known, known, lentWith, needsWith}
+use Rattle.survey_rules.proofs.Laws.Known.{Suited, suited}
 
 -- a refusal as the code makes it
 abbrev pub Refuses : Surveyed → Answer → Type 0
@@ -49,11 +49,11 @@ module _ (p : Pitch) (words corners : List ℕ) (b : Buffers) (r : Surveyed) {a 
 
 -- what is known once nothing is refused
 pub passed-known : (p : Pitch) {words corners table : List ℕ} {grid : List ℤ} {rings lengths : List ℕ} {a : Answer} {t : Bool} → countRefusal (length words) (length corners) ≡ Done
-    → Checked (pitchOf p) words corners (lentWith grid rings lengths []) (needsWith words corners []) a table
-    → t ≡ refusing a → t ≡ false → Known (pitchOf p) words corners table grid rings lengths [] []
-passed-known p {words} {corners} {table} {grid} {rings} {lengths} {a} c k d e = known p words corners table grid rings lengths [] [] a c k (sym d ∙ e)
+    → Checked (pitchOf p) words corners (lent (buffers grid rings lengths)) (needs words corners) a table
+    → t ≡ refusing a → t ≡ false → Suited (pitchOf p) words corners table grid rings lengths
+passed-known p {words} {corners} {table} {grid} {rings} {lengths} {a} c k d e = suited p words corners table grid rings lengths a c k (sym d ∙ e)
 
-pub done-is : {pitch : ℕ} {words corners table : List ℕ} {grid : List ℤ} {rings lengths : List ℕ} → Known pitch words corners table grid rings lengths [] []
+pub done-is : {pitch : ℕ} {words corners table : List ℕ} {grid : List ℤ} {rings lengths : List ℕ} → Suited pitch words corners table grid rings lengths
     → {at : Listed} {firsts rings′ lengths′ firsts′ : List ℕ} {grid′ : List ℤ}
     → ListsLoops corners (loops corners) rings lengths firsts at rings′ lengths′ firsts′ → grid′ ≡ over (gridOf pitch words) grid
     → outcome (record { answer = Done; loops = at .loops; vertices = at .vertices }) (buffers grid′ rings′ lengths′) ≡ surveyOf pitch words corners (buffers grid rings lengths)

@@ -10,7 +10,7 @@ use Rattle.base_types.specs.Pitches.{pitchOf}
 use Rattle.surface_rules.specs.Refusals.{countRefusal}
 use Rattle.surface_rules.proofs.Laws.Thens.{counts-fit}
 use Rattle.surface_rules.proofs.Laws.Deciding.{counts-pass}
-use Rattle.survey_rules.proofs.Laws.Known.{Known, enough, grid-ready, ready}
+use Rattle.survey_rules.proofs.Laws.Known.{Suited, enough, ready}
 use Rattle.survey.proofs.Laws.Surveying.{counts-refuse, content-refuse, passed-known, done-is}
 use Rattle.survey.proofs.survey_at.Statement.{statement}
 use Rattle.survey.proofs.survey_at.Tie as tie
@@ -39,7 +39,7 @@ counts o = counts-pass _ _ _ (o .before .before .check-counts .ensures) (sym (o 
 
 -- what is known once nothing is refused
 known : (p : Passed) → let k = checked p in let s = entry (counted k) .args in
-    Known (pitchOf (s .pitch)) (s .words .now) (s .corners .now) (k .check .last .1 .1 .1 .1 .0) (s .grid .now) (s .rings .now) (s .lengths .now) [] []
+    Suited (pitchOf (s .pitch)) (s .words .now) (s .corners .now) (k .check .last .1 .1 .1 .1 .0) (s .grid .now) (s .rings .now) (s .lengths .now)
 known p = let k = checked p in passed-known (entry (counted k) .args .pitch) (counts (counted k)) (k .check .ensures) (p .before .refuses2 .ensures) (p .if2 .left)
 
 returns-2 : tie.Need-returns-2
@@ -63,10 +63,10 @@ survey-at-spec =
     (λ c κs. search needs)
     (λ c κs. search needs)
     returns-2
-    (λ c κs. grid-ready (known (search)))
+    (λ c κs. let k = known (search) in (k .known .on-grid, k .grid-long))
     (λ c. search needs)
     (λ c. search needs)
-    (λ c κs. let k = known (passed (search)) in ready k _ _ _ (le-trans (k .fits .few-corners) (search needs)) (k .rings-long) (k .lengths-long) (enough k (lit≤ tt)))
+    (λ c κs. let k = known (passed (search)) in ready (k .known) _ _ _ (le-trans (k .known .fits .few-corners) (search needs)) (k .rings-long) (k .lengths-long) (enough (k .known) (lit≤ tt)))
     (λ c. search needs)
     (λ c. search needs)
     (λ c. search needs)

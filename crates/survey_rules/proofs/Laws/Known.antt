@@ -1,8 +1,8 @@
--- What is known of a surface that no check refused: the same whoever lends the buffers 1 to 3, and whatever is lent besides.
+-- What is known of a surface that no check refused: the same whatever was lent.
 use mathlib.Core.Path.{_≡_, _∙_}
 use mathlib.Core.Bool.{false}
-use mathlib.Core.List.{List, _∷_}
-use Prim.Native.Nat.{ℕ, suc, _/_, _≤_, _<_}
+use mathlib.Core.List.{List}
+use Prim.Native.Nat.{ℕ, _/_, _≤_, _<_}
 use native.Mathlib.Omega.{arith}
 use lib.IntN.{ℤ}
 use lib.ListN.{length, getD}
@@ -21,51 +21,41 @@ use Rattle.loop_cut.specs.Listing.{ringsOf}
 use Rattle.loop_find.specs.Workings.Asked.{Ready, Lent}
 use Rattle.check_words.specs.Workings.OnGrid.{OnGrid}
 use Rattle.check_surface.specs.Workings.Checks.{Woven, Checked}
+use Rattle.survey_rules.specs.Outcome.{buffers, lent, needs}
 
--- how long the buffers 1 to 3 are, and then the others
-abbrev pub lentWith : List ℤ → List ℕ → List ℕ → List ℕ → List ℕ
-lentWith grid rings lengths others = length grid ∷ length rings ∷ length lengths ∷ others
-
--- and how long each need be
-abbrev pub needsWith : List ℕ → List ℕ → List ℕ → List ℕ
-needsWith words corners others = length words ∷ length corners ∷ length corners / 3 ∷ others
-
-pub record Known (pitch : ℕ) (words corners table : List ℕ) (grid : List ℤ) (rings lengths lent needs : List ℕ) : Type 0 where
-  pub none-refused : refusal pitch words corners (lentWith grid rings lengths lent) (needsWith words corners needs) ≡ Done
+pub record Known (pitch : ℕ) (words corners table : List ℕ) : Type 0 where
   pub fits : Fitting (length words) (length corners)
   pub woven : Woven corners (length words / 3) table
   pub on-grid : OnGrid pitch words
+
+-- the same where the buffers 1 to 3 are grid, rings and lengths, and of them
+pub record Suited (pitch : ℕ) (words corners table : List ℕ) (grid : List ℤ) (rings lengths : List ℕ) : Type 0 where
+  pub none-refused : refusal pitch words corners (lent (buffers grid rings lengths)) (needs words corners) ≡ Done
+  pub known : Known pitch words corners table
   pub grid-long : length words ≤ length grid
   pub rings-long : length corners ≤ length rings
   pub lengths-long : length corners / 3 ≤ length lengths
-  pub others-long : (i : ℕ) → i < length needs → getD needs i 0 ≤ getD lent i 0
 
-pub known : (p : Pitch) (words corners table : List ℕ) (grid : List ℤ) (rings lengths lent needs : List ℕ) (a : Answer) → countRefusal (length words) (length corners) ≡ Done
-    → Checked (pitchOf p) words corners (lentWith grid rings lengths lent) (needsWith words corners needs) a table → refusing a ≡ false → Known (pitchOf p) words corners table grid rings lengths lent needs
-known p words corners table grid rings lengths lent needs a c k f =
-    let l = lentWith grid rings lengths lent in
-    let n = needsWith words corners needs in
+pub suited : (p : Pitch) (words corners table : List ℕ) (grid : List ℤ) (rings lengths : List ℕ) (a : Answer) → countRefusal (length words) (length corners) ≡ Done
+    → Checked (pitchOf p) words corners (lent (buffers grid rings lengths)) (needs words corners) a table → refusing a ≡ false → Suited (pitchOf p) words corners table grid rings lengths
+suited p words corners table grid rings lengths a c k f =
+    let l = lent (buffers grid rings lengths) in
+    let n = needs words corners in
     let d : a ≡ Done = content-pass (pitchOf p) words corners l n a (k .said) f in
     let s = k .passed d in
     record {
       none-refused = content-decides p words corners l n c a (k .said) ∙ d;
-      fits = counts-fit (length words) (length corners) c;
-      woven = s .woven;
-      on-grid = s .on-grid;
+      known = record { fits = counts-fit (length words) (length corners) c; woven = s .woven; on-grid = s .on-grid };
       grid-long = s .long 0 (omega arith);
       rings-long = s .long 1 (omega arith);
       lengths-long = s .long 2 (omega arith);
-      others-long = λ i h. s .long (suc (suc (suc i))) (omega arith);
     }
 
 -- what is long enough stays so where its length is kept
 pub still-long : {n before now : ℕ} → n ≤ before → now ≡ before → n ≤ now
 still-long h e = omega arith
 
-module _ {pitch : ℕ} {words corners table : List ℕ} {grid : List ℤ} {rings lengths lent needs : List ℕ} (k : Known pitch words corners table grid rings lengths lent needs) where
-  pub grid-ready : OnGrid pitch words × (length words ≤ length grid)
-  grid-ready = (k .on-grid, k .grid-long)
-
+module _ {pitch : ℕ} {words corners table : List ℕ} (k : Known pitch words corners table) where
   -- every corner is below the greatest count of points
   pub corner-inside : (i : ℕ) → i < length corners → getD corners i 0 < limits.points
   corner-inside i h = omega (arith, k .woven .named i h, k .fits .few-words)

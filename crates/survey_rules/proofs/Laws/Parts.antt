@@ -49,8 +49,8 @@ module _ {corners : List ℕ} {ls : List (List ℕ)} {rings lengths firsts : Lis
   }
 
   -- what holds of the grid, the rings and the lengths holds of these parts
-  pub of-parts : (pitch : ℕ) (words : List ℕ) (grid grid′ : List ℤ) → grid′ ≡ over (gridOf pitch words) grid → (P : List ℤ → List ℕ → List ℕ → Type 0)
-      → P (gridOf pitch words) (ringsOf corners ls) (map length ls) → P (take (length words) grid′) (take (at .vertices) rings′) (take (at .loops) lengths′)
-  of-parts pitch words grid grid′ e P h =
-      subst (λ (g : List ℤ). P g (take (at .vertices) rings′) (take (at .loops) lengths′)) (sym (grid-part pitch words grid grid′ e))
+  pub of-parts : (pitch : ℕ) (words : List ℕ) (g : List ℤ) → g ≡ gridOf pitch words → (P : List ℤ → List ℕ → List ℕ → Type 0)
+      → P (gridOf pitch words) (ringsOf corners ls) (map length ls) → P g (take (at .vertices) rings′) (take (at .loops) lengths′)
+  of-parts pitch words g e P h =
+      subst (λ (x : List ℤ). P x (take (at .vertices) rings′) (take (at .loops) lengths′)) (sym e)
       (subst (λ (r : List ℕ). P (gridOf pitch words) r (take (at .loops) lengths′)) (sym rings-part) (subst (P (gridOf pitch words) (ringsOf corners ls)) (sym lengths-part) h))

@@ -15,6 +15,4 @@ wazelpunt-patch-spec =
     (λ c. search needs)
     (λ c. search needs)
     (λ c. search needs)
-    (λ c. search needs)
-    (λ c. search needs)
     (λ c. search told-patch))

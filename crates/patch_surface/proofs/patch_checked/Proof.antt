@@ -1,0 +1,133 @@
+-- `patch_checked` lists the loops, marks the rims, runs the course and lays the records.
+use mathlib.Core.Path.{_∙_}
+use native.Mathlib.Omega.{arith}
+use borrow.Author.Needs.{needs}
+use Rattle.surface_rules.proofs.Laws.Lists.{as-long}
+use Rattle.survey_rules.proofs.Laws.Parts.{rings-in, lengths-in}
+use Rattle.patch_surface.proofs.Laws.Patching.{list-room, mark-room, weigh-room, lay-room, completes}
+use Rattle.patch_surface.proofs.patch_checked.Statement.{statement}
+use Rattle.patch_surface.proofs.patch_checked.Tie as tie
+
+-- the places on the way back, by their types: each call, what it gave back, and the function's entry
+abbrev entry : tie.After-list-with → tie.Start
+entry l = search
+
+abbrev turned : tie.After-path → tie.After-turns
+turned p = search
+
+abbrev walked : tie.After-places → tie.After-path
+walked p = search
+
+abbrev placed : tie.After-rings → tie.After-places
+placed r = search
+
+abbrev ringed : tie.After-lengths → tie.After-rings
+ringed r = search
+
+abbrev measured : tie.After-firsts → tie.After-lengths
+measured r = search
+
+abbrev firsts-of : tie.After-mark-all → tie.After-firsts
+firsts-of m = search
+
+abbrev listed : tie.After-turns → tie.After-list-with
+listed t = search
+
+-- the loops, from where they were all handed back
+abbrev loops-of : tie.After-firsts → tie.After-list-with
+loops-of f = listed (turned (walked (placed (ringed (measured f)))))
+
+abbrev marked : tie.After-path2 → tie.After-mark-all
+marked p = search
+
+abbrev queued : tie.After-places2 → tie.After-path2
+queued p = search
+
+abbrev housed : tie.After-runs → tie.After-places2
+housed r = search
+
+abbrev run-of : tie.After-states → tie.After-runs
+run-of s = search
+
+abbrev states-of : tie.After-run-course → tie.After-states
+states-of c = search
+
+abbrev marks-of : tie.After-states → tie.After-mark-all
+marks-of s = marked (queued (housed (run-of s)))
+
+abbrev ran : tie.After-states2 → tie.After-run-course
+ran s = search
+
+abbrev recorded : tie.After-records → tie.After-states2
+recorded r = search
+
+abbrev patched : tie.After-patches → tie.After-records
+patched p = search
+
+abbrev linked : tie.After-turns2 → tie.After-patches
+linked t = search
+
+abbrev ended : tie.After-path3 → tie.After-turns2
+ended p = search
+
+abbrev path-of : tie.After-lay → tie.After-path3
+path-of l = search
+
+abbrev course-of : tie.After-path3 → tie.After-run-course
+course-of p = ran (recorded (patched (linked (ended p))))
+
+pub patch-checked-spec : {M : Type 1} → statement M
+patch-checked-spec =
+    tie.close
+    (tie.spec
+    (λ c κs. let s : tie.Start = search in list-room (s .pre .0 .checked) (s .pre .0 .roomy) (s .pre .1))
+    (λ c. let f : tie.After-firsts = search in rings-in (loops-of f .list-with .ensures .0))
+    (λ c. let f : tie.After-firsts = search in as-long _ _ (rings-in (loops-of f .list-with .ensures .0)))
+    (λ c. let f : tie.After-firsts = search in lengths-in (loops-of f .list-with .ensures .0))
+    (λ c. let f : tie.After-firsts = search in as-long _ _ (lengths-in (loops-of f .list-with .ensures .0)))
+    (λ c κs.
+    let f : tie.After-firsts = search in let l = loops-of f in let s = entry l in
+    let p = walked (placed (ringed (measured f))) in
+    mark-room (s .pre .0 .checked) (s .pre .0 .roomy) (s .pre .1) (l .list-with .ensures .0) (l .list-with .ensures .1) (turned p .turns .given) (p .path .given) (placed (ringed (measured f)) .places .given))
+    (λ c. let a : tie.After-states = search in rings-in (loops-of (firsts-of (marks-of a)) .list-with .ensures .0))
+    (λ c. let a : tie.After-states = search in as-long _ _ (rings-in (loops-of (firsts-of (marks-of a)) .list-with .ensures .0)))
+    (λ c. let a : tie.After-states = search in lengths-in (loops-of (firsts-of (marks-of a)) .list-with .ensures .0))
+    (λ c. let a : tie.After-states = search in as-long _ _ (lengths-in (loops-of (firsts-of (marks-of a)) .list-with .ensures .0)))
+    (λ c κs.
+    let a : tie.After-states = search in let m = marks-of a in let f = firsts-of m in let l = loops-of f in let s = entry l in
+    let p = walked (placed (ringed (measured f))) in
+    let b = s .pre .1 in (
+      weigh-room (s .pre .0 .checked) (s .pre .0 .roomy) b (l .list-with .ensures .0) (m .mark-all .ensures),
+      record {
+        links-long = let t = b .turns-long in omega (arith, turned p .turns .given);
+        ends-long = let t = b .path-long in omega (arith, queued (housed (run-of a)) .path2 .given, p .path .given);
+      },
+    ))
+    (λ c. let p : tie.After-path3 = search in lengths-in (loops-of (firsts-of (marks-of (states-of (course-of p)))) .list-with .ensures .0))
+    (λ c. let p : tie.After-path3 = search in as-long _ _ (lengths-in (loops-of (firsts-of (marks-of (states-of (course-of p)))) .list-with .ensures .0)))
+    (λ c κs.
+    let p : tie.After-path3 = search in
+    let r = course-of p in let a = states-of r in let m = marks-of a in let f = firsts-of m in let l = loops-of f in let s = entry l in
+    let h = housed (run-of a) in
+    lay-room (s .pre .0 .checked) (s .pre .0 .roomy) (s .pre .1) (l .list-with .ensures .0) (m .mark-all .ensures) (r .run-course .ensures)
+    (recorded (patched (linked (ended p))) .states2 .given ∙ a .states .given) (f .firsts .given) (h .places2 .given ∙ placed (ringed (measured f)) .places .given) (run-of a .runs .given))
+    (λ c.
+    let p = path-of (search) in let f = firsts-of (marks-of (states-of (course-of p))) in
+    ended p .turns2 .given ∙ turned (walked (placed (ringed (measured f)))) .turns .given)
+    (λ c.
+    let p = path-of (search) in let a = states-of (course-of p) in let f = firsts-of (marks-of a) in
+    p .path3 .given ∙ queued (housed (run-of a)) .path2 .given ∙ walked (placed (ringed (measured f))) .path .given)
+    (λ c.
+    let p = path-of (search) in let a = states-of (course-of p) in let f = firsts-of (marks-of a) in
+    housed (run-of a) .places2 .given ∙ placed (ringed (measured f)) .places .given)
+    (λ c. measured (firsts-of (marks-of (states-of (course-of (path-of (search)))))) .lengths .given)
+    (λ c. search needs)
+    (λ c. firsts-of (marks-of (states-of (course-of (path-of (search))))) .firsts .given)
+    (λ c. search needs)
+    (λ c. ringed (measured (firsts-of (marks-of (states-of (course-of (path-of (search))))))) .rings .given)
+    (λ c. search needs)
+    (λ c. search needs)
+    (λ c pitch words checked before.
+    let y : tie.After-lay = search in
+    let p = path-of y in let r = course-of p in let a = states-of r in let m = marks-of a in let f = firsts-of m in let l = loops-of f in let s = entry l in
+    completes checked (s .pre .0 .roomy) (s .pre .1) (l .list-with .ensures .0) (m .mark-all .ensures) (r .run-course .ensures) (y .lay .ensures) before))
