@@ -29,14 +29,14 @@
    - Memory: nothing is allocated, and no file, signal, environment or locale is touched. Besides what is lent each function needs
      so many bytes of stack, measured at most, on full sheets and made cases:
 
-         wazelpunt_coordinate       56        wazelpunt_read        21,032        wazelpunt_list_text     181,424
-         wazelpunt_survey       37,272        wazelpunt_read_set    20,808        wazelpunt_judge_texts   176,080
-         wazelpunt_patch       113,840        wazelpunt_write        4,936        wazelpunt_rewrite_text   39,496
+         wazelpunt_coordinate       56        wazelpunt_read        21,032        wazelpunt_list_text     216,080
+         wazelpunt_survey       37,272        wazelpunt_read_set    20,808        wazelpunt_judge_texts   176,000
+         wazelpunt_patch       115,728        wazelpunt_write        4,936        wazelpunt_rewrite_text   39,496
          wazelpunt_judge       116,608        wazelpunt_read_stl    22,984        wazelpunt_import_stl     41,448
          wazelpunt_facet            24        wazelpunt_size_stl         8
 
-     Where no hole has 17 to 64 edges, wazelpunt_patch needs 48,264 of them, wazelpunt_judge 58,392,
-     wazelpunt_list_text 115,848 and wazelpunt_judge_texts 117,864: the table of the covers is as long as the longest hole asks for.
+     Where no hole has 17 to 64 edges, wazelpunt_patch needs 57,976 of them, wazelpunt_judge 62,520,
+     wazelpunt_list_text 158,328 and wazelpunt_judge_texts 121,912: the table of the covers is as long as the longest hole asks for.
 
    - Floats: the promises hold where the calling thread computes with floats as a program does that changed nothing: rounding to the
      nearest, a tie to the even one; denormal numbers kept, neither flushed to zero where they come out nor taken for zero where they go
