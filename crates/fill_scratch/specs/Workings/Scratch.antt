@@ -1,4 +1,4 @@
--- What the patcher and the checker work with besides the lent buffers.
+-- What the checker works with besides the lent buffers, and how many points and corners are few, for the patcher too.
 use mathlib.Core.Path.{_≡_}
 use mathlib.Core.List.{List}
 use Prim.Native.Nat.{ℕ, _*_, _/_, _≤_}
