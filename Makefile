@@ -1,6 +1,6 @@
-# make            what is installed: the front, the shared library, the four programs; proved, compiled and linked by front/build
+# make            what is installed: the front, the shared library, the five programs; proved, compiled and linked by front/build
 # make front      target/front/wazelpunt alone          make shared    target/front/libwazelpunt.so, with its links
-# make archive    target/staticlib/libwazelpunt.a       make programs  target/bin/{listing,judging,rewriting,importing}
+# make archive    target/staticlib/libwazelpunt.a       make programs  target/bin/{listing,judging,rewriting,importing,charting}
 # make install    puts it all below PREFIX (/usr/local); DESTDIR, if given, stands before every path
 # make uninstall  takes it away from there again        make clean     removes target/front; what is proved stays
 # CC, CFLAGS and LDFLAGS go to the compiler. GNU make.
@@ -17,7 +17,7 @@ VERSION := $(shell sed -n 's/^.define WAZELPUNT_VERSION "\([0-9][0-9.]*\)".*/\1/
 SONAME = libwazelpunt.so.$(firstword $(subst ., ,$(VERSION)))
 SHARED = libwazelpunt.so.$(VERSION)
 # The programs' own names would be too general among all commands of a machine.
-PROGRAMS = listing judging rewriting importing
+PROGRAMS = listing judging rewriting importing charting
 
 # A path as sed takes it for what it puts in.
 quoted = $(subst |,\|,$(subst &,\&,$(subst \,\\,$(1))))

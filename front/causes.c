@@ -287,13 +287,18 @@ static bool is_sheet(const struct wrong *wrong)
     if (wrong->text->kind == SET) {
         return tell_kind(wrong, "a sheet");
     }
-    phrase_add(wrong->cause, "this begins as the text of a sheet does: texts are for list, check, draw and rewrite");
+    phrase_add(wrong->cause, "this begins as the text of a sheet does: texts are for list, report, check, draw and rewrite");
     return true;
 }
 
 static bool is_set(const struct wrong *wrong)
 {
     return wrong->text->kind != SET && is_first_of_text(wrong) && TEXT_BEGINS(wrong, "states=") && tell_kind(wrong, "a set");
+}
+
+static bool is_report(const struct wrong *wrong)
+{
+    return is_first_of_text(wrong) && TEXT_BEGINS(wrong, "answer=0,0\nentries=") && tell_kind(wrong, "a report");
 }
 
 static bool is_listing(const struct wrong *wrong)
@@ -605,6 +610,7 @@ static bool (*const kinds[])(const struct wrong *wrong) = {
     is_obj,
     is_sheet,
     is_set,
+    is_report,
     is_listing,
     NULL,
 };

@@ -11,9 +11,19 @@ struct answer desk_read(const struct text *sheet, struct desk *desk)
     return answer;
 }
 
+/* The records of all loops as the library leaves them. */
+static uint64_t records[RECORDS];
+
+static void enter_records(struct loops *loops)
+{
+    for (size_t loop = 0; loop < loops->count; loop++) {
+        struct wazelpunt_record record = wazelpunt_record_at(records, RECORDS, loop);
+        record_enter(loops, loop, &record);
+    }
+}
+
 struct answer desk_patch(const struct text *sheet, struct desk *desk)
 {
-    static uint64_t records[RECORDS];
     struct answer answer = desk_read(sheet, desk);
     struct loops *loops = &desk->loops;
     loops->count = loops->vertices = loops->laid = 0;
@@ -23,10 +33,22 @@ struct answer desk_patch(const struct text *sheet, struct desk *desk)
                                         WAZELPUNT_SET_CORNERS, &answer.place, &loops->count, &loops->vertices, &loops->laid,
                                         desk->pitch);
     }
-    for (size_t loop = 0; loop < loops->count; loop++) {
-        struct wazelpunt_record record = wazelpunt_record_at(records, RECORDS, loop);
-        record_enter(loops, loop, &record);
+    enter_records(loops);
+    return answer;
+}
+
+struct answer desk_chart(const struct text *sheet, struct desk *desk)
+{
+    struct answer answer = desk_read(sheet, desk);
+    struct loops *loops = &desk->loops;
+    struct report *report = &desk->report;
+    loops->count = loops->vertices = loops->laid = report->entries = 0;
+    if (answer.number == WAZELPUNT_DONE) {
+        answer.number = wazelpunt_chart(desk->words, desk->word_count, desk->corners, desk->corner_count, desk->grid, WAZELPUNT_WORDS,
+                                        loops->rings, WAZELPUNT_CORNERS, records, RECORDS, report->numbers, WAZELPUNT_REPORT,
+                                        &answer.place, &loops->count, &loops->vertices, &report->entries, desk->pitch);
     }
+    enter_records(loops);
     return answer;
 }
 

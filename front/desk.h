@@ -1,9 +1,11 @@
-/* A sheet and a set as the library reads, patches and judges them, for what is not printed: pictures, explanations, summaries. */
+/* A sheet and a set as the library reads, patches, charts and judges them, for what it does not print itself: reports in words, pictures,
+   explanations, summaries. */
 #ifndef DESK_H
 #define DESK_H
 
 #include "input.h"
 #include "listing.h"
+#include "report.h"
 
 struct desk {
     uint32_t words[WAZELPUNT_WORDS];
@@ -13,6 +15,7 @@ struct desk {
     uint32_t pitch;         /* as the text says it */
     int32_t grid[WAZELPUNT_WORDS];
     struct loops loops;
+    struct report report;   /* where the sheet was charted */
 };
 
 struct set {
@@ -24,6 +27,9 @@ struct set {
 
 /* Reads a sheet and patches it. */
 struct answer desk_patch(const struct text *sheet, struct desk *desk);
+
+/* Reads a sheet and charts it: the loops are there as after patching, but for the triangles that are laid. */
+struct answer desk_chart(const struct text *sheet, struct desk *desk);
 
 /* Reads a sheet alone. */
 struct answer desk_read(const struct text *sheet, struct desk *desk);

@@ -11,6 +11,7 @@
 #include "draw_rings.h"
 #include "listing.h"
 #include "output.h"
+#include "report.h"
 
 /* The picture's own width is never more than this. */
 enum { WIDEST = 2 * PANEL_WIDTH };
@@ -44,18 +45,32 @@ static void put_entry(const char *swatch, const char *text)
     legend_at.x += width + 160;
 }
 
+/* What kinds of loops there are. The line of a swatch is grey, since its colour goes by the state. */
+static void put_kind_entry(const struct drawn *sheet, uint16_t kind)
+{
+    static const char *const swatches[] = {
+        [WAZELPUNT_ENTRY_RIM] = "<path class=\"rim seen\" d=\"M0-4.5h24\"/>",
+        [WAZELPUNT_ENTRY_POOL] = "<path class=\"any seen\" d=\"M0-4.5h24\"/><path class=\"diamond\" d=\"M8-4.5l4-4l4 4l-4 4z\"/>",
+        [WAZELPUNT_ENTRY_LAKE] = "<g class=\"lake\"><path class=\"any seen\" d=\"M0-4.5h24\"/><path class=\"core\" d=\"M0-4.5h24\"/></g>",
+    };
+    size_t count = count_state(sheet->kinds, sheet->loops, kind);
+    char text[96];
+    snprintf(text, sizeof text, "%zu %s%s", count, kind_name(kind), count == 1 ? "" : "s");
+    if (count > 0) {
+        put_entry(swatches[kind], text);
+    }
+}
+
 static void put_state_entry(const struct drawn *sheet, uint16_t state)
 {
     static const char *const swatches[] = {
         "", "<path class=\"p10\" d=\"M1 0l11-9 11 9z\"/><path class=\"patched seen\" d=\"M1 0l11-9 11 9z\"/>",
         "<path fill=\"url(#long)\" class=\"hatch\" d=\"M0-9h24v9h-24z\"/><path class=\"long seen\" d=\"M0-4.5h24\"/>",
-        "<path fill=\"url(#open)\" class=\"hatch\" d=\"M0-9h24v9h-24z\"/><path class=\"open seen\" d=\"M0-4.5h24\"/>",
-        "<path class=\"rim seen\" d=\"M0-4.5h24\"/>"};
-    static const char *const more[] = {"", "", ", LEFT OPEN", " (no allowed cover), LEFT OPEN", ""};
+        "<path fill=\"url(#open)\" class=\"hatch\" d=\"M0-9h24v9h-24z\"/><path class=\"open seen\" d=\"M0-4.5h24\"/>"};
+    static const char *const more[] = {"", "", ", LEFT OPEN", " (no allowed cover), LEFT OPEN"};
     size_t count = count_state(sheet->states, sheet->loops, state), laid = sheet->laid / 3;
     char text[96];
-    int length = snprintf(text, sizeof text, "%zu %s%s%s", count, state_name(state), more[state],
-                          state == WAZELPUNT_RIM && count > 1 ? "s" : "");
+    int length = snprintf(text, sizeof text, "%zu %s%s", count, state_name(state), more[state]);
     if (state == WAZELPUNT_PATCHED) {
         snprintf(text + length, sizeof text - (size_t)length, " with %zu %s", laid, laid == 1 ? "triangle" : "triangles");
     }
@@ -64,15 +79,18 @@ static void put_state_entry(const struct drawn *sheet, uint16_t state)
     }
 }
 
-/* What the colours mean, as far as they occur, the pitch where it is not 1, and what was left out. */
+/* What the lines, signs and colours mean, as far as they occur, the pitch where it is not 1, and what was left out. */
 static void put_legend(const struct drawn *sheet, bool hides, size_t without)
 {
     char text[96];
     legend_at.x = 240;
     legend_at.y = 4960;
     output("<g class=\"legend\">\n");
-    for (size_t i = 0; i < STATE_COUNT; i++) {
-        put_state_entry(sheet, state_order[i]);
+    for (uint16_t kind = WAZELPUNT_ENTRY_RIM; kind <= WAZELPUNT_ENTRY_LAKE; kind++) {
+        put_kind_entry(sheet, kind);
+    }
+    for (uint16_t state = WAZELPUNT_PATCHED; state <= WAZELPUNT_OPEN; state++) {
+        put_state_entry(sheet, state);
     }
     if (sheet->loops == 0) {
         put_entry("", no_loops(sheet->triangles > 0));
@@ -192,7 +210,7 @@ void draw_sheet(const struct drawn *sheet)
     put_view(&view);
     put_faces(sheet, plan);
     put_points(sheet, view.sizes[0] + view.sizes[1] + view.sizes[2] == 0);
-    bool hides = put_loops(sheet);
+    bool hides = put_loops(sheet, marked);
     if (marked) {
         put_marks(sheet);
     }
@@ -262,6 +280,14 @@ static void put_style(void)
            ".long{stroke:#c25700;stroke-width:2.6;stroke-dasharray:14 4}\n"
            ".open{stroke:#c4001d;stroke-width:3.4;stroke-dasharray:6 3}\n"
            ".casing{stroke:#fff;stroke-width:5.6;stroke-dasharray:none}\n"
+           ".any{stroke:#555;stroke-width:1.4}\n"
+           ".lake .seen{stroke-width:3}\n"
+           ".lake.long .seen{stroke-width:4.2}\n"
+           ".lake.open .seen{stroke-width:4.8}\n"
+           ".lake .casing{stroke-width:7}\n"
+           ".core{fill:none;stroke:#9cf;stroke-width:1.1}\n"
+           ".diamond{fill:#7b1fa2;stroke:#fff;stroke-width:.8;stroke-dasharray:none}\n"
+           ".hollow{fill:none;stroke:#7b1fa2}\n"
            ".hidden{stroke-width:1.3;stroke-dasharray:.1 3;stroke-linecap:round}\n"
            ".faint{stroke:#666;stroke-width:.9}\n"
            ".bold{stroke-width:2.4;stroke-dasharray:.1 4}\n"

@@ -16,6 +16,7 @@ struct drawn {
     const uint16_t *rings;     /* the vertices of all rings, loop after loop */
     const uint16_t *lengths;   /* of the rings */
     const uint16_t *states;    /* of the loops */
+    const uint16_t *kinds;     /* of the loops: enum wazelpunt_kind */
     const uint16_t *firsts;    /* the half-edges that the loops begin with, each from the first vertex of its ring to the second */
     const uint16_t *pieces;    /* that the loops lie in */
     const uint64_t *runs;      /* of the loops */

@@ -224,6 +224,7 @@ static struct spot spot_on(const struct face *face, const int64_t sixths[3])
     return (struct spot){sum.x / 6, sum.up / 6, sum.near / 6};
 }
 
+/* Whether a spot lies behind another face than this one. */
 static bool is_behind(const struct face *face, struct spot at)
 {
     for (size_t i = 0; i < face_count; i++) {
@@ -232,6 +233,11 @@ static bool is_behind(const struct face *face, struct spot at)
         }
     }
     return false;
+}
+
+bool is_point_hidden(uint16_t point)
+{
+    return is_behind(NULL, spots[point]);
 }
 
 /* Whether a face is seen at one of ten spots, spread over it. */

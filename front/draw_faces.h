@@ -24,6 +24,9 @@ void put_faces(const struct drawn *sheet, bool plan);
 /* Whether the back side of some triangle of the sheet is seen, as far as ten spots on each tell. */
 bool is_back_seen(void);
 
+/* Whether a point of the sheet is hidden by a triangle. */
+bool is_point_hidden(uint16_t point);
+
 /* Finds the pieces of an edge that are hidden by triangles, in order and apart; gives how many there are. What is shorter than a pixel does
    not count. They stay until the next call. */
 size_t find_hidden(uint16_t from, uint16_t to, const struct piece **pieces);

@@ -15,6 +15,10 @@ enum { CROWD = 60 };
 static struct box loop_boxes[WAZELPUNT_TRIANGLES], taken[WAZELPUNT_TRIANGLES];
 static size_t taken_count;
 
+/* The diamonds of tide pools, which no label may lie on. */
+static struct box diamonds[WAZELPUNT_CORNERS];
+static size_t diamond_count;
+
 /* Whether it is marked where loops begin; and if so the lines that no label may lie on: the marks, and the stems of labels. */
 static bool marked;
 static struct {
@@ -56,6 +60,19 @@ static void set_loop_boxes(const struct drawn *sheet)
             box.bottom = greater(box.bottom, dots[ring[j]].y);
         }
         loop_boxes[i] = box;
+    }
+}
+
+static void set_diamonds(const struct drawn *sheet)
+{
+    static uint16_t points[WAZELPUNT_CORNERS];
+    int64_t size = 2 * diamond_size(marked);
+    diamond_count = 0;
+    for (size_t i = 0; i < sheet->loops; i++) {
+        size_t count = find_meetings(sheet, i, points);
+        for (size_t j = 0; j < count; j++) {
+            diamonds[diamond_count++] = box_about(dots[points[j]].x, dots[points[j]].y, size, size);
+        }
     }
 }
 
@@ -117,8 +134,8 @@ static bool is_on_line(const struct box *box, int64_t apart)
     return false;
 }
 
-/* Whether a label may stand there: within the panel, so far from all other labels, on none of the lines, and on no loop but its own and
-   rims. */
+/* Whether a label may stand there: within the panel, so far from all other labels, on no diamond and none of the lines, and on no loop but
+   its own and rims. */
 static bool is_free(const struct drawn *sheet, const struct label *label, const struct box *box, int64_t apart)
 {
     struct box room = {box->left - apart, box->top - apart / 2, box->right + apart, box->bottom + apart / 2};
@@ -127,6 +144,11 @@ static bool is_free(const struct drawn *sheet, const struct label *label, const 
     }
     for (size_t i = 0; i < taken_count; i++) {
         if (overlap(&room, &taken[i])) {
+            return false;
+        }
+    }
+    for (size_t i = 0; i < diamond_count; i++) {
+        if (overlap(box, &diamonds[i])) {
             return false;
         }
     }
@@ -158,7 +180,7 @@ static bool find_beside(const struct drawn *sheet, const struct label *label, co
     return false;
 }
 
-/* The lowest vertex of a ring on the paper, the leftmost of several. */
+/* The lowest vertex of a ring on the paper, the leftmost of several, with its diamond, if it has one. */
 static struct box lowest_of(const struct label *label)
 {
     struct dot low = dots[label->ring[0]];
@@ -169,6 +191,10 @@ static struct box lowest_of(const struct label *label)
         }
     }
     struct box box = {low.x, low.y, low.x, low.y};
+    for (size_t i = 0; i < diamond_count; i++) {
+        bool is_there = diamonds[i].left + diamonds[i].right == 2 * low.x && diamonds[i].top + diamonds[i].bottom == 2 * low.y;
+        box = is_there ? diamonds[i] : box;
+    }
     return box;
 }
 
@@ -330,6 +356,7 @@ size_t put_all_numbers(const struct drawn *sheet, bool marks)
     marked = marks;
     taken_count = line_count = 0;
     set_loop_boxes(sheet);
+    set_diamonds(sheet);
     for (size_t i = 0; i < sheet->loops; i++) {
         struct mark mark = mark_of(sheet, i);
         add_line(mark.from, mark.to);

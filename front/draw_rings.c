@@ -4,6 +4,7 @@
 #include "draw_faces.h"
 #include "listing.h"
 #include "output.h"
+#include "report.h"
 
 const uint16_t state_order[STATE_COUNT] = {WAZELPUNT_RIM, WAZELPUNT_PATCHED, WAZELPUNT_LONG, WAZELPUNT_OPEN};
 
@@ -61,16 +62,81 @@ static bool put_trace(const uint16_t *ring, size_t length, size_t edges, const c
     return trace.begun;
 }
 
+static const uint16_t *ring_in(const struct drawn *sheet, size_t loop)
+{
+    const uint16_t *ring = sheet->rings;
+    for (size_t before = 0; before < loop; before++) {
+        ring += sheet->lengths[before];
+    }
+    return ring;
+}
+
+/* The rim of a piece; how many loops there are, if it has none. */
+static size_t rim_of(const struct drawn *sheet, size_t piece)
+{
+    size_t rim = 0;
+    while (rim < sheet->loops && (sheet->kinds[rim] != WAZELPUNT_ENTRY_RIM || sheet->pieces[rim] != piece)) {
+        rim++;
+    }
+    return rim;
+}
+
+size_t find_meetings(const struct drawn *sheet, size_t loop, uint16_t *points)
+{
+    size_t found = 0, rim = rim_of(sheet, sheet->pieces[loop]);
+    if (sheet->kinds[loop] != WAZELPUNT_ENTRY_POOL || rim == sheet->loops) {
+        return 0;
+    }
+    const uint16_t *ring = ring_in(sheet, loop), *rim_ring = ring_in(sheet, rim);
+    for (size_t i = 0; i < sheet->lengths[loop]; i++) {
+        size_t j = 0;
+        while (j < sheet->lengths[rim] && rim_ring[j] != ring[i]) {
+            j++;
+        }
+        if (j < sheet->lengths[rim]) {
+            points[found++] = ring[i];
+        }
+    }
+    return found;
+}
+
+static void put_diamonds(const struct drawn *sheet, size_t loop, int64_t size)
+{
+    static uint16_t points[WAZELPUNT_CORNERS];
+    size_t count = find_meetings(sheet, loop, points);
+    for (size_t i = 0; i < count; i++) {
+        struct dot at = dots[points[i]], left = {at.x - size, at.y}, top = {at.x, at.y - size};
+        struct dot right = {at.x + size, at.y}, bottom = {at.x, at.y + size};
+        output("<path class=\"diamond%s\" d=\"", is_point_hidden(points[i]) ? " hollow" : "");
+        put_move(left);
+        put_line(left, top);
+        put_line(top, right);
+        put_line(right, bottom);
+        output("z\"/>\n");
+    }
+}
+
 /* How the hidden part of a loop is drawn: one that is left open has to be found. */
 static const char *hidden_class(uint16_t state)
 {
     return stays_open(state) ? "hidden bold" : state == WAZELPUNT_RIM ? "hidden faint" : "hidden";
 }
 
-/* Gives whether some of the loop is hidden. */
-static bool put_loop(const uint16_t *ring, size_t length, uint16_t state, size_t number)
+/* The group of a loop: its classes are its state and, where it is no rim, its kind. */
+static void begin_loop(uint16_t state, uint16_t kind, size_t number, size_t length)
 {
-    output("<g class=\"loop %s\"><title>loop %zu: %s, %zu edges</title>\n", state_name(state), number, state_name(state), length);
+    const char *class = kind == WAZELPUNT_ENTRY_POOL ? " pool" : kind == WAZELPUNT_ENTRY_LAKE ? " lake" : "";
+    bool is_rim = kind == WAZELPUNT_ENTRY_RIM;
+    output("<g class=\"loop %s%s\"><title>loop %zu: %s", state_name(state), class, number, kind_name(kind));
+    output("%s%s, %zu edges</title>\n", is_rim ? "" : ", ", is_rim ? "" : state_name(state), length);
+}
+
+/* Gives whether some of the loop is hidden. */
+static bool put_loop(const struct drawn *sheet, size_t number, const uint16_t *ring, bool marks)
+{
+    uint16_t state = sheet->states[number], kind = sheet->kinds[number];
+    size_t length = sheet->lengths[number];
+    begin_loop(state, kind, number, length);
     if (stays_open(state)) {
         output("<path class=\"hatch\" fill=\"url(#%s)\" d=\"", state_name(state));
         put_move(dots[ring[0]]);
@@ -81,19 +147,23 @@ static bool put_loop(const uint16_t *ring, size_t length, uint16_t state, size_t
         put_trace(ring, length, length, "casing", false);
     }
     put_trace(ring, length, length, "seen", false);
+    if (kind == WAZELPUNT_ENTRY_LAKE) {
+        put_trace(ring, length, length, "core", false);
+    }
     bool hides = put_trace(ring, length, length, hidden_class(state), true);
+    put_diamonds(sheet, number, diamond_size(marks));
     output("</g>\n");
     return hides;
 }
 
-bool put_loops(const struct drawn *sheet)
+bool put_loops(const struct drawn *sheet, bool marks)
 {
     bool hides = false;
     for (size_t i = 0; i < STATE_COUNT; i++) {
         const uint16_t *ring = sheet->rings;
         for (size_t j = 0; j < sheet->loops; ring += sheet->lengths[j], j++) {
             if (sheet->states[j] == state_order[i]) {
-                hides |= put_loop(ring, sheet->lengths[j], state_order[i], j);
+                hides |= put_loop(sheet, j, ring, marks);
             }
         }
     }

@@ -19,6 +19,11 @@
     "Of several sheets the worst decides: 2 before 1 before 0. What is wrong, where\n" \
     "and why is told on standard error.\n"
 
+#define STATUS_ORDER_JSON \
+    "Of several sheets the worst decides: 2 before 1 before 0. What is refused or\n" \
+    "fails is told on standard error; with --json only what fails, and the rest in\n" \
+    "the objects.\n"
+
 #define STATUS_ORDER_CLOSED \
     "Of several sheets the worst decides: 2 before 1 before 3 before 0. What is\n" \
     "refused, does not pass or fails is told on standard error; with --json only\n" \
@@ -32,6 +37,12 @@
     "  3  open     nothing that closes it is allowed, since all of it would need an\n" \
     "              edge that is there already: LEFT OPEN\n" \
     "  4  rim      the border of its piece that runs furthest: it stays open by rule\n"
+
+#define KINDS \
+    "Kinds of loops:\n" \
+    "  rim        the loop of its piece that runs furthest\n" \
+    "  tide pool  no rim, and it has a point in common with the rim of its own piece\n" \
+    "  lake       no rim, and it has none in common with it\n"
 
 #define NAMES \
     " is a file, or - for standard input; without any, standard input is read.\n" \
@@ -56,6 +67,8 @@ static const char all[] =
     "\n"
     "  wazelpunt list [SHEET...]             the loops of sheets and their patches\n"
     "      [--quiet] [--loops] [--json [--patches]] [--closed] [--pitch N]\n"
+    "  wazelpunt report [SHEET...]           their pieces, rims, tide pools and lakes\n"
+    "      [--quiet] [--json | --entries] [--pitch N]\n"
     "  wazelpunt check SHEET [PATCHES]       judge a patch set for a sheet\n"
     "  wazelpunt check --beside SHEET...     judge the set beside each sheet\n"
     "      [--quiet] [--json] [--closed] [--pitch N]\n"
@@ -84,6 +97,8 @@ static const char all[] =
     "  wazelpunt draw plate.sheet >plate.svg\n"
     "\n"
     STATES
+    "\n"
+    KINDS
     "\n"
     STATUSES
     STATUS_CLOSED
@@ -131,6 +146,53 @@ static const char list[] =
     STATUSES
     STATUS_CLOSED
     STATUS_ORDER_CLOSED;
+
+static const char report[] =
+    "wazelpunt report [--quiet] [--json | --entries] [--pitch N] [SHEET...]\n"
+    "\n"
+    "Reports the pieces of sheets, each with its rim, its tide pools and its lakes,\n"
+    "in words on standard output. Of a sheet that is refused the answer is printed.\n"
+    SHEETS
+    HEADINGS
+    "\n"
+    "  -q, --quiet    say nothing of a sheet whose entries are printed; of other\n"
+    "                 sheets that are reported nothing is said anyway\n"
+    "      --json     an object a line for each sheet, instead of its report\n"
+    "      --entries  the entries of the report, by their numbers, instead of words\n"
+    PITCH
+    "\n"
+    "A report, here broken into lines:\n"
+    "  4 pieces, 1 closed: 3 rims, 2 tide pools, 1 lake\n"
+    "                 how much there is, and behind that the loops that stay open\n"
+    "  piece 0: rim loop 2 of 24 edges, run 1,492 plate units; 2 tide pools, 1 lake\n"
+    "                 a piece: which loop is its rim, and how much lies in it\n"
+    "    loop 0, tide pool, patched: 4 edges, run 316 plate units; begins with\n"
+    "    half-edge 22 of triangle 7, from point 4 to point 11\n"
+    "                 a tide pool or a lake of that piece: its state, its size, and\n"
+    "                 where it begins\n"
+    "  piece 3: closed\n"
+    "                 a piece that has no loop\n"
+    "\n"
+    "The entries of a report:\n"
+    "  answer=0,0     the answer's number and place: 0,0 is done\n"
+    "  entries=3      how many entries there are\n"
+    "  entry=0,0      an entry: its kind and a number. Kind 0 is a piece; behind it\n"
+    "  entry=1,0      come its own loops, each by its number: kind 1 is the rim of\n"
+    "  entry=3,1      the piece, 2 a tide pool, 3 a lake\n"
+    "\n"
+    KINDS
+    "\n"
+    STATES
+    "\n"
+    "Pieces, loops, runs and half-edges are those of list; see wazelpunt list --help.\n"
+    "\n"
+    "Examples:\n"
+    "  wazelpunt report plate.sheet\n"
+    "  wazelpunt report *.sheet >resurvey\n"
+    "  wazelpunt report --quiet --entries plate.sheet\n"
+    "\n"
+    STATUSES
+    STATUS_ORDER_JSON;
 
 static const char check[] =
     "wazelpunt check [--quiet] [--json] [--closed] [--pitch N] SHEET [PATCHES]\n"
@@ -248,6 +310,9 @@ static const char draw[] =
     SHEETS
     "Several sheets get a panel each, with its name; one that is refused or cannot\n"
     "be read, a panel that says so. Alone, such a sheet is not drawn.\n"
+    "The line of a loop goes by its state. A lake has a double line, a tide pool has\n"
+    "a diamond where it meets the rim of its piece, and a rim has neither; a legend\n"
+    "names what there is.\n"
     "\n"
     "  -q, --quiet    say nothing of a sheet that is drawn\n"
     "      --plan     seen straight from above\n"
@@ -257,6 +322,8 @@ static const char draw[] =
     PITCH
     "\n"
     STATES
+    "\n"
+    KINDS
     "\n"
     "Examples:\n"
     "  wazelpunt draw plate.sheet >plate.svg\n"
@@ -284,8 +351,8 @@ static const char help[] =
     "wazelpunt help [COMMAND]\n"
     "wazelpunt COMMAND --help\n"
     "\n"
-    "Prints what there is, or more on a command: list, check, rewrite, import, draw,\n"
-    "example.\n";
+    "Prints what there is, or more on a command: list, report, check, rewrite,\n"
+    "import, draw, example.\n";
 
 void help_print_all(void)
 {
@@ -298,8 +365,8 @@ bool help_print(const char *command)
         const char *command;
         const char *text;
     } texts[] = {
-        {"list", list}, {"check", check},     {"rewrite", rewrite}, {"import", import},
-        {"draw", draw}, {"example", example}, {"help", help},
+        {"list", list},     {"report", report}, {"check", check},     {"rewrite", rewrite},
+        {"import", import}, {"draw", draw},     {"example", example}, {"help", help},
     };
     for (size_t t = 0; t < sizeof texts / sizeof texts[0]; t++) {
         if (strcmp(command, texts[t].command) == 0) {

@@ -115,27 +115,100 @@ static void put_left_open(const struct loops *loops)
     output("]");
 }
 
+/* How large a sheet is that was listed or charted, and its loops that stay open. */
+static void put_sizes(const struct text *sheet, const struct loops *loops)
+{
+    output(",\"points\":%zu,\"triangles\":%zu,\"pitch\":%zu", count_first(sheet), count_triangles(sheet), pitch_of(sheet));
+    put_left_open(loops);
+}
+
+/* The members of a loop. */
+static void put_loop(const struct loops *loops, size_t loop, const uint16_t *ring)
+{
+    output("\"length\":%u,\"state\":%u,\"name\":\"%s\",\"weight\":%llu", loops->lengths[loop], loops->states[loop],
+           state_name(loops->states[loop]), (unsigned long long)loops->weights[loop]);
+    output(",\"first\":%u,\"piece\":%u,\"run\":%llu,\"ring\":", loops->firsts[loop], loops->pieces[loop],
+           (unsigned long long)loops->runs[loop]);
+    put_numbers(ring, loops->lengths[loop]);
+}
+
 void json_listed(const struct text *sheet, const struct loops *loops, bool patches)
 {
     const uint16_t *ring = loops->rings;
     const uint16_t *laid = loops->patches;
     begin(sheet, NULL, (struct answer){WAZELPUNT_DONE, 0});
-    output(",\"points\":%zu,\"triangles\":%zu,\"pitch\":%zu", count_first(sheet), count_triangles(sheet), pitch_of(sheet));
-    put_left_open(loops);
+    put_sizes(sheet, loops);
     output(",\"loops\":[");
     for (size_t loop = 0; loop < loops->count; loop++) {
         size_t cover = cover_of(loops->lengths[loop], loops->states[loop]);
-        output("%s{\"length\":%u,\"state\":%u,\"name\":\"%s\",\"weight\":%llu", loop == 0 ? "" : ",", loops->lengths[loop],
-               loops->states[loop], state_name(loops->states[loop]), (unsigned long long)loops->weights[loop]);
-        output(",\"first\":%u,\"piece\":%u,\"run\":%llu,\"ring\":", loops->firsts[loop], loops->pieces[loop],
-               (unsigned long long)loops->runs[loop]);
-        put_numbers(ring, loops->lengths[loop]);
+        output("%s{", loop == 0 ? "" : ",");
+        put_loop(loops, loop, ring);
         if (patches) {
             put_patches(laid, cover);
         }
         output("}");
         ring += loops->lengths[loop];
         laid += 3 * cover;
+    }
+    output("]}\n");
+}
+
+/* How much there is in a report. */
+static void put_counts(const struct report *report)
+{
+    static const struct {
+        const char *name;
+        uint16_t kind;
+    } counts[] = {{"rims", WAZELPUNT_ENTRY_RIM}, {"pools", WAZELPUNT_ENTRY_POOL}, {"lakes", WAZELPUNT_ENTRY_LAKE}};
+    struct span all = report_all(report);
+    output(",\"counts\":{\"entries\":%zu,\"pieces\":%zu,\"closed\":%zu", report->entries,
+           report_count(report, all, WAZELPUNT_ENTRY_PIECE), report_closed(report));
+    for (size_t c = 0; c < sizeof counts / sizeof counts[0]; c++) {
+        output(",\"%s\":%zu", counts[c].name, report_count(report, all, counts[c].kind));
+    }
+    output("}");
+}
+
+/* The loops of a piece that are of a kind, each with its number, joined by commas. */
+static void put_loops_of(const struct report *report, struct span piece, uint16_t kind, const struct loops *loops)
+{
+    const char *before = "";
+    for (size_t e = piece.first; e < piece.end; e++) {
+        struct wazelpunt_entry entry = report_entry(report, e);
+        if (entry.kind == kind) {
+            output("%s{\"loop\":%u,", before, entry.number);
+            put_loop(loops, entry.number, ring_of(loops, entry.number));
+            output("}");
+            before = ",";
+        }
+    }
+}
+
+static void put_piece(const struct report *report, struct span piece, const struct loops *loops)
+{
+    output("{\"piece\":%u,\"rim\":", report_entry(report, piece.first).number);
+    if (report_count(report, piece, WAZELPUNT_ENTRY_RIM) == 0) {
+        output("null");
+    }
+    put_loops_of(report, piece, WAZELPUNT_ENTRY_RIM, loops);
+    output(",\"pools\":[");
+    put_loops_of(report, piece, WAZELPUNT_ENTRY_POOL, loops);
+    output("],\"lakes\":[");
+    put_loops_of(report, piece, WAZELPUNT_ENTRY_LAKE, loops);
+    output("]}");
+}
+
+void json_reported(const struct text *sheet, const struct loops *loops, const struct report *report)
+{
+    begin(sheet, NULL, (struct answer){WAZELPUNT_DONE, 0});
+    put_sizes(sheet, loops);
+    put_counts(report);
+    output(",\"pieces\":[");
+    for (size_t e = 0; e < report->entries;) {
+        struct span piece = report_piece(report, e);
+        output("%s", e == 0 ? "" : ",");
+        put_piece(report, piece, loops);
+        e = piece.end;
     }
     output("]}\n");
 }

@@ -5,9 +5,13 @@
 #include "explain.h"
 #include "input.h"
 #include "listing.h"
+#include "report.h"
 
 /* A sheet that was listed; with `patches` each loop has its triangles. */
 void json_listed(const struct text *sheet, const struct loops *loops, bool patches);
+
+/* A sheet that was reported, by its pieces. */
+void json_reported(const struct text *sheet, const struct loops *loops, const struct report *report);
 
 /* A set that passed, and the loops with the states that it declares. */
 void json_passed(const struct text *sheet, const struct text *set, const struct loops *loops);

@@ -196,6 +196,17 @@ static void add_open(struct phrase *phrase, const char *before, const struct loo
     }
 }
 
+void loops_add_open(struct phrase *phrase, const char *before, const struct loops *loops)
+{
+    if (count_in(loops, WAZELPUNT_LONG) > 0) {
+        add_open(phrase, before, loops, WAZELPUNT_LONG, "long");
+        before = "; ";
+    }
+    if (count_in(loops, WAZELPUNT_OPEN) > 0) {
+        add_open(phrase, before, loops, WAZELPUNT_OPEN, "without an allowed cover");
+    }
+}
+
 static size_t count_laid(const struct loops *loops)
 {
     size_t triangles = 0;
@@ -222,36 +233,48 @@ void loops_add(struct phrase *phrase, const struct loops *loops, bool has_triang
         phrase_add_many(phrase, "", count_laid(loops), "triangle");
         before = "; ";
     }
-    if (count_in(loops, WAZELPUNT_LONG) > 0) {
-        add_open(phrase, before, loops, WAZELPUNT_LONG, "long");
-        before = "; ";
-    }
-    if (count_in(loops, WAZELPUNT_OPEN) > 0) {
-        add_open(phrase, before, loops, WAZELPUNT_OPEN, "without an allowed cover");
-    }
+    loops_add_open(phrase, before, loops);
 }
 
-static void say_loop(const struct loops *loops, size_t loop, const uint16_t *ring, const char *triangle)
+const uint16_t *ring_of(const struct loops *loops, size_t loop)
+{
+    const uint16_t *ring = loops->rings;
+    for (size_t before = 0; before < loop; before++) {
+        ring += loops->lengths[before];
+    }
+    return ring;
+}
+
+void loop_add_size(struct phrase *phrase, const struct loops *loops, size_t loop, const char *before)
+{
+    phrase_add_many(phrase, before, loops->lengths[loop], "edge");
+    phrase_add_many(phrase, ", run ", loops->runs[loop], "plate unit");
+}
+
+void loop_add(struct phrase *phrase, const struct loops *loops, size_t loop, const char *triangle)
+{
+    const uint16_t *ring = ring_of(loops, loop);
+    unsigned first = loops->firsts[loop];
+    loop_add_size(phrase, loops, loop, ": ");
+    phrase_add(phrase, "; begins with half-edge %u of %s %u, from point %u to point %u", first, triangle, first / 3, ring[0], ring[1]);
+}
+
+static void say_loop(const struct loops *loops, size_t loop, const char *triangle)
 {
     static char said[256];
     struct phrase phrase = {said, sizeof said, 0};
-    unsigned first = loops->firsts[loop];
     phrase_add(&phrase, "loop %zu, %s, in piece %u", loop, state_name(loops->states[loop]), loops->pieces[loop]);
-    phrase_add_many(&phrase, ": ", loops->lengths[loop], "edge");
-    phrase_add_many(&phrase, ", run ", loops->runs[loop], "plate unit");
-    phrase_add(&phrase, "; begins with half-edge %u of %s %u, from point %u to point %u", first, triangle, first / 3, ring[0], ring[1]);
+    loop_add(&phrase, loops, loop, triangle);
     say_more("%s", said);
 }
 
 void loops_say(const struct loops *loops, bool all, const char *triangle)
 {
-    const uint16_t *ring = loops->rings;
     size_t named[WAZELPUNT_RIM + 1] = {0};
     for (size_t loop = 0; loop < loops->count; loop++) {
         uint16_t state = loops->states[loop];
         if (all || (stays_open(state) && named[state]++ < MOST_NAMED)) {
-            say_loop(loops, loop, ring, triangle);
+            say_loop(loops, loop, triangle);
         }
-        ring += loops->lengths[loop];
     }
 }

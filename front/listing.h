@@ -51,11 +51,20 @@ const char *no_loops(bool has_triangles);
 bool stays_open(uint16_t state);
 bool loops_stay_open(const struct loops *loops);
 
-/* Adds what became of the loops: `2 loops: 1 rim; 1 closed with 1 triangle`. */
+/* Adds what became of the loops: `2 loops: 1 rim; 1 closed with 1 triangle`; and of that what is said of those that stay open, behind
+   `before`, if there are some. */
 void loops_add(struct phrase *phrase, const struct loops *loops, bool has_triangles);
+void loops_add_open(struct phrase *phrase, const char *before, const struct loops *loops);
 
-/* Says a line of each loop, or only of those that loops_add names, in their order: in which piece it lies, how long it is and where it
-   begins. A triangle of the sheet is called `triangle` or `facet`. */
+/* The vertices of a loop. */
+const uint16_t *ring_of(const struct loops *loops, size_t loop);
+
+/* Adds how long a loop is, and in the second also where it begins: `: 3 edges, run 40 plate units; begins with half-edge 4 of triangle 1,
+   from point 4 to point 3`. A triangle of the sheet is called `triangle` or `facet`. */
+void loop_add_size(struct phrase *phrase, const struct loops *loops, size_t loop, const char *before);
+void loop_add(struct phrase *phrase, const struct loops *loops, size_t loop, const char *triangle);
+
+/* Says a line of each loop, or only of those that loops_add names, in their order: in which piece it lies, and what loop_add adds. */
 void loops_say(const struct loops *loops, bool all, const char *triangle);
 
 #endif

@@ -15,6 +15,7 @@
 #include "lines.h"
 #include "listing.h"
 #include "output.h"
+#include "report.h"
 #include "sample.h"
 #include "stl.h"
 #include "wazelpunt.h"
@@ -22,7 +23,8 @@
 /* ---- A call ---- */
 
 enum options {
-    QUIET = 1, JSON = 2, PATCHES = 4, CLOSED = 8, BESIDE = 16, PLAN = 32, LOOPS = 64, HELP = 128, VERSION = 256, AT_PITCH = 512
+    QUIET = 1, JSON = 2, PATCHES = 4, CLOSED = 8, BESIDE = 16, PLAN = 32, LOOPS = 64, HELP = 128, VERSION = 256, AT_PITCH = 512,
+    ENTRIES = 1024
 };
 
 struct call {
@@ -144,21 +146,33 @@ static enum status tell_refused(const struct call *call, const struct text *of_s
     return tell_answer(call, of_set, refusal());
 }
 
-/* What a sheet was made of, where that is a binary STL file, and its pitch, where that is not 1: `: binary STL, 12 facets, 8 points`,
-   `: pitch 5`. */
-static const char *made_of(void)
+/* What a sheet was made of, where that is a binary STL file, and its pitch, where that is not 1: `binary STL, 12 facets, 8 points`,
+   `pitch 5`; with what stands before and behind it, where it is anything at all. */
+static const char *made_of(const char *before, const char *behind)
 {
     static char made[80];
     struct phrase phrase = {made, sizeof made, 0};
+    bool is_coarse = pitch_of(&sheet) != 1;
     made[0] = 0;
+    if (sheet.stl == NULL && !is_coarse) {
+        return made;
+    }
+    phrase_add(&phrase, "%s", before);
     if (sheet.stl != NULL) {
-        phrase_add_many(&phrase, ": binary STL, ", count_triangles(&sheet), "facet");
+        phrase_add_many(&phrase, "binary STL, ", count_triangles(&sheet), "facet");
         phrase_add_many(&phrase, ", ", count_first(&sheet), "point");
     }
-    if (pitch_of(&sheet) != 1) {
-        phrase_add(&phrase, "%s pitch %zu", sheet.stl != NULL ? "," : ":", pitch_of(&sheet));
+    if (is_coarse) {
+        phrase_add(&phrase, "%spitch %zu", sheet.stl != NULL ? ", " : "", pitch_of(&sheet));
     }
+    phrase_add(&phrase, "%s", behind);
     return made;
+}
+
+/* What a triangle of a sheet is called. */
+static const char *triangle_name(void)
+{
+    return sheet.stl != NULL ? "facet" : "triangle";
 }
 
 /* Says what became of the loops, by a listing or by the states that a set declares, and gives the status. */
@@ -170,11 +184,11 @@ static enum status tell_loops(const struct call *call, const struct text *of_set
         loops_add(&phrase, loops, count_triangles(&sheet) > 0);
         const char *name = said_name(sheet.name);
         if (of_set == NULL) {
-            say("%s%s: %s", name, made_of(), said);
+            say("%s%s: %s", name, made_of(": ", ""), said);
         } else {
-            say("%s%s: %s passes: %s", name, made_of(), said_name(of_set->name), said);
+            say("%s%s: %s passes: %s", name, made_of(": ", ""), said_name(of_set->name), said);
         }
-        loops_say(loops, has(call, LOOPS), sheet.stl != NULL ? "facet" : "triangle");
+        loops_say(loops, has(call, LOOPS), triangle_name());
     }
     return has(call, CLOSED) && loops_stay_open(loops) ? STATUS_OPEN : STATUS_DONE;
 }
@@ -205,13 +219,58 @@ static enum status list_sheet(const struct call *call, const char *name)
     return answer.number == WAZELPUNT_DONE ? tell_loops(call, NULL, &desk.loops) : tell_answer(call, NULL, answer);
 }
 
+/* ---- report ---- */
+
+/* Prints the report of a sheet in words or as its object, or says of its entries, which are printed, how much there is. */
+static enum status tell_report(const struct call *call)
+{
+    static char said[4096];
+    struct phrase phrase = {said, sizeof said, 0};
+    report_add(&phrase, &desk.report, &desk.loops);
+    if (has(call, JSON)) {
+        json_reported(&sheet, &desk.loops, &desk.report);
+    } else if (!has(call, ENTRIES)) {
+        output("%s%s\n", made_of("", ": "), said);
+        report_print(&desk.report, &desk.loops, triangle_name());
+    } else if (!has(call, QUIET)) {
+        say("%s%s: %s", said_name(sheet.name), made_of(": ", ""), said);
+    }
+    return STATUS_DONE;
+}
+
+static enum status report_sheet(const struct call *call, const char *name)
+{
+    size_t place;
+    const char *error = input_read(SHEET, name, call->pitch, &sheet);
+    if (error != NULL) {
+        return tell_unread(call, name, NULL, error);
+    }
+    if (is_refused()) {
+        return tell_refused(call, NULL);
+    }
+    struct answer answer = desk_chart(&sheet, &desk);
+    /* what the charting program prints: the entries or, where there are none, the answer's line */
+    bool is_plain = !has(call, JSON) && (has(call, ENTRIES) || answer.number != WAZELPUNT_DONE);
+    if (is_plain &&
+        wazelpunt_chart_text(sheet.bytes, sheet.length, printed, sizeof printed, &place, &printed_bytes) != WAZELPUNT_DONE) {
+        return tell_unknown(call, name);
+    }
+    if (!has(call, JSON)) {
+        print_heading(call, name);
+    }
+    if (is_plain) {
+        output_bytes(printed, printed_bytes);
+    }
+    return answer.number == WAZELPUNT_DONE ? tell_report(call) : tell_answer(call, NULL, answer);
+}
+
 /* ---- rewrite and import ---- */
 
 /* Says of a sheet that is printed what it was made of. */
 static enum status tell_made(const struct call *call)
 {
     if (sheet.stl != NULL && !has(call, QUIET)) {
-        say("%s%s", said_name(sheet.name), made_of());
+        say("%s%s", said_name(sheet.name), made_of(": ", ""));
     }
     return STATUS_DONE;
 }
@@ -331,7 +390,9 @@ static enum status check_beside(const struct call *call, const char *name)
 
 static void draw_desk(const char *name)
 {
+    static uint16_t kinds[WAZELPUNT_TRIANGLES];
     const struct loops *loops = &desk.loops;
+    report_kinds(&desk.report, kinds);
     struct drawn drawn = {
         .name = name,
         .points = desk.word_count / 3,
@@ -343,6 +404,7 @@ static void draw_desk(const char *name)
         .rings = loops->rings,
         .lengths = loops->lengths,
         .states = loops->states,
+        .kinds = kinds,
         .firsts = loops->firsts,
         .pieces = loops->pieces,
         .runs = loops->runs,
@@ -364,7 +426,10 @@ static enum status draw_one(const struct call *call, const char *name)
         }
         return tell_unread(call, name, NULL, error);
     }
-    struct answer answer = is_refused() ? refusal() : desk_patch(&sheet, &desk);
+    struct answer answer = is_refused() ? refusal() : desk_chart(&sheet, &desk);
+    if (answer.number == WAZELPUNT_DONE) {
+        answer = desk_patch(&sheet, &desk);
+    }
     if (answer.number != WAZELPUNT_DONE) {
         if (!alone) {
             draw_refused(title, answer.number, answer.place, stl_sentence(sheet.stl, answer.number));
@@ -417,6 +482,15 @@ static enum status list(const struct call *call)
         return wrong_use(call, "--patches goes with --json");
     }
     return take_names(&sheets, "sheet") ? each(&sheets, list_sheet) : STATUS_FAILED;
+}
+
+static enum status report(const struct call *call)
+{
+    struct call sheets = *call;
+    if (has(call, ENTRIES) && has(call, JSON)) {
+        return wrong_use(call, "--entries does not go with --json");
+    }
+    return take_names(&sheets, "sheet") ? each(&sheets, report_sheet) : STATUS_FAILED;
 }
 
 static enum status rewrite(const struct call *call)
@@ -497,6 +571,7 @@ static enum status help(const struct call *call)
 
 static const struct command commands[] = {
     {"list", QUIET | JSON | PATCHES | CLOSED | LOOPS | AT_PITCH, list},
+    {"report", QUIET | JSON | ENTRIES | AT_PITCH, report},
     {"check", QUIET | JSON | CLOSED | BESIDE | AT_PITCH, check},
     {"rewrite", QUIET | AT_PITCH, rewrite},
     {"import", QUIET | AT_PITCH, import},
@@ -516,7 +591,7 @@ struct option {
 static const struct option known[] = {
     {"--quiet", "-q", QUIET},     {"--json", "", JSON},      {"--patches", "", PATCHES}, {"--closed", "", CLOSED},
     {"--beside", "", BESIDE},     {"--plan", "", PLAN},      {"--loops", "", LOOPS},     {"--help", "-h", HELP},
-    {"--version", "-V", VERSION}, {"--pitch", "", AT_PITCH},
+    {"--version", "-V", VERSION}, {"--pitch", "", AT_PITCH}, {"--entries", "", ENTRIES},
 };
 
 static const struct option *find_option(const char *word)

@@ -29,14 +29,15 @@
    - Memory: nothing is allocated, and no file, signal, environment or locale is touched. Besides what is lent each function needs
      so many bytes of stack, measured at most, on full sheets and made cases:
 
-         wazelpunt_coordinate       56        wazelpunt_read        21,032        wazelpunt_list_text     216,080
-         wazelpunt_survey       37,272        wazelpunt_read_set    20,808        wazelpunt_judge_texts   176,000
-         wazelpunt_patch       115,728        wazelpunt_write        4,936        wazelpunt_rewrite_text   39,496
-         wazelpunt_judge       116,608        wazelpunt_read_stl    22,984        wazelpunt_import_stl     41,448
-         wazelpunt_facet            24        wazelpunt_size_stl         8
+         wazelpunt_coordinate       56        wazelpunt_read        21,032        wazelpunt_list_text     216,448
+         wazelpunt_survey       37,272        wazelpunt_read_set    20,808        wazelpunt_chart_text     90,472
+         wazelpunt_patch       116,096        wazelpunt_write        4,936        wazelpunt_judge_texts   176,000
+         wazelpunt_chart       134,144        wazelpunt_read_stl    22,984        wazelpunt_rewrite_text   39,496
+         wazelpunt_judge       116,608        wazelpunt_size_stl         8        wazelpunt_import_stl     41,448
+         wazelpunt_facet            24
 
-     Where no hole has 17 to 64 edges, wazelpunt_patch needs 57,976 of them, wazelpunt_judge 62,520,
-     wazelpunt_list_text 158,328 and wazelpunt_judge_texts 121,912: the table of the covers is as long as the longest hole asks for.
+     Where no hole has 17 to 64 edges, wazelpunt_patch needs 57,992 of them, wazelpunt_chart 76,216, wazelpunt_judge 62,520,
+     wazelpunt_list_text 158,344 and wazelpunt_judge_texts 121,912: the table of the covers is as long as the longest hole asks for.
 
    - Floats: the promises hold where the calling thread computes with floats as a program does that changed nothing: rounding to the
      nearest, a tie to the even one; denormal numbers kept, neither flushed to zero where they come out nor taken for zero where they go
@@ -55,7 +56,7 @@ extern "C" {
 #endif
 
 /* The version of this header. */
-#define WAZELPUNT_VERSION "3.0.0"
+#define WAZELPUNT_VERSION "3.1.0"
 
 /* What a surface may have at most. */
 #define WAZELPUNT_POINTS 1024
@@ -68,15 +69,20 @@ extern "C" {
 #define WAZELPUNT_SET_TRIANGLES 3072
 #define WAZELPUNT_SET_CORNERS 9216
 
-/* The edges of the longest loop that is patched, the numbers of a loop's record, and how far the grid reaches from 0 on either side. */
+/* The edges of the longest loop that is patched, the numbers of a loop's record and of a report's entry, those of the report of a full
+   surface, and how far the grid reaches from 0 on either side. */
 #define WAZELPUNT_LONGEST 64
 #define WAZELPUNT_RECORD 7
+#define WAZELPUNT_ENTRY 2
+#define WAZELPUNT_REPORT 4096
 #define WAZELPUNT_GREATEST 32767
 
-/* The bytes of the longest text of a sheet and of a patch set, and room that is enough for every listing and for every answer's line. */
+/* The bytes of the longest text of a sheet and of a patch set, and room that is enough for every listing, for every report and for every
+   answer's line. */
 #define WAZELPUNT_SHEET_BYTES 47140
 #define WAZELPUNT_SET_BYTES 56347
 #define WAZELPUNT_LISTING_BYTES 161424
+#define WAZELPUNT_REPORT_BYTES 26720
 #define WAZELPUNT_ANSWER_BYTES 48
 
 /* The bytes of the longest file of facets (binary STL) that is read, where its facets begin, behind header and count, and the bytes of a
@@ -86,12 +92,14 @@ extern "C" {
 #define WAZELPUNT_STL_FACET_BYTES 50
 
 /* How many numbers each lent buffer needs for a surface of so many words and corners. As refusal 3 counts the buffers, grid is 1 and rings
-   2; 3 is lengths where a surface is surveyed or judged and records where it is patched, and patches is 4. */
+   2; 3 is lengths where a surface is surveyed or judged and records where it is patched or charted, and 4 is patches where it is patched
+   and report where it is charted. */
 #define WAZELPUNT_GRID_FOR(words_count) (words_count)
 #define WAZELPUNT_RINGS_FOR(corners_count) (corners_count)
 #define WAZELPUNT_LENGTHS_FOR(corners_count) ((corners_count) / 3)
 #define WAZELPUNT_RECORDS_FOR(corners_count) (WAZELPUNT_RECORD * ((corners_count) / 3))
 #define WAZELPUNT_PATCHES_FOR(corners_count) (3 * (corners_count))
+#define WAZELPUNT_REPORT_FOR(corners_count) (2 * WAZELPUNT_ENTRY * ((corners_count) / 3))
 
 /* The numbers of the answers, and what their places count: 1 to 10, 16 and 17 are refusals, 11 to 15 verdicts on a patch set. */
 enum wazelpunt_answer {
@@ -150,6 +158,35 @@ static inline struct wazelpunt_record wazelpunt_record_at(const uint64_t *record
         record.run = kept[6];
     }
     return record;
+}
+
+/* The kinds of a report's entries. */
+enum wazelpunt_kind {
+    WAZELPUNT_ENTRY_PIECE = 0,      /* a piece, by its number */
+    WAZELPUNT_ENTRY_RIM = 1,        /* the rim of that piece, as the two that follow by the number of the loop, from 0 in listed order */
+    WAZELPUNT_ENTRY_POOL = 2,       /* a tide pool of that piece: a loop that is no rim and shares a vertex with the piece's rim */
+    WAZELPUNT_ENTRY_LAKE = 3,       /* a lake of that piece: any other loop that is no rim */
+    WAZELPUNT_ENTRY_NOTHING = 65535 /* no entry */
+};
+
+/* What a report tells: for each piece the piece itself, its rim, its tide pools and its lakes, each of them in listed order. An entry is
+   two numbers, in this order one after the other. */
+struct wazelpunt_entry {
+    uint16_t kind;   /* enum wazelpunt_kind */
+    uint16_t number; /* of the piece, or of the loop */
+};
+
+/* The entry with that number, from 0, out of so many numbers of a report. Where they hold no such entry its kind is WAZELPUNT_ENTRY_NOTHING
+   and its number 0. */
+static inline struct wazelpunt_entry wazelpunt_entry_at(const uint16_t *report, size_t report_length, size_t entry)
+{
+    struct wazelpunt_entry told = {WAZELPUNT_ENTRY_NOTHING, 0};
+    if (entry < report_length / WAZELPUNT_ENTRY) {
+        const uint16_t *laid = report + WAZELPUNT_ENTRY * entry;
+        told.kind = laid[0];
+        told.number = laid[1];
+    }
+    return told;
 }
 
 /* A sentence for the number of an answer. It stands on its own, without a capital letter and a full stop, and is never null. */
@@ -245,6 +282,18 @@ uint32_t wazelpunt_patch(const uint32_t *words, size_t words_count, const uint16
                          size_t records_length, uint16_t *patches, size_t patches_length, size_t *place, size_t *loops,
                          size_t *vertices, size_t *laid, uint32_t pitch);
 
+/* Finds the loops of a surface and tells which of them are rims, tide pools and lakes. Returns 0 or a refusal 17 or 1 to 8, with its place.
+   Lent are grid, rings and records as for wazelpunt_patch (1 to 3) and report (4: two entries a triangle, 4 * (corners_count / 3)). On 0
+   they hold the grid, the ring vertices and the records as wazelpunt_patch leaves them, and the entries of the report (struct
+   wazelpunt_entry; wazelpunt_entry_at reads one out): for each piece, from 0 on, the piece, its rim if it has open edges, its tide pools
+   and its lakes, so that each loop stands there once; each from its start, and what lies behind is as it was. *entries becomes how many
+   entries there are, twice as many numbers: one for each piece and one for each loop. On a refusal all is as it was and the three counts
+   are 0. */
+uint32_t wazelpunt_chart(const uint32_t *words, size_t words_count, const uint16_t *corners, size_t corners_count,
+                         int32_t *grid, size_t grid_length, uint16_t *rings, size_t rings_length, uint64_t *records,
+                         size_t records_length, uint16_t *report, size_t report_length, size_t *place, size_t *loops,
+                         size_t *vertices, size_t *entries, uint32_t pitch);
+
 /* Judges a patch set for a surface: a state for each loop (4 for the rim of each piece, and for no other), and the corners of the
    patch triangles of all loops that are declared patched, in any order within a loop and each begun at any corner. Returns 0
    (passed), a refusal 17 or 1 to 9, or a verdict 11 to 15, with its place. Lent are grid, rings and lengths as for wazelpunt_survey. On 0
@@ -284,6 +333,10 @@ uint32_t wazelpunt_read_set(const uint8_t *text, size_t text_length, uint16_t be
 /* The listing of a sheet text: the answer, and after 0 the loops, with rings and patches. Lent are at least WAZELPUNT_LISTING_BYTES. */
 uint32_t wazelpunt_list_text(const uint8_t *text, size_t text_length, uint8_t *out, size_t out_length, size_t *place, size_t *bytes);
 
+/* The report of a sheet text: the answer, and after 0 how many entries there are (entries=3) and each of them (entry=2,1: a tide pool, loop
+   1). Lent are at least WAZELPUNT_REPORT_BYTES. */
+uint32_t wazelpunt_chart_text(const uint8_t *text, size_t text_length, uint8_t *out, size_t out_length, size_t *place, size_t *bytes);
+
 /* The answer's line on the text of a patch set for a sheet text. Lent are at least WAZELPUNT_ANSWER_BYTES. */
 uint32_t wazelpunt_judge_texts(const uint8_t *sheet, size_t sheet_length, const uint8_t *set, size_t set_length, uint8_t *out,
                                size_t out_length, size_t *place, size_t *bytes);
@@ -308,7 +361,7 @@ uint32_t wazelpunt_read_stl(const uint8_t *file, size_t file_length, uint32_t *w
    whole file at hand: a file longer than WAZELPUNT_STL_BYTES never gets 0. Of one shorter than 84 bytes the count may be anything. */
 uint32_t wazelpunt_size_stl(size_t length, uint32_t count);
 
-/* The importing program as a function, ruled as the three above: the text of the file's sheet at pitch 1, or the answer's line (answer=16,0
+/* The importing program as a function, ruled as the four above: the text of the file's sheet at pitch 1, or the answer's line (answer=16,0
    for one). Lent are at least WAZELPUNT_SHEET_BYTES. For the text at another pitch read the file, and write it at that pitch. */
 uint32_t wazelpunt_import_stl(const uint8_t *file, size_t file_length, uint8_t *out, size_t out_length, size_t *place, size_t *bytes);
 

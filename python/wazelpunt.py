@@ -14,6 +14,11 @@
     hole = patched.loops[1]
     hole.first, hole.piece, hole.run             # (4, 0, 40): it begins with half-edge 4, of triangle 1, from point 4 to point 3
     surface.judge(patched.patch_set).passed      # True
+    for entry in surface.chart().report:         # each piece, its rim, its tide pools and its lakes
+        print(entry.kind.name, entry.number)
+        # PIECE 0
+        # RIM 0
+        # LAKE 1
 
     with open("plate.sheet", "rb") as file:
         surface = wazelpunt.Surface.from_text(file.read())
@@ -53,17 +58,17 @@ import operator
 import os
 import struct
 import sys
-from typing import Any, Dict, Iterable, Iterator, List, Optional, Tuple
+from typing import Any, Dict, Iterable, Iterator, List, NamedTuple, Optional, Tuple
 
 __all__ = [
-    "ANSWER_BYTES", "CORNERS", "Coordinate", "GREATEST", "LISTING_BYTES", "LONGEST", "Loop", "POINTS", "PatchSet", "Patched", "RECORD",
-    "Refusal", "SET_BYTES", "SET_CORNERS", "SET_STATES", "SET_TRIANGLES", "SHEET_BYTES", "STL_BYTES", "STL_FACET_BYTES", "STL_FRONT",
-    "State", "Surface", "Survey", "TRIANGLES", "VERSION", "Verdict", "WORDS", "coordinate", "facets", "floats_are_default", "import_stl",
-    "judge_texts", "list_text", "rewrite_text", "size_stl",
+    "ANSWER_BYTES", "CORNERS", "Charted", "Coordinate", "ENTRY", "Entry", "GREATEST", "Kind", "LISTING_BYTES", "LONGEST", "Loop", "POINTS",
+    "PatchSet", "Patched", "RECORD", "REPORT", "REPORT_BYTES", "Refusal", "SET_BYTES", "SET_CORNERS", "SET_STATES", "SET_TRIANGLES",
+    "SHEET_BYTES", "STL_BYTES", "STL_FACET_BYTES", "STL_FRONT", "State", "Surface", "Survey", "TRIANGLES", "VERSION", "Verdict", "WORDS",
+    "chart_text", "coordinate", "facets", "floats_are_default", "import_stl", "judge_texts", "list_text", "rewrite_text", "size_stl",
 ]
 
 # As in include/wazelpunt.h.
-VERSION = "3.0.0"
+VERSION = "3.1.0"
 POINTS = 1024
 TRIANGLES = 1024
 WORDS = 3072
@@ -73,10 +78,13 @@ SET_TRIANGLES = 3072
 SET_CORNERS = 9216
 LONGEST = 64
 RECORD = 7
+ENTRY = 2
+REPORT = 4096
 GREATEST = 32767
 SHEET_BYTES = 47140
 SET_BYTES = 56347
 LISTING_BYTES = 161424
+REPORT_BYTES = 26720
 ANSWER_BYTES = 48
 STL_BYTES = 51284
 STL_FRONT = 84
@@ -116,6 +124,15 @@ class State(enum.IntEnum):
     RIM = 4  #: the rim of its piece, at any length: it is never patched
 
 
+class Kind(enum.IntEnum):
+    """What an entry of a report tells."""
+
+    PIECE = 0  #: a piece
+    RIM = 1  #: the rim of that piece
+    POOL = 2  #: a tide pool of it: a loop that is no rim and shares a vertex with the rim
+    LAKE = 3  #: a lake of it: any other loop that is no rim
+
+
 class Refusal(ValueError):
     """The library refuses what it was given.
 
@@ -140,8 +157,8 @@ class Refusal(ValueError):
 # ---- The library ----
 
 _FUNCTIONS = (
-    "coordinate", "survey", "patch", "judge", "read", "read_set", "write", "list_text", "judge_texts", "rewrite_text", "read_stl",
-    "size_stl", "import_stl",
+    "coordinate", "survey", "patch", "chart", "judge", "read", "read_set", "write", "list_text", "chart_text", "judge_texts", "rewrite_text",
+    "read_stl", "size_stl", "import_stl",
 )
 
 
@@ -404,6 +421,28 @@ class Patched:
         return PatchSet([loop.state for loop in self.loops], self.patches)
 
 
+class Entry(NamedTuple):
+    """An entry of a report: a piece, or a loop by what it is there."""
+
+    kind: Kind
+    number: int  #: of the piece, or of the loop, both from 0
+
+
+@dataclasses.dataclass(frozen=True)
+class Charted:
+    """A charted surface: its points on the grid, its loops in listed order, and the report.
+
+    The loops are those of Patched, but for the triangles of their patches, which are not kept: `patches` is empty in every state.
+
+    The report has for each piece, from 0 on, the piece, its rim if it has open edges, its tide pools and its lakes, each in listed order;
+    so each loop stands there once.
+    """
+
+    grid: Tuple[Triple, ...]
+    loops: Tuple[Loop, ...]
+    report: Tuple[Entry, ...]
+
+
 @dataclasses.dataclass(frozen=True)
 class Verdict:
     """The answer on a patch set: 0 if it passed, or a verdict 11 to 15 with its place. It counts as true if the set passed."""
@@ -432,6 +471,13 @@ def _rings(rings: _Slice, lengths: List[int]) -> Tuple[Tuple[int, ...], ...]:
         found.append(tuple(rings.array[at : at + length]))
         at += length
     return tuple(found)
+
+
+def _recorded(rings: _Slice, records: _Slice, loops: int) -> Iterator[Tuple[Tuple[int, ...], List[int]]]:
+    """Each loop's ring and the numbers of its record."""
+    numbers = records.array[: RECORD * loops]
+    each = [numbers[RECORD * loop : RECORD * (loop + 1)] for loop in range(loops)]
+    return zip(_rings(rings, [record[0] for record in each]), each)
 
 
 @dataclasses.dataclass(frozen=True, init=False, repr=False)
@@ -491,7 +537,7 @@ class Surface:
     Whether it is one that the library takes is told by what is asked of it. But a corner that is negative, or greater than 65,535, cannot
     even be handed over; it names no point, and is refused (4) when the surface is made.
 
-    survey, patch, judge and text go by the surface's pitch, unless another is given as pitch=.
+    survey, patch, chart, judge and text go by the surface's pitch, unless another is given as pitch=.
     """
 
     words: Tuple[int, ...]
@@ -575,15 +621,24 @@ class Surface:
         records = _lent(ctypes.c_uint64, RECORD * (len(self.corners) // 3))
         patches = _lent(ctypes.c_uint16, 3 * len(self.corners))
         count, _, laid = _get("patch", *self._given(), grid, rings, records, patches, counts=3, last=self._pitch(pitch))
-        numbers = records.array[: RECORD * count]
         triangles_left = iter(_by_three(patches.array[:laid]))
         loops = []
-        for number, ring in enumerate(_rings(rings, numbers[::RECORD])):
-            length, state, *record = numbers[RECORD * number : RECORD * (number + 1)]
+        for ring, (length, state, *record) in _recorded(rings, records, count):
             # a cover of a ring has two triangles fewer than the ring has vertices
             cover = length - 2 if state == State.PATCHED else 0
             loops.append(Loop(ring, State(state), *record, tuple(next(triangles_left) for _ in range(cover))))
         return Patched(_by_three(grid.array[: grid.count]), tuple(loops))
+
+    def chart(self, *, pitch: Optional[int] = None) -> Charted:
+        """Finds the loops, and reports for each piece its rim, its tide pools and its lakes. Refusals 17, 1, 2 and 4 to 8."""
+        grid, rings, _ = self._lent()
+        triangles = len(self.corners) // 3
+        records, report = _lent(ctypes.c_uint64, RECORD * triangles), _lent(ctypes.c_uint16, 2 * ENTRY * triangles)
+        count, _, entries = _get("chart", *self._given(), grid, rings, records, report, counts=3, last=self._pitch(pitch))
+        numbers = report.array[: ENTRY * entries]
+        told = tuple(Entry(Kind(kind), number) for kind, number in zip(numbers[::ENTRY], numbers[1::ENTRY]))
+        loops = (Loop(ring, State(state), *record, ()) for ring, (_, state, *record) in _recorded(rings, records, count))
+        return Charted(_by_three(grid.array[: grid.count]), tuple(loops), told)
 
     def judge(self, patch_set: PatchSet, *, pitch: Optional[int] = None) -> Verdict:
         """Judges a patch set for this surface. Refusals 17, 1, 2 and 4 to 9; a verdict 11 to 15 is returned."""
@@ -627,6 +682,11 @@ def _printed(function: str, room: int, *given: _Slice) -> bytes:
 def list_text(sheet: bytes) -> bytes:
     """The listing of a sheet text: the answer's line, and after answer=0,0 the loops. It refuses nothing: the answer is in the listing."""
     return _printed("list_text", LISTING_BYTES, _given_bytes(sheet, "a text"))
+
+
+def chart_text(sheet: bytes) -> bytes:
+    """The report of a sheet text: the answer's line, and after answer=0,0 the entries. It refuses nothing: the answer is in the report."""
+    return _printed("chart_text", REPORT_BYTES, _given_bytes(sheet, "a text"))
 
 
 def judge_texts(sheet: bytes, patches: bytes) -> bytes:

@@ -1,5 +1,5 @@
 /* The rules of the scope in C, written for speed and without tricks: no vector instructions by hand, and tables only of digits, where
-   numbers are read and written. Edges are paired, and loops, pieces, runs and rims found in linear time; the lightest cover is found by the
+   numbers are read and written. Edges are paired, and loops, pieces, runs, rims and tide pools found in linear time; the lightest cover is found by the
    table over stretches, with a triangle's weight computed anew at every step. */
 #include <stdlib.h>
 #include <string.h>
@@ -13,6 +13,7 @@ enum {
     CORNERS = 3 * TRIANGLES,
     LONGEST = 64,
     RECORD = 7,
+    ENTRY = 2,
     /* a patch has fewer diagonals than its loop has edges, so all of them are fewer than the corners */
     EDGES = 2 * CORNERS,
     /* what stands for no half-edge and for no piece, and in its stead at an open half-edge that a walk has passed */
@@ -118,18 +119,18 @@ static uint32_t refuse_counts(size_t words_count, size_t corners_count, uint32_t
     return answer(0, 0, place);
 }
 
-/* How long the lent buffers are. The third has lengths or records, and needs so many numbers a triangle. Where no patch is laid there is no
-   fourth; SIZE_MAX stands for its length. */
+/* How long the lent buffers are. The third has lengths or records, the fourth patches or the report, and each needs so many numbers a
+   triangle. The survey and the checker have no fourth, and it needs none. */
 struct lent {
-    size_t grid, rings, third, a_triangle, patches;
+    size_t grid, rings, third, by_third, fourth, by_fourth;
 };
 
 static uint32_t refuse_buffers(const struct surface *surface, const struct lent *lent, size_t *place) {
     size_t triangles = surface->corners_count / 3;
     if (lent->grid < surface->words_count) return answer(3, 1, place);
     if (lent->rings < 3 * triangles) return answer(3, 2, place);
-    if (lent->third < lent->a_triangle * triangles) return answer(3, 3, place);
-    if (lent->patches < 9 * triangles) return answer(3, 4, place);
+    if (lent->third < lent->by_third * triangles) return answer(3, 3, place);
+    if (lent->fourth < lent->by_fourth * triangles) return answer(3, 4, place);
     return answer(0, 0, place);
 }
 
@@ -273,7 +274,7 @@ uint32_t baseline_survey(const uint32_t *words, size_t words_count, const uint16
                          int32_t *grid, size_t grid_length, uint16_t *rings, size_t rings_length, uint16_t *lengths,
                          size_t lengths_length, size_t *place, size_t *loops, size_t *vertices, uint32_t pitch) {
     const struct surface surface = {words, words_count, corners, corners_count, pitch};
-    const struct lent lent = {grid_length, rings_length, lengths_length, 1, SIZE_MAX};
+    const struct lent lent = {grid_length, rings_length, lengths_length, 1, 0, 0};
     struct edges edges;
     struct loops found;
     *loops = *vertices = 0;
@@ -290,10 +291,11 @@ uint32_t baseline_survey(const uint32_t *words, size_t words_count, const uint16
 
 /* ---- Pieces and rims ---- */
 
-/* The pieces that were entered, numbered in that order. Of each, the loop with the greatest run so far, or NONE, where its ring begins, and
+/* The pieces that were entered, numbered in that order, and how many triangles they have. Of each, the loop with the greatest run so far, or NONE, where its ring begins, and
    its run, which the checker reckons only when the piece turns out to have a second loop. */
 struct pieces {
     size_t count;
+    size_t triangles;
     /* for each triangle its piece, or NONE */
     uint16_t of[TRIANGLES];
     uint16_t queue[TRIANGLES];
@@ -303,7 +305,7 @@ struct pieces {
 };
 
 static void start_pieces(struct pieces *pieces, const struct surface *surface) {
-    pieces->count = 0;
+    pieces->count = pieces->triangles = 0;
     memset(pieces->of, 0xff, surface->corners_count / 3 * sizeof *pieces->of);
 }
 
@@ -323,6 +325,7 @@ static void flood(struct pieces *pieces, const uint16_t *twin, uint32_t triangle
             *end++ = (uint16_t)next;
         }
     }
+    pieces->triangles += (size_t)(end - pieces->queue);
 }
 
 static void enter_piece(struct pieces *pieces, const uint16_t *twin, uint32_t triangle, uint16_t best, size_t start) {
@@ -399,25 +402,25 @@ static size_t piece_of(struct pieces *pieces, const uint16_t *twin, uint32_t tri
     return pieces->of[triangle];
 }
 
-/* Lays the records of all loops by their pieces, those of rims with their state. */
-static void lay_by_pieces(uint64_t *records, const struct loops *loops, const struct surface *surface, const uint16_t *twin,
-                          const int32_t *grid) {
-    struct pieces pieces;
+/* Lays the records of all loops by their pieces, those of rims with their state. Gives a triangle before which none is without a piece. */
+static uint32_t lay_by_pieces(uint64_t *records, struct pieces *pieces, const struct loops *loops, const struct surface *surface,
+                              const uint16_t *twin, const int32_t *grid) {
     uint32_t next = 0;
     const uint16_t *ring = loops->rings;
-    start_pieces(&pieces, surface);
+    start_pieces(pieces, surface);
     for (size_t l = 0; l < loops->count; l++) {
-        size_t length = loops->lengths[l], piece = piece_of(&pieces, twin, loops->first[l] / 3u, &next);
+        size_t length = loops->lengths[l], piece = piece_of(pieces, twin, loops->first[l] / 3u, &next);
         uint32_t run = run_of(grid, ring, length);
         lay_record(records + RECORD * l, length, loops->first[l], piece, run);
-        if (pieces.best[piece] == NONE || run > pieces.run[piece]) {
-            pieces.best[piece] = (uint16_t)l;
-            pieces.run[piece] = run;
+        if (pieces->best[piece] == NONE || run > pieces->run[piece]) {
+            pieces->best[piece] = (uint16_t)l;
+            pieces->run[piece] = run;
         }
         ring += length;
     }
-    for (size_t p = 0; p < pieces.count; p++)
-        if (pieces.best[p] != NONE) records[RECORD * pieces.best[p] + STATE] = RIM;
+    for (size_t p = 0; p < pieces->count; p++)
+        if (pieces->best[p] != NONE) records[RECORD * pieces->best[p] + STATE] = RIM;
+    return next;
 }
 
 /* A loop that is the only one is its piece's rim, and triangle 0 is in piece 0. */
@@ -427,7 +430,8 @@ static void lay_records(uint64_t *records, const struct loops *loops, const stru
         lay_record(records, loops->lengths[0], loops->first[0], 0, run_of(grid, loops->rings, loops->lengths[0]));
         records[STATE] = RIM;
     } else if (loops->count > 0) {
-        lay_by_pieces(records, loops, surface, twin, grid);
+        struct pieces pieces;
+        lay_by_pieces(records, &pieces, loops, surface, twin, grid);
     }
 }
 
@@ -590,16 +594,30 @@ static uint16_t *patch_loop(struct hole *hole, const uint16_t *ring, size_t leng
     return lay_stretch(hole, 0, length - 1, patch);
 }
 
+/* Patches the loops that are no rims, and gives how many corners that took. */
+static inline size_t patch_loops(const struct loops *loops, struct edges *edges, const int32_t *grid, size_t points, uint64_t *records,
+                                 uint16_t *patches) {
+    struct hole hole;
+    const uint16_t *ring = loops->rings;
+    uint16_t *patch = patches;
+    start_holes(&hole, edges, grid, points);
+    for (size_t l = 0; l < loops->count; l++) {
+        if (records[STATE] != RIM) patch = patch_loop(&hole, ring, loops->lengths[l], records, patch);
+        records += RECORD;
+        ring += loops->lengths[l];
+    }
+    return (size_t)(patch - patches);
+}
+
 uint32_t baseline_patch(const uint32_t *words, size_t words_count, const uint16_t *corners, size_t corners_count,
                         int32_t *grid, size_t grid_length, uint16_t *rings, size_t rings_length, uint64_t *records,
                         size_t records_length, uint16_t *patches, size_t patches_length, size_t *place, size_t *loops,
                         size_t *vertices, size_t *laid, uint32_t pitch) {
     const struct surface surface = {words, words_count, corners, corners_count, pitch};
-    const struct lent lent = {grid_length, rings_length, records_length, RECORD, patches_length};
+    const struct lent lent = {grid_length, rings_length, records_length, RECORD, patches_length, 9};
     uint16_t lengths[TRIANGLES];
     struct edges edges;
     struct loops found;
-    struct hole hole;
     *loops = *vertices = *laid = 0;
     uint32_t number = refuse_surface(&surface, &lent, &edges, place);
     if (number != 0) return number;
@@ -608,16 +626,104 @@ uint32_t baseline_patch(const uint32_t *words, size_t words_count, const uint16_
     found.lengths = lengths;
     find_loops(&found, &surface, edges.twin);
     lay_records(records, &found, &surface, edges.twin, grid);
-    start_holes(&hole, &edges, grid, words_count / 3);
-    uint16_t *patch = patches;
-    for (size_t l = 0; l < found.count; l++) {
-        if (records[STATE] != RIM) patch = patch_loop(&hole, rings, lengths[l], records, patch);
-        records += RECORD;
-        rings += lengths[l];
-    }
     *loops = found.count;
     *vertices = found.vertices;
-    *laid = (size_t)(patch - patches);
+    *laid = patch_loops(&found, &edges, grid, words_count / 3, records, patches);
+    return 0;
+}
+
+/* ---- The report ---- */
+
+/* Where the report goes, and for each loop where its ring begins; of each piece the loops that are no rims, chained in listed order; the
+   number, from 1, of the last piece whose rim has a point; and the lakes of the piece in hand. */
+struct report {
+    uint16_t *at;
+    uint16_t start[TRIANGLES];
+    uint16_t head[TRIANGLES];
+    uint16_t next[TRIANGLES];
+    uint16_t stamp[POINTS];
+    uint16_t lakes[TRIANGLES];
+};
+
+static void put_entry(struct report *report, uint16_t kind, uint16_t number) {
+    report->at[0] = kind;
+    report->at[1] = number;
+    report->at += ENTRY;
+}
+
+static void chain_loops(struct report *report, const struct loops *loops, const uint64_t *records, const struct pieces *pieces) {
+    size_t start = loops->vertices;
+    memset(report->head, 0xff, pieces->count * sizeof *report->head);
+    for (size_t l = loops->count; l-- > 0;) {
+        start -= loops->lengths[l];
+        report->start[l] = (uint16_t)start;
+        if (records[RECORD * l + STATE] == RIM) continue;
+        size_t piece = records[RECORD * l + PIECE];
+        report->next[l] = report->head[piece];
+        report->head[piece] = (uint16_t)l;
+    }
+}
+
+static int is_stamped(const struct report *report, const struct loops *loops, size_t loop, uint16_t stamp) {
+    const uint16_t *ring = loops->rings + report->start[loop], *end = ring + loops->lengths[loop];
+    for (; ring < end; ring++)
+        if (report->stamp[*ring] == stamp) return 1;
+    return 0;
+}
+
+/* Tide pools are put at once, and the lakes behind them. */
+static void put_others(struct report *report, const struct loops *loops, size_t rim, size_t head, uint16_t stamp) {
+    const uint16_t *ring = loops->rings + report->start[rim];
+    size_t lakes = 0;
+    for (size_t i = 0; i < loops->lengths[rim]; i++) report->stamp[ring[i]] = stamp;
+    for (size_t l = head; l != NONE; l = report->next[l]) {
+        if (is_stamped(report, loops, l, stamp)) put_entry(report, 2, (uint16_t)l);
+        else report->lakes[lakes++] = (uint16_t)l;
+    }
+    for (size_t i = 0; i < lakes; i++) put_entry(report, 3, report->lakes[i]);
+}
+
+/* Gives how many entries there are. */
+static size_t lay_report(uint16_t *entries, const struct loops *loops, const uint64_t *records, const struct pieces *pieces, size_t points) {
+    struct report report;
+    report.at = entries;
+    chain_loops(&report, loops, records, pieces);
+    memset(report.stamp, 0, points * sizeof *report.stamp);
+    for (size_t p = 0; p < pieces->count; p++) {
+        uint16_t rim = pieces->best[p];
+        put_entry(&report, 0, (uint16_t)p);
+        if (rim == NONE) continue;
+        put_entry(&report, 1, rim);
+        if (report.head[p] != NONE) put_others(&report, loops, rim, report.head[p], (uint16_t)(p + 1));
+    }
+    return (size_t)(report.at - entries) / ENTRY;
+}
+
+/* All pieces are entered, also those without a loop. The patches are laid, since they bar diagonals, and not kept. */
+uint32_t baseline_chart(const uint32_t *words, size_t words_count, const uint16_t *corners, size_t corners_count,
+                        int32_t *grid, size_t grid_length, uint16_t *rings, size_t rings_length, uint64_t *records,
+                        size_t records_length, uint16_t *report, size_t report_length, size_t *place, size_t *loops,
+                        size_t *vertices, size_t *entries, uint32_t pitch) {
+    const struct surface surface = {words, words_count, corners, corners_count, pitch};
+    const struct lent lent = {grid_length, rings_length, records_length, RECORD, report_length, 2 * ENTRY};
+    uint16_t lengths[TRIANGLES], patches[3 * CORNERS];
+    struct edges edges;
+    struct loops found;
+    struct pieces pieces;
+    *loops = *vertices = *entries = 0;
+    uint32_t number = refuse_surface(&surface, &lent, &edges, place);
+    if (number != 0) return number;
+    place_on_grid(&surface, grid);
+    found.rings = rings;
+    found.lengths = lengths;
+    find_loops(&found, &surface, edges.twin);
+    uint32_t next = lay_by_pieces(records, &pieces, &found, &surface, edges.twin, grid);
+    for (; pieces.triangles < corners_count / 3; next++)
+        if (pieces.of[next] == NONE) enter_piece(&pieces, edges.twin, next, NONE, 0);
+    *loops = found.count;
+    *vertices = found.vertices;
+    *entries = lay_report(report, &found, records, &pieces, words_count / 3);
+    patch_loops(&found, &edges, grid, words_count / 3, records, patches);
     return 0;
 }
 
@@ -744,7 +850,7 @@ uint32_t baseline_check(const uint32_t *words, size_t words_count, const uint16_
                         size_t grid_length, uint16_t *rings, size_t rings_length, uint16_t *lengths, size_t lengths_length,
                         size_t *place, size_t *loops, size_t *vertices, uint32_t pitch) {
     const struct surface surface = {words, words_count, corners, corners_count, pitch};
-    const struct lent lent = {grid_length, rings_length, lengths_length, 1, SIZE_MAX};
+    const struct lent lent = {grid_length, rings_length, lengths_length, 1, 0, 0};
     struct set judged = {states, set, set_count, 0};
     uint16_t own_rings[CORNERS], own_lengths[TRIANGLES];
     uint8_t rims[TRIANGLES];

@@ -1,5 +1,5 @@
-/* The C baseline, a yardstick for speed: the scope's patcher, what finds its loops, its checker, the reading and writing of sheet texts,
-   and the reading of files of facets.
+/* The C baseline, a yardstick for speed: the scope's patcher, what finds its loops, the report of tide pools and lakes, the checker, the
+   reading and writing of sheet texts, and the reading of files of facets.
    Every function takes, answers and leaves the same as its namesake in wazelpunt.h; baseline_check is that of wazelpunt_judge. */
 #ifndef BASELINE_H
 #define BASELINE_H
@@ -15,6 +15,11 @@ uint32_t baseline_patch(const uint32_t *words, size_t words_count, const uint16_
                         int32_t *grid, size_t grid_length, uint16_t *rings, size_t rings_length, uint64_t *records,
                         size_t records_length, uint16_t *patches, size_t patches_length, size_t *place, size_t *loops,
                         size_t *vertices, size_t *laid, uint32_t pitch);
+
+uint32_t baseline_chart(const uint32_t *words, size_t words_count, const uint16_t *corners, size_t corners_count,
+                        int32_t *grid, size_t grid_length, uint16_t *rings, size_t rings_length, uint64_t *records,
+                        size_t records_length, uint16_t *report, size_t report_length, size_t *place, size_t *loops,
+                        size_t *vertices, size_t *entries, uint32_t pitch);
 
 uint32_t baseline_check(const uint32_t *words, size_t words_count, const uint16_t *corners, size_t corners_count,
                         const uint16_t *states, size_t states_count, const uint16_t *set, size_t set_count, int32_t *grid,

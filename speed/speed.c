@@ -22,6 +22,7 @@
 /* An archive that lacks one of these is linked all the same; the function is then null. */
 #pragma weak wazelpunt_survey
 #pragma weak wazelpunt_patch
+#pragma weak wazelpunt_chart
 #pragma weak wazelpunt_judge
 #pragma weak wazelpunt_read
 #pragma weak wazelpunt_write
@@ -33,6 +34,7 @@ struct side {
     const char *name;
     __typeof__(baseline_survey) *survey;
     __typeof__(baseline_patch) *patch;
+    __typeof__(baseline_chart) *chart;
     __typeof__(baseline_check) *check;
     __typeof__(baseline_read) *read;
     __typeof__(baseline_write) *write;
@@ -42,8 +44,8 @@ struct side {
 #define SIDES 2
 
 static const struct side sides[SIDES] = {
-    {"ours", wazelpunt_survey, wazelpunt_patch, wazelpunt_judge, wazelpunt_read, wazelpunt_write, wazelpunt_read_stl},
-    {"baseline", baseline_survey, baseline_patch, baseline_check, baseline_read, baseline_write, baseline_read_stl},
+    {"ours", wazelpunt_survey, wazelpunt_patch, wazelpunt_chart, wazelpunt_judge, wazelpunt_read, wazelpunt_write, wazelpunt_read_stl},
+    {"baseline", baseline_survey, baseline_patch, baseline_chart, baseline_check, baseline_read, baseline_write, baseline_read_stl},
 };
 
 /* Everything that is lent, each between guards. */
@@ -53,6 +55,7 @@ struct lent {
     uint16_t lengths[REFERENCE_MOST_TRIANGLES + 2 * GUARD];
     uint64_t records[REFERENCE_MOST_RECORDS + 2 * GUARD];
     uint16_t patches[REFERENCE_MOST_PATCH_CORNERS + 2 * GUARD];
+    uint16_t report[REFERENCE_MOST_REPORT + 2 * GUARD];
     uint32_t words[REFERENCE_MOST_WORDS + 2 * GUARD];
     uint16_t corners[REFERENCE_MOST_CORNERS + 2 * GUARD];
     uint8_t text[REFERENCE_LONGEST_TEXT + 2 * GUARD];
@@ -107,6 +110,21 @@ static void work_patch(const struct side *side, struct lent *l, struct answer *a
     *a = (struct answer){r.number, r.place, {r.loops, r.vertices, r.corners}};
 }
 
+static void work_chart(const struct side *side, struct lent *l, struct answer *a) {
+    const struct generated_surface *s = &surface;
+    const size_t *n = s->lent;
+    if (side != 0) {
+        a->number = side->chart(s->words, s->word_count, s->corners, s->corner_count, l->grid + GUARD, n[0], l->rings + GUARD, n[1],
+                                l->records + GUARD, n[2], l->report + GUARD, s->report_lent, &a->place, &a->counts[0], &a->counts[1],
+                                &a->counts[2], s->pitch);
+        return;
+    }
+    struct reference_report_answer r;
+    reference_report(s->words, s->word_count, s->corners, s->corner_count, l->grid + GUARD, n[0], l->rings + GUARD, n[1],
+                     l->records + GUARD, n[2], l->report + GUARD, s->report_lent, s->pitch, &r);
+    *a = (struct answer){r.number, r.place, {r.loops, r.vertices, r.entries}};
+}
+
 static void work_check(const struct side *side, struct lent *l, struct answer *a) {
     const struct generated_surface *s = &surface;
     const size_t *n = s->lent;
@@ -158,20 +176,21 @@ static void work_read_stl(const struct side *side, struct lent *l, struct answer
     *a = (struct answer){r.number, r.place, {r.words, r.corners, 0}};
 }
 
-enum { SURVEY, PATCH, CHECK, READ, WRITE, READ_STL, WORKS };
+enum { SURVEY, PATCH, CHART, CHECK, READ, WRITE, READ_STL, WORKS };
 
 static const struct {
     const char *name;
     void (*by)(const struct side *, struct lent *, struct answer *);
     int of_facets; /* it is done on a file of facets, and not on a sheet */
 } works[WORKS] = {
-    {"survey", work_survey, 0}, {"patch", work_patch, 0}, {"check", work_check, 0},
+    {"survey", work_survey, 0}, {"patch", work_patch, 0}, {"chart", work_chart, 0}, {"check", work_check, 0},
     {"read", work_read, 0}, {"write", work_write, 0}, {"read_stl", work_read_stl, 1}};
 
 static int has(const struct side *side, size_t work) {
     switch (work) {
     case SURVEY: return side->survey != 0;
     case PATCH: return side->patch != 0;
+    case CHART: return side->chart != 0;
     case CHECK: return side->check != 0;
     case READ: return side->read != 0;
     case WRITE: return side->write != 0;
@@ -237,7 +256,7 @@ static void lend_all(void) {
     text_lent = REFERENCE_LONGEST_TEXT;
 }
 
-/* A surface as it stands: patched, its own set judged, written and read again. */
+/* A surface as it stands: patched, charted, its own set judged, written and read again. */
 static void compare_sheet(const char *name, uint64_t seed) {
     take_own_set();
     text_length = generate_sheet_text(&surface, text);
@@ -281,6 +300,7 @@ static void shorten_lent(void) {
                                                   REFERENCE_MOST_PATCH_CORNERS};
     for (size_t b = 0; b < GENERATE_BUFFERS; b++)
         if (surface.lent[b] > most[b]) surface.lent[b] = most[b];
+    if (surface.report_lent > REFERENCE_MOST_REPORT) surface.report_lent = REFERENCE_MOST_REPORT;
     if (surface.lengths_lent > REFERENCE_MOST_TRIANGLES) surface.lengths_lent = REFERENCE_MOST_TRIANGLES;
 }
 
@@ -289,6 +309,7 @@ static void compare_made(size_t many, uint64_t seed) {
         struct generator generator;
         generate_start(&generator, own);
         if (own % 8 == 7) sheet_make_cones(&generator, &surface);
+        else if (own % 8 == 6) sheet_make_coasts(&generator, &surface);
         else if (own % 2 == 0) generate_sound_surface(&generator, &surface);
         else generate_surface(&generator, &surface);
         shorten_lent();
@@ -352,7 +373,7 @@ static int load(const char *path) {
         surface.word_count = read.words;
         surface.corner_count = read.corners;
         for (size_t b = 0; b < GENERATE_BUFFERS; b++) surface.lent[b] = SIZE_MAX;
-        surface.lengths_lent = SIZE_MAX;
+        surface.report_lent = surface.lengths_lent = SIZE_MAX;
         shorten_lent();
     }
     if (read.number != 0) printf("%s: refusal %zu at %zu, left out\n", path, read.number, read.place);

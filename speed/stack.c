@@ -1,8 +1,8 @@
 /* How much stack each exported function takes at most: it is called on a stack that was painted before, and what is no longer painted was
    used. The stack that an empty call takes is taken off.
    stack COUNT SEED  measures on the full sheets at every pitch, on plates whose hole is closed by a fan, on the files of facets that are
-                     counted, and on that many made surfaces, sets, texts and files of facets; then, of the functions that patch or judge,
-                     by the longest loop that a sheet has to patch.
+                     counted, and on that many made surfaces, sets, texts and files of facets; then, of the functions that patch, chart or
+                     judge, by the longest loop that a sheet has to patch.
    stack sheet       prints one of these plates as a sheet text.
    stack facets      prints the file of facets with the most points. */
 #include <inttypes.h>
@@ -32,9 +32,9 @@ static int32_t grid[GENERATE_WORD_ROOM];
 static uint32_t words[GENERATE_WORD_ROOM];
 static uint16_t rings[GENERATE_CORNER_ROOM], lengths[GENERATE_CORNER_ROOM], states[GENERATE_STATE_ROOM], corners[GENERATE_SET_ROOM];
 static uint64_t records[WAZELPUNT_RECORDS_FOR(GENERATE_CORNER_ROOM)];
-static uint16_t patches[3 * GENERATE_CORNER_ROOM];
+static uint16_t patches[3 * GENERATE_CORNER_ROOM], report[WAZELPUNT_REPORT_FOR(GENERATE_CORNER_ROOM)];
 static float floats[9];
-static size_t place, first, second, third;
+static size_t place, first, second, third, entries;
 static uint32_t pitch;
 
 #define SURFACE surface.words, surface.word_count, surface.corners, surface.corner_count
@@ -58,6 +58,11 @@ static void work_patch(void) {
                     &third, surface.pitch);
 }
 
+static void work_chart(void) {
+    wazelpunt_chart(SURFACE, PLACED, records, sizeof records / sizeof *records, report, sizeof report / sizeof *report, &place, &first, &second,
+                    &entries, surface.pitch);
+}
+
 static void work_judge(void) {
     wazelpunt_judge(SURFACE, set.states, set.state_count, set.corners, set.corner_count, SURVEYED, &place, &first, &second, surface.pitch);
 }
@@ -76,6 +81,10 @@ static void work_read_set(void) {
 
 static void work_list_text(void) {
     wazelpunt_list_text(text, text_length, printed, sizeof printed, &place, &first);
+}
+
+static void work_chart_text(void) {
+    wazelpunt_chart_text(text, text_length, printed, sizeof printed, &place, &first);
 }
 
 static void work_judge_texts(void) {
@@ -112,11 +121,13 @@ static struct work {
     {"wazelpunt_coordinate", work_coordinate, 0},
     {"wazelpunt_survey", work_survey, 0},
     {"wazelpunt_patch", work_patch, 0},
+    {"wazelpunt_chart", work_chart, 0},
     {"wazelpunt_judge", work_judge, 0},
     {"wazelpunt_read", work_read, 0},
     {"wazelpunt_write", work_write, 0},
     {"wazelpunt_read_set", work_read_set, 0},
     {"wazelpunt_list_text", work_list_text, 0},
+    {"wazelpunt_chart_text", work_chart_text, 0},
     {"wazelpunt_judge_texts", work_judge_texts, 0},
     {"wazelpunt_rewrite_text", work_rewrite_text, 0},
     {"wazelpunt_read_stl", work_read_stl, 0},
@@ -183,8 +194,10 @@ static void make_fan(size_t apex) {
     generate_lend_exactly(&surface);
 }
 
-/* What patching and judging take by the longest loop that is patched, on sheets that have as many points and triangles as there may be, and on
+/* What patching, charting and judging take by the longest loop that is patched, on sheets that have as many points and triangles as there may be, and on
    one that has few of either. */
+static void (*const by_holes[])(void) = {work_patch, work_chart, work_judge, work_list_text, work_chart_text, work_judge_texts};
+
 static void print_kind(const char *kind, struct generator *generator, void (*make)(struct generator *)) {
     make(generator);
     for (size_t w = 1; w < WORKS; w++) works[w].most = 0;
@@ -192,8 +205,8 @@ static void print_kind(const char *kind, struct generator *generator, void (*mak
     for (int times = 0; times < 20; times++) measure_on(generator);
     printf("%-26s", kind);
     for (size_t w = 0; w < WORKS; w++)
-        if (works[w].work == work_patch || works[w].work == work_judge || works[w].work == work_list_text || works[w].work == work_judge_texts)
-            printf(" %11zu", works[w].most - works[0].most);
+        for (size_t h = 0; h < sizeof by_holes / sizeof *by_holes; h++)
+            if (works[w].work == by_holes[h]) printf(" %11zu", works[w].most - works[0].most);
     printf("\n");
 }
 
@@ -210,7 +223,7 @@ static void make_sixteens(struct generator *generator) { sheet_make_pair(generat
 static void make_seventeens(struct generator *generator) { sheet_make_pair(generator, &surface, 17, 17, 0, 1); }
 
 static void print_kinds(struct generator *generator) {
-    printf("\n%-26s %11s %11s %11s %11s\n", "bytes by the holes", "patch", "judge", "list_text", "judge_texts");
+    printf("\n%-26s %11s %11s %11s %11s %11s %11s\n", "bytes by the holes", "patch", "chart", "judge", "list_text", "chart_text", "judge_texts");
     print_kind("none", generator, make_closed);
     print_kind("4", generator, make_fours);
     print_kind("6", generator, make_sixes);
@@ -251,6 +264,7 @@ int main(int argc, char **argv) {
     for (size_t file = 0; file_make(file, facets, &facets_length) != 0; file++) measure_all();
     for (size_t made = 0; made < count; made++) {
         if (made % 4 == 0) sheet_make_cones(&generator, &surface);
+        else if (made % 4 == 1) sheet_make_coasts(&generator, &surface);
         else generate_surface(&generator, &surface);
         measure_on(&generator);
     }

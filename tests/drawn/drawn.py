@@ -1,6 +1,7 @@
 #!/usr/bin/env python3
 """drawn.py ROOM: tries the pictures of the front that the command FRONT runs; see run."""
 import os
+import re
 import subprocess
 import sys
 import xml.etree.ElementTree as ElementTree
@@ -9,14 +10,17 @@ sys.path.insert(0, os.path.join(os.path.dirname(os.path.realpath(__file__)), '..
 from calls import HOME, Tally, front_of_caller, read, sheets_of, write  # noqa: E402
 from made import made, numbers_of  # noqa: E402
 from picture import NotWhole, SVG, View, panels_of, steps_of  # noqa: E402
-from records import STATES  # noqa: E402
+from records import KINDS, STATES, kinds_of  # noqa: E402
 
 EXAMPLES = f'{HOME}/examples'
 PICTURES = f'{HOME}/docs/pictures'
 MOST_BYTES = 300_000
 # in these no triangle pierces another, so it can be told at each spot which one is seen
 PLAIN = {'box', 'cube', 'cube-with-a-hole-behind', 'cube-without-its-lid', 'cube-with-two-holes', 'relief', 'many-holes', 'far', 'tall',
-         'cone', 'flat-relief', 'relief-at-2', 'relief-at-5', 'relief-at-10'}
+         'cone', 'flat-relief', 'relief-at-2', 'relief-at-5', 'relief-at-10', 'cube-with-holes-that-meet-behind', 'pools', 'shore'}
+# the signs before entries of the legend, by the word behind the count
+SIGNS = {'rim': ['rim seen'], 'tide': ['any seen', 'diamond'], 'lake': ['lake', 'any seen', 'core'], 'patched': ['p10', 'patched seen'],
+         'long': ['hatch', 'long seen'], 'open': ['hatch', 'open seen']}
 # with marks each loop of these has its number, though some are crowded
 ALL_NUMBERED = {'plate, oblique', 'range, oblique', 'relief of the examples, oblique', 'plate-crossed, oblique', 'islands, plan',
                 'many-holes, oblique', 'many-holes, plan', 'many-braced, plan', 'cube-with-two-holes, oblique'}
@@ -68,16 +72,25 @@ def plural(count, one, many):
     return f'{count} {one if count == 1 else many}'
 
 
-def states_told(listing):
-    """What the legend has to say of the states."""
+def loops_told(listing, kinds):
+    """What the legend has to say of the kinds and of the states."""
     count = {state: listing.states.count(state) for state in STATES.values()}
     texts = {
-        'rim': plural(count['rim'], 'rim', 'rims'),
         'patched': f"{count['patched']} patched with {plural(len(listing.patches), 'triangle', 'triangles')}",
         'long': f"{count['long']} long, LEFT OPEN",
         'open': f"{count['open']} open (no allowed cover), LEFT OPEN",
     }
-    return [text for state, text in texts.items() if count[state] > 0]
+    of_kinds = [(list(kinds.values()).count(kind), kind) for kind in KINDS.values()]
+    return [plural(many, kind, f'{kind}s') for many, kind in of_kinds if many] + [text for state, text in texts.items() if count[state] > 0]
+
+
+def kinds_named(text, listing):
+    """What each loop is, and the vertices of each where it meets the rim of its piece, if it is a tide pool, in its order."""
+    kinds = {loop: KINDS[kind] for loop, kind in kinds_of(text, listing.rings).items()}
+    rims = {listing.records[loop][1]: set(listing.rings[loop]) for loop, kind in kinds.items() if kind == 'rim'}
+    meetings = {loop: [vertex for vertex in listing.rings[loop] if vertex in rims[listing.records[loop][1]]] if kind == 'tide pool' else []
+                for loop, kind in kinds.items()}
+    return kinds, meetings
 
 
 def heights_told(points, triangles):
@@ -93,12 +106,16 @@ def heights_told(points, triangles):
     return (f'heights × {larger}' if larger > 1 else f'heights ÷ {smaller}' if smaller > 1 else None), larger, smaller
 
 
-def try_legend(tally, what, panel, listing, triangles, pitch, marked):
+def try_legend(tally, what, panel, listing, kinds, triangles, pitch, marked):
     entries = panel.texts('legend')
-    due = states_told(listing)
+    due = loops_told(listing, kinds)
+    for text, signs in panel.swatches().items():
+        if text in due:
+            tally.same(f'{what}, the sign of {text}', signs, SIGNS[text.split(' ')[1].rstrip('s,')])
     if not listing.states:
         due = ['no loops: the surface is closed' if triangles else 'no triangles, so no loops']
-    tally.same(f'{what}, the states of the legend', [text for text in entries if text[0].isdigit() or text.startswith('no ')], due)
+    told = [text for text in entries if text[0].isdigit() or text.startswith('no ')]
+    tally.same(f'{what}, the kinds and states of the legend', told, due)
     tally.same(f'{what}, hidden in the legend', 'hidden' in entries, any(loop.hidden for loop in panel.loops))
     if 'back side' in entries:
         tally.true(f'{what}, back sides', any(face.kind == 'b' for face in panel.faces), 'are in the legend, and none is drawn')
@@ -152,13 +169,16 @@ def try_panel(tally, what, panel, text, listing, plan, marked=False):
     tally.true(f'{what}, rings', all(loop.is_closed() for loop in panel.loops), 'are not closed by what is drawn')
     tally.true(f'{what}, sides', all(face.side_is_right() for face in panel.faces), 'some triangle has the tint of its other side')
     tally.true(f'{what}, places', panel.is_inside(), 'something lies outside of the panel')
+    kinds, meetings = kinds_named(text, listing)
     told = heights_told(points, triangles)
     tally.same(f'{what}, heights', panel.text('strong'), None if plan else told[0])
     tally.same(f'{what}, points', panel.dots, len(points) if not triangles or panel.has('all points lie in one place') else 0)
-    try_legend(tally, what, panel, listing, triangles, pitch, marked)
+    try_legend(tally, what, panel, listing, kinds, triangles, pitch, marked)
     try_numbers(tally, what, panel, listing)
     tally.true(f'{what}, size', not triangles or panel.fills_area(), 'is less than there is room for')
     view = view_of(points, triangles, listing, plan, told, panel)
+    tally.same(f'{what}, kinds', panel.kinds_wrong(kinds, meetings, view, 64 if marked else 40), [])
+    tally.same(f'{what}, numbers on diamonds', panel.numbers_on_diamonds(), [])
     if marked:
         try_marks(tally, what, panel, triangles, listing, view)
     else:
@@ -166,10 +186,12 @@ def try_panel(tally, what, panel, text, listing, plan, marked=False):
     if what.split(',')[0] in PLAIN and not marked:
         tally.same(f'{what}, what is seen', panel.painted_wrong(view), [])
         tally.same(f'{what}, what is hidden', panel.hidden_wrong(view, listing.rings), [])
+        tally.same(f'{what}, diamonds that are hidden', panel.hollow_wrong(view, meetings), [])
+    return {(loop.kind, loop.state) for loop in panel.loops} | {diamond.is_hollow for loop in panel.loops for diamond in loop.diamonds}
 
 
 def try_sheets(front, tally, room):
-    sheets = made()
+    sheets, met = made(), set()
     for name in sheets_of(EXAMPLES):
         stem = name[:-len('.sheet')]
         sheets[f'{stem} of the examples' if stem in sheets else stem] = read(f'{EXAMPLES}/{name}')
@@ -185,7 +207,9 @@ def try_sheets(front, tally, room):
             tally.same(f'{what}, status', drawn.status, 0)
             for panel in taken_apart(tally, what, drawn, 1):
                 tally.same(f'{what}, name', panel.title, path)
-                try_panel(tally, what, panel, text, listing, plan, marked)
+                met |= try_panel(tally, what, panel, text, listing, plan, marked)
+    due = {(kind, state) for kind in ('tide pool', 'lake') for state in ('patched', 'long', 'open')} | {('rim', 'rim'), True, False}
+    tally.same('the kinds and states that are drawn, and diamonds that are hollow and that are not', met, due)
 
 
 def spoilt(picture, spoil):
@@ -193,6 +217,14 @@ def spoilt(picture, spoil):
     root = ElementTree.fromstring(picture)
     (marks,) = (element for element in root.iter(f'{SVG}g') if element.get('class') == 'marks')
     spoil(marks)
+    return ElementTree.tostring(root)
+
+
+def spoilt_loops(picture, spoil):
+    """A picture whose loops, by their numbers, are spoilt."""
+    root = ElementTree.fromstring(picture)
+    loops = [element for element in root.iter(f'{SVG}g') if (element.get('class') or '').startswith('loop ')]
+    spoil({int(loop[0].text.split(' ')[1].rstrip(':')): loop for loop in loops})
     return ElementTree.tostring(root)
 
 
@@ -274,6 +306,87 @@ def try_wrong_marks(front, tally, room):
     tally.same('a number on a mark', panel.numbers_on_marks(), [(1, 1)])
 
 
+def exchange_loops(loops, one, other):
+    """Each of the two has the title and the class of the other, but for the number."""
+    (mine, rest), (others, more) = (loops[loop][0].text.split(': ') for loop in (one, other))
+    loops[one][0].text, loops[other][0].text = f'{mine}: {more}', f'{others}: {rest}'
+    classes = loops[one].get('class'), loops[other].get('class')
+    loops[other].set('class', classes[0])
+    loops[one].set('class', classes[1])
+
+
+# of the shore, where loops 0 and 1 are tide pools, 3 is a lake and 2, 4 and 5 are rims
+SPOILT_KINDS = {
+    'without a diamond': lambda loops: loops[0].remove(part(loops[0], 'diamond')),
+    'with two diamonds': lambda loops: loops[0].append(part(loops[0], 'diamond')),
+    'with a diamond of another': lambda loops: exchange([loops[0], loops[1]], 'diamond', 'd'),
+    'with a diamond at a lake': lambda loops: loops[3].append(part(loops[0], 'diamond')),
+    'with a diamond at a rim': lambda loops: loops[2].append(part(loops[0], 'diamond')),
+    'with a smaller diamond': lambda loops: part(loops[0], 'diamond').set('d', 'M100 100l2-2l2 2l-2 2z'),
+    'with a crooked diamond': lambda loops: part(loops[0], 'diamond').set('d', 'M100 100l4-4l4 4l-4 3z'),
+    'without a core': lambda loops: loops[3].remove(part(loops[3], 'core')),
+    'with a core in a tide pool': lambda loops: part(loops[0], 'seen').set('class', 'core'),
+    'with a core elsewhere': lambda loops: part(loops[3], 'core').set('d', part(loops[0], 'seen').get('d')),
+    'with kinds of each other': lambda loops: exchange_loops(loops, 0, 3),
+    'with the class of another kind': lambda loops: loops[3].set('class', 'loop patched pool'),
+}
+
+
+def is_found_out(picture, kinds, meetings, view):
+    try:
+        (panel,) = panels_of(picture, 1)
+    except NotWhole:
+        return True
+    return panel.kinds_wrong(kinds, meetings, view, 40) != []
+
+
+def try_wrong_kinds(front, tally, room):
+    """The trial of kinds itself: a sign that is missing, too many or elsewhere is found out."""
+    text = read(f'{EXAMPLES}/shore.sheet')
+    points, triangles, _ = numbers_of(text)
+    listing = Listing(front('list', '--quiet', f'{EXAMPLES}/shore.sheet').out)
+    kinds, meetings = kinds_named(text, listing)
+    tally.same('the kinds of the shore', [kinds[loop] for loop in range(6)], ['tide pool', 'tide pool', 'rim', 'lake', 'rim', 'rim'])
+    for plan in ([], ['--plan']):
+        drawn = front('draw', '--quiet', *plan, f'{EXAMPLES}/shore.sheet').out
+        (panel,) = panels_of(drawn, 1)
+        view = view_of(points, triangles, listing, bool(plan), heights_told(points, triangles), panel)
+        for how, spoil in [('as they are', lambda loops: None), *SPOILT_KINDS.items()]:
+            is_wrong = is_found_out(spoilt_loops(drawn, spoil), kinds, meetings, view)
+            tally.same(f'kinds {how}, {plan}', is_wrong, how != 'as they are')
+    # a number on a diamond, and a diamond that is hidden and is not
+    number, diamond = next((loop.number, loop.diamonds[0]) for loop in panel.loops if loop.diamonds)
+    panel.numbers[number] = diamond.at[0] / 10, diamond.at[1] / 10 + 3.2
+    tally.same('a number on a diamond', panel.numbers_on_diamonds(), [number])
+    diamond.is_hollow = True
+    tally.same('a diamond that is hollow and seen', [fault[0] for fault in panel.hollow_wrong(view, meetings)], [number])
+
+
+def luminance(colour):
+    """How light a colour is, from 0 to 1, as in a grey print."""
+    digits = [2 * digit for digit in colour] if len(colour) == 3 else [colour[i:i + 2] for i in (0, 2, 4)]
+    return sum(weight * int(each, 16) for weight, each in zip((0.299, 0.587, 0.114), digits)) / 255
+
+
+def try_grey(front, tally, room):
+    """What is told by a colour is told by a shape too: in grey the core of a lake is lighter than every line that it lies in, and narrower,
+    and the line of each state has dashes of its own."""
+    picture = front('draw', '--quiet', f'{EXAMPLES}/shore.sheet').out.decode()
+    rules = dict(re.findall(r'^(\.[^{\n]+)\{([^}]*)\}$', picture, re.MULTILINE))
+    style = {name: dict(each.split(':') for each in rule.split(';')) for name, rule in rules.items()}
+    core, diamond, dashes = style['.core'], style['.diamond'], set()
+    for state, own in (('patched', '.lake .seen'), ('long', '.lake.long .seen'), ('open', '.lake.open .seen')):
+        line = style[f'.{state}']
+        lighter = luminance(core['stroke'][1:]) - luminance(line['stroke'][1:])
+        is_narrow = 2 * float(core['stroke-width']) < float(style[own]['stroke-width'])
+        tally.true(f'the core of a lake that is {state}', lighter > 0.3 and is_narrow, (core, line, style[own]))
+        dashes.add(line.get('stroke-dasharray'))
+    tally.same('the dashes of the states', len(dashes), 3)
+    tally.true('the core goes with the dashes of its line', 'stroke-dasharray' not in core, core)
+    tally.true('a diamond', luminance(diamond['stroke'][1:]) - luminance(diamond['fill'][1:]) > 0.5 and style['.hollow']['fill'] == 'none',
+               (diamond, style['.hollow']))
+
+
 def try_names(front, tally, room):
     text = read(f'{EXAMPLES}/plate.sheet')
     folder = os.path.join(room, 'names')
@@ -335,7 +448,7 @@ def try_current(front, tally, room):
 
 tally = Tally('drawn')
 front = front_of_caller(tally)
-for trial in (try_current, try_sheets, try_wrong_marks, try_names, try_panels):
+for trial in (try_current, try_sheets, try_wrong_marks, try_wrong_kinds, try_grey, try_names, try_panels):
     before = tally.tried, tally.wrong
     trial(front, tally, sys.argv[1])
     print(f'drawn: {trial.__name__[4:]}: {tally.tried - before[0]} tried, {tally.wrong - before[1]} wrong', flush=True)

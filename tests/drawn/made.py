@@ -69,6 +69,20 @@ def wave(x, y):
     return (x * x * 7 + y * y * 5 + x * y * 3) % 23 + 9 * (x % 5) + 6 * (y % 7)
 
 
+def shore(across, along, step, height, pools, holes=(), braced=()):
+    """Such a plate with a tide pool at each of these places, odd numbers along its front: the two triangles before the place that have no
+    edge of the border are missing. Both diagonals of those that are braced are edges of upright triangles, so that they have no cover."""
+    points, triangles = plate(across, along, step, height, holes)
+    row = across + 1
+    for x in pools:
+        gone = [{x, row + x, row + x - 1}, {x, row + x, row + x + 1}]
+        triangles = [triangle for triangle in triangles if set(triangle) not in gone]
+        for ends in ((x, row + x), (row + x - 1, row + x + 1)) if x in braced else ():
+            points = points + [(x * step, step, height(x, 1) + 60 + ends[0])]
+            triangles = triangles + [(*ends, len(points) - 1)]
+    return points, triangles
+
+
 def with_more(sheet, points, triangles):
     """A sheet with further points, and triangles on these."""
     return sheet[0] + points, sheet[1] + [tuple(len(sheet[0]) + corner for corner in triangle) for triangle in triangles]
@@ -80,6 +94,7 @@ def made():
     corners = [(-far, -far, -far), (far, -far, far), (far, far, -far), (-far, far, far)]
     slit = {(x, 1) for x in range(1, 33)}
     braced = plate(20, 14, 30, wave, set(), {(x, y) for x in range(1, 19, 2) for y in range(1, 13, 2)})
+    lake = plate(6, 6, 40, lambda x, y: 3 * x, {(2, 2), (3, 2), (2, 3), (3, 3)})
     fan = [(0, 1, 2)] + [(0, k, k + 1) for k in range(2, 1023)]
     sheets = {
         'nothing': ([], []),
@@ -99,6 +114,14 @@ def made():
         'cube-with-a-hole-behind': (CUBE, CUBE_FACES[:6] + CUBE_FACES[7:]),
         'cube-without-its-lid': (CUBE, CUBE_FACES[:2] + CUBE_FACES[4:]),
         'cube-with-two-holes': (CUBE, CUBE_FACES[:1] + CUBE_FACES[2:11]),
+        'cube-with-holes-that-meet-behind': (CUBE, CUBE_FACES[1:6] + CUBE_FACES[7:]),
+        'pools': shore(12, 5, 40, wave, {3, 7, 11}, {(5, 2), (6, 2)}),
+        'many-pools': shore(40, 6, 40, wave, set(range(1, 40, 4)), {(x, 3) for x in range(1, 39, 3)}, {5, 9, 29}),
+        # a hole of 65 edges or more that meets the rim in a vertex
+        'long-pool': shore(36, 4, 40, wave, {17}, {(x, 1) for x in range(1, 35)}),
+        # a lake that the rim of another piece meets, and an island in it
+        'lake-met': (lake[0] + [(110, 90, 9), (90, 110, 9), (120, 120, 8), (140, 125, 8), (125, 140, 8)],
+                     lake[1] + [(16, 49, 50), (51, 52, 53)]),
         'relief': plate(16, 16, 40, wave, {(3, 3), (4, 3), (9, 9), (12, 4), (12, 12)}),
         'flat-relief': plate(6, 6, 1000, lambda x, y: (x + y) % 2, {(2, 2)}),
         'many-holes': plate(23, 23, 40, wave, {(x, y) for x in range(1, 23, 3) for y in range(1, 23, 3)}),

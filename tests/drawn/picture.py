@@ -54,14 +54,38 @@ class Face:
         return self.kind == 'p' or abs(self.area()) < 400 or (self.area() < 0) == (self.kind == 'b')
 
 
+class Diamond:
+    """The sign where a tide pool meets the rim of its piece: its middle, how far it reaches, and whether it is hollow."""
+
+    def __init__(self, path):
+        kind, lines = path.get('class'), steps_of(path.get('d'))
+        corners = [start for start, _ in lines] + [lines[-1][1]] if len(lines) == 3 else []
+        if kind not in ('diamond', 'diamond hollow') or not corners or not path.get('d').endswith('z'):
+            raise NotWhole(f'a diamond {path.attrib}')
+        (left, y), (x, top), (right, _), (_, bottom) = corners
+        self.at, self.size, self.is_hollow = (x, y), x - left, kind == 'diamond hollow'
+        if corners != [(x - self.size, y), (x, y - self.size), (x + self.size, y), (x, y + self.size)]:
+            raise NotWhole(f'a diamond {path.attrib}')
+
+
 class Loop:
+    """A loop: what its title tells of it, the lines of its ring as they are seen and hidden, the core of its line, and its diamonds."""
+
+    CLASSES = {'rim': '', 'tide pool': ' pool', 'lake': ' lake'}
+
     def __init__(self, element):
-        told = re.fullmatch(r'loop (\d+): (\w+), (\d+) edges', element[0].text)
-        paths = {path.get('class').split()[0]: steps_of(path.get('d')) for path in element[1:]}
-        if not told or element.get('class') != f'loop {told[2]}' or set(paths) - {'hatch', 'casing', 'seen', 'hidden'}:
+        told = re.fullmatch(r'loop (\d+): (rim|(tide pool|lake), (patched|long|open)), (\d+) edges', element[0].text)
+        if not told:
             raise NotWhole(f'a loop {element.attrib}, {element[0].text}')
-        self.number, self.state, self.length = int(told[1]), told[2], int(told[3])
-        self.seen, self.hidden = paths.get('seen', []), paths.get('hidden', [])
+        self.number, self.kind, self.state, self.length = int(told[1]), told[3] or 'rim', told[4] or 'rim', int(told[5])
+        names = [path.get('class').split()[0] for path in element[1:]]
+        paths = {name: steps_of(path.get('d')) for name, path in zip(names, element[1:]) if name != 'diamond'}
+        is_once = len(paths) == sum(name != 'diamond' for name in names)
+        if element.get('class') != f'loop {self.state}{self.CLASSES[self.kind]}' or not is_once or \
+                set(paths) - {'hatch', 'casing', 'seen', 'core', 'hidden'}:
+            raise NotWhole(f'a loop {element.attrib}, {element[0].text}, {names}')
+        self.seen, self.hidden, self.core = (paths.get(name, []) for name in ('seen', 'hidden', 'core'))
+        self.diamonds = [Diamond(path) for name, path in zip(names, element[1:]) if name == 'diamond']
 
     def is_closed(self):
         """Whether as many lines go to each place as go from it, and there are as many as the ring has edges, or more."""
@@ -135,10 +159,46 @@ class Panel:
     def has(self, message):
         return any(child.text == message for child in self.element.iter(f'{SVG}text') if child.get('class') == 'message')
 
+    def swatches(self):
+        """The classes of the signs that stand before each entry of the legend."""
+        found, signs = {}, []
+        for child in self.group('legend'):
+            if child.tag == f'{SVG}text':
+                found[child.text], signs = signs, []
+            else:
+                signs = [part.get('class') for part in child.iter() if part.get('class')]
+        return found
+
     def states(self):
         if len({loop.number for loop in self.loops}) < len(self.loops):
             return 'a loop is drawn twice'
         return {loop.number: loop.state for loop in self.loops}
+
+    def kinds_wrong(self, kinds, meetings, view, size):
+        """What is wrong with the signs of the loops' kinds, by these, by the vertices where each meets the rim of its piece, and by the
+        view, if there is one; diamonds are so large."""
+        wrong = []
+        for loop in self.loops:
+            at = [diamond.at for diamond in loop.diamonds]
+            if loop.kind != kinds[loop.number]:
+                wrong.append((loop.number, 'is told as', loop.kind))
+            if loop.core != (loop.seen if loop.kind == 'lake' else []):
+                wrong.append((loop.number, 'has the core', loop.core))
+            if len(at) != len(meetings[loop.number]) or any(diamond.size != size for diamond in loop.diamonds):
+                wrong.append((loop.number, 'has diamonds at', at))
+            elif view and not all(view.is_at(point, place) for point, place in zip(meetings[loop.number], at)):
+                wrong.append((loop.number, 'has diamonds elsewhere, at', at))
+        return wrong[:3]
+
+    def hollow_wrong(self, view, meetings):
+        """Diamonds that are hollow and seen, or the other way round; those at an edge of what hides them are not judged."""
+        drawn, wrong = view.faces_of(self.faces) or [], []
+        for loop in self.loops:
+            for point, diamond in zip(meetings[loop.number], loop.diamonds):
+                surely, maybe = (is_covered(drawn, view.spots[point], within) for within in (WITHIN, -WITHIN))
+                if (surely and not diamond.is_hollow) or (not maybe and diamond.is_hollow):
+                    wrong.append((loop.number, point, diamond.is_hollow))
+        return wrong[:3]
 
     def set_numbers(self):
         self.numbers, self.flags = {}, []
@@ -157,6 +217,7 @@ class Panel:
     def is_inside(self):
         places = [corner for face in self.faces for corner in face.corners]
         places += [end for loop in self.loops for line in loop.seen + loop.hidden for end in line]
+        places += [diamond.at for loop in self.loops for diamond in loop.diamonds]
         places += [end for mark in self.marks for line in mark.lines for end in line]
         for child in self.group('numbers') + self.group('legend'):
             if child.tag == f'{SVG}text':
@@ -218,6 +279,12 @@ class Panel:
             elif view and not (view.is_at(begin, mark.ends[0]) and view.is_at(end, mark.ends[1])):
                 wrong.append((mark.number, 'is drawn at', mark.ends))
         return wrong[:3]
+
+    def numbers_on_diamonds(self):
+        """The numbers that lie on a diamond."""
+        return [number for number, (x, y) in self.numbers.items() for loop in self.loops for diamond in loop.diamonds
+                if abs(10 * x - diamond.at[0]) < diamond.size + (52 * len(str(number)) + 10) / 2 - 1
+                and abs(10 * y - 32 - diamond.at[1]) < diamond.size + 42 - 1]
 
     def numbers_on_marks(self):
         """The numbers that lie on a mark."""

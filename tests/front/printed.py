@@ -1,12 +1,16 @@
-"""What list, check and rewrite print: byte for byte what the proved programs print."""
+"""What list, check, rewrite and report --entries print: byte for byte what the proved programs print."""
 import os
 import shlex
 import shutil
 import subprocess
 
 from calls import HOME, LONGEST_SET, LONGEST_SHEET, read, sheets_of, write
+from records import entries_printed
 
 KINDS = ('list', 'check', 'rewrite')
+# the programs that print what each command does, and its options for that
+PROGRAMS = {'list': 'listing', 'check': 'judging', 'rewrite': 'rewriting', 'report': 'charting'}
+OPTIONS = {'report': ['--entries']}
 
 
 class Case:
@@ -15,7 +19,8 @@ class Case:
     def __init__(self, sheet, patches, listing, verdict, rewritten):
         self.sheet = sheet
         self.patches = patches if os.path.exists(patches) else None
-        self.due = {'list': listing, 'check': verdict, 'rewrite': rewritten}
+        self.due = {'list': listing, 'check': verdict, 'rewrite': rewritten,
+                    'report': entries_printed(read(os.path.join(HOME, sheet)), listing)}
 
     def beside(self):
         return os.fsencode(self.sheet)
@@ -58,7 +63,7 @@ def status_of(printed):
 
 def try_together(front, tally, kind, cases, options=()):
     """All cases in one call: the outputs are parted by lines that name them."""
-    got = front(kind, *options, *(case.sheet for case in cases))
+    got = front(kind, *OPTIONS.get(kind, []), *options, *(case.sheet for case in cases))
     at = 0
     for case in cases:
         due = b'# ' + case.beside() + b'\n' + case.due[kind]
@@ -74,13 +79,14 @@ def try_together(front, tally, kind, cases, options=()):
 def try_alone(front, tally, case):
     """One case in single calls: by its name, and by standard input as a pipe and as a file."""
     sheet = read(os.path.join(HOME, case.sheet))
-    for kind in ('list', 'rewrite'):
+    for kind in ('list', 'rewrite', 'report'):
+        options = OPTIONS.get(kind, [])
         due = (status_of(case.due[kind]), case.due[kind])
         for names, given in (([case.sheet], None), (['-'], sheet), ([], sheet)):
-            got = front(kind, *names, given=given)
+            got = front(kind, *options, *names, given=given)
             tally.same(f'{kind} {names}, {case.sheet}', (got.status, got.out), due)
         with open(os.path.join(HOME, case.sheet), 'rb') as file:
-            got = front(kind, '--quiet', '-', stdin=file)
+            got = front(kind, *options, '--quiet', '-', stdin=file)
         tally.same(f'{kind} of a file as standard input, {case.sheet}', (got.status, got.out), due)
     due = (status_of(case.due['check']), case.due['check'])
     patches = case.patches or '/dev/null'
@@ -107,10 +113,10 @@ def try_programs(front, tally, case, room):
     os.mkdir(folder)
     if case.patches:
         shutil.copy(case.patches, os.path.join(folder, 'patches'))
-    for kind, program in zip(KINDS, ('listing', 'judging', 'rewriting')):
+    for kind, program in PROGRAMS.items():
         with open(os.path.join(HOME, case.sheet), 'rb') as sheet:
             ran = subprocess.run(programs() + [f'{HOME}/target/bin/{program}'], stdin=sheet, stdout=subprocess.PIPE, cwd=folder)
-        names = [case.sheet] + ([case.patches or '/dev/null'] if kind == 'check' else [])
+        names = OPTIONS.get(kind, []) + [case.sheet] + ([case.patches or '/dev/null'] if kind == 'check' else [])
         tally.same(f'{kind} against the program {program}, {case.sheet}', front(kind, *names).out, ran.stdout)
 
 
@@ -133,7 +139,8 @@ def try_longest(front, tally, room):
             files[name + what] = write(os.path.join(room, name + what), changed)
     for arguments, answer in ((['list', 'sheet'], '6,3'), (['list', 'sheet and a byte'], '10,2052'),
                               (['list', 'sheet without its end'], '10,2051'), (['rewrite', 'sheet and a byte'], '10,2052'),
-                              (['rewrite', 'sheet without its end'], '10,2051'),
+                              (['rewrite', 'sheet without its end'], '10,2051'), (['report', 'sheet'], '6,3'),
+                              (['report', 'sheet and a byte'], '10,2052'), (['report', 'sheet without its end'], '10,2051'),
                               (['check', 'sheet', 'set'], '6,3'), (['check', 'sheet', 'set and a byte'], '10,6150'),
                               (['check', 'sheet', 'set without its end'], '10,6149'), (['check', 'sheet and a byte', 'set'], '10,2052'),
                               (['check', 'small', 'set'], '9,2'), (['check', 'small', 'set and a byte'], '10,4113')):
@@ -150,6 +157,7 @@ def try_printed(front, tally, room):
     for cases in (named, made, shown):
         try_together(front, tally, 'list', cases)
         try_together(front, tally, 'rewrite', cases)
+        try_together(front, tally, 'report', cases)
         try_together(front, tally, 'check', [case for case in cases if case.patches], ['--beside'])
     for case in named + made:
         if not case.patches:

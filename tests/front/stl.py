@@ -176,16 +176,26 @@ def try_made(bench):
         try_as_text(bench, name, data)
 
 
+def report_of_facets(made, of_text):
+    """The report in words of a file, by that of its text: it begins with what the file holds, and speaks of facets."""
+    return made.split(b': ', 2)[2] + b': ' + of_text.replace(b' of triangle ', b' of facet ')
+
+
 def try_as_text(bench, name, data):
-    """Objects and pictures of part.stl are those of part.sheet, but for the name and for what is said of facets; so is what is said."""
-    for options in ([], ['--patches']):
-        objects = [json.loads(bench.call('list', '--json', *options, f'part.{ending}').out) for ending in ('stl', 'sheet')]
+    """Objects, reports and pictures of part.stl are those of part.sheet, but for the name and for what is said of facets; so is what is
+    said."""
+    for options in (['list'], ['list', '--patches'], ['report']):
+        objects = [json.loads(bench.call(*options, '--json', f'part.{ending}').out) for ending in ('stl', 'sheet')]
         points, facets = counts_of(imported(data))
         bench.tally.same(f'the object of {name}: stl', objects[0].pop('stl', None), {'facets': facets, 'points': points})
         for found in objects:
             del found['file']
             found.pop('explanation', None)
         bench.tally.same(f'the object of {name}', objects[0], objects[1])
+    reports = [bench.call('report', '-q', *options, f'part.{ending}').out for options in ([], ['--entries']) for ending in ('stl', 'sheet')]
+    if not reports[1].startswith(b'answer='):
+        reports[1] = report_of_facets(made_of('part.stl', imported(data)), reports[1])
+    bench.tally.same(f'the reports of {name}', reports[::2], reports[1::2])
     pictures = [bench.call('draw', *options, f'part.{ending}').out for options in ([], ['--plan'], ['--loops'])
                 for ending in ('stl', 'sheet')]
     for one, other in zip(pictures[::2], pictures[1::2]):
@@ -330,7 +340,7 @@ def try_several(bench):
     bench.write('ascii.stl', b'solid x\nendsolid x\n')
     bench.write('plate.sheet', read(f'{HOME}/examples/plate.sheet'))
     kinds = {'part.stl': 0, 'plate.sheet': 0, 'cut.stl': 1, 'ascii.stl': 1, 'missing.stl': 2}
-    for command in ('list', 'rewrite', 'draw', 'import'):
+    for command in ('list', 'report', 'rewrite', 'draw', 'import'):
         for names in (['part.stl', 'plate.sheet'], ['part.stl', 'cut.stl'], ['missing.stl', 'part.stl', 'cut.stl'], ['ascii.stl'],
                       list(kinds)):
             # only a file of facets is imported
@@ -432,6 +442,9 @@ def try_pitched_as_text(bench, name, text, pitch):
     loops = bench.call('list', '--loops', sheet).err.partition(b': pitch %d: ' % pitch if pitch != 1 else b'.sheet: ')[2]
     loops = loops.replace(b' of triangle ', b' of facet ')
     bench.tally.same(f'what is said of {name} at pitch {pitch}', said, made_of(name, text) + b': ' + loops)
+    got, of_text = bench.call('report', option, name), bench.call('report', sheet).out
+    due = report_of_facets(made_of(name, text), of_text.removeprefix(b'pitch %d: ' % pitch))
+    bench.tally.same(f'report of {name} at pitch {pitch}', (got.status, got.out, got.err), (0, due, b''))
     got = bench.call('check', '-q', option, name, patches)
     bench.tally.same(f'check of {name} at pitch {pitch}', (got.status, got.out, got.err), (0, b'answer=0,0\n', b''))
     # the lines of a set are counted on from the text's last

@@ -10,7 +10,7 @@ from calls import HOME, read, write
 from facets import imported
 from records import lines_said, loops_of
 
-COMMANDS = ('list', 'check', 'rewrite', 'import', 'draw', 'example')
+COMMANDS = ('list', 'report', 'check', 'rewrite', 'import', 'draw', 'example')
 NO_SHEET = b'wazelpunt: no sheet is given; name a file, or - for standard input\n'
 NO_FILE = NO_SHEET.replace(b'sheet', b'STL file')
 
@@ -101,16 +101,22 @@ def try_wrong_use(bench):
     for arguments in (('rewrite', '--json'), ('rewrite', '--closed'), ('rewrite', '--patches'), ('rewrite', '--plan'), ('list', '--plan'),
                       ('list', '--beside'), ('check', '--plan'), ('check', '--json', '--patches'), ('draw', '--json'), ('draw', '--closed'),
                       ('draw', '--beside'), ('example', '--json'), ('example', '--closed'), ('import', '--json'), ('import', '--closed'),
-                      ('import', '--plan'), ('check', '--loops'), ('rewrite', '--loops'), ('import', '--loops'), ('example', '--loops')):
+                      ('import', '--plan'), ('check', '--loops'), ('rewrite', '--loops'), ('import', '--loops'), ('example', '--loops'),
+                      ('report', '--loops'), ('report', '--closed'), ('report', '--plan'), ('report', '--beside'),
+                      ('report', '--json', '--patches'), ('list', '--entries'), ('check', '--entries'), ('rewrite', '--entries'),
+                      ('import', '--entries'), ('draw', '--entries'), ('example', '--entries')):
         bench.wrong_use(*arguments, 'plate.sheet' if arguments[0] != 'example' else 'patches', says=[arguments[-1].encode()])
     # patches are told in objects alone
     bench.wrong_use('list', '--patches', 'plate.sheet', says=[b'--patches', b'--json'])
+    # and entries are no object
+    for options in (('--entries', '--json'), ('--json', '--entries', '-q')):
+        bench.wrong_use('report', *options, 'plate.sheet', says=[b'report: --entries', b'--json'])
     bench.wrong_use('check', 'plate.sheet', 'plate.patches', 'open.sheet', says=[b'--beside'])
     bench.wrong_use('check', '-', '-', given=bench.plate)
     bench.wrong_use('check', '-', given=bench.plate)
     bench.wrong_use('check', '--beside', '-', given=bench.plate)
     bench.wrong_use('check', '--beside', '-', 'plate.sheet', '-', given=bench.plate)
-    for name in ('list', 'rewrite', 'import', 'draw'):
+    for name in ('list', 'report', 'rewrite', 'import', 'draw'):
         bench.wrong_use(name, '-', '-', given=bench.plate)
         bench.wrong_use(name, '-', 'plate.sheet', '-', given=bench.plate)
     bench.wrong_use('example', 'plate')
@@ -120,7 +126,7 @@ def try_wrong_use(bench):
 def try_wrong_pitches(bench):
     """A pitch that is none is told with the four that there are, before anything is read; and a sheet's text takes none from outside."""
     four = b'pitches are 1, 2, 5 and 10'
-    for command in ('list', 'check', 'rewrite', 'import', 'draw'):
+    for command in ('list', 'report', 'check', 'rewrite', 'import', 'draw'):
         for value in ('3', '0', '', '-5', '05', '+5', '5 ', '5.0', 'five', '20', '100', '15', '4294967297', '--', '--quiet', 'box.stl'):
             bench.wrong_use(command, '--pitch', value, 'box.stl', says=[f'--pitch {value}'.encode(), four])
             bench.wrong_use(command, 'box.stl', f'--pitch={value}', says=[four])
@@ -142,9 +148,9 @@ def try_wrong_pitches(bench):
            b'or no such line for 1')
     for name, pitch in (('plate.sheet', '1'), ('plate.sheet', '5'), ('schoolroom.sheet', '5'), ('schoolroom.sheet', '1'),
                         ('refused.sheet', '2')):
-        for command in ('list', 'check', 'rewrite', 'draw'):
+        for command in ('list', 'report', 'check', 'rewrite', 'draw'):
             bench.wrong_use(command, '--pitch', pitch, name, says=[name.encode() + b': ' + own])
-        for command in ('list', 'rewrite', 'draw'):
+        for command in ('list', 'report', 'rewrite', 'draw'):
             text = read(f'{bench.folder}/{name}')
             bench.wrong_use(command, '--pitch', pitch, '-', given=text, says=[b'standard input: ' + own])
             bench.wrong_use(command, '--pitch', pitch, given=text, says=[b'standard input: ' + own])
@@ -208,7 +214,7 @@ def try_sample(bench):
     bench.right_use(read(f'{HOME}/examples/plate.sheet'), 'example')
     bench.right_use(read(f'{HOME}/examples/plate.patches'), 'example', 'patches')
     # nothing is taken unasked: what is given is an empty text
-    for name in ('list', 'rewrite'):
+    for name in ('list', 'report', 'rewrite'):
         got = bench.status(1, name)
         bench.tally.same(f'{name} of nothing', got.out, b'answer=10,1\n')
     got = bench.status(1, 'import')
@@ -226,6 +232,9 @@ def try_order(bench):
     bench.tally.same('outputs and messages in one', got.out, plate + b'# refused.sheet\nanswer=10,3\n' + refusal + plate)
     got = bench.call('list', 'plate.sheet', stderr=subprocess.STDOUT)
     bench.tally.same('an output and its message in one', got.out, bench.listing + said)
+    words = b'# plate.sheet\n' + bench.call('report', 'plate.sheet').out
+    got = bench.call('report', 'plate.sheet', 'refused.sheet', 'plate.sheet', stderr=subprocess.STDOUT)
+    bench.tally.same('reports and messages in one', got.out, words + b'# refused.sheet\nanswer=10,3\n' + refusal + words)
 
 
 def try_statuses(bench):
@@ -247,6 +256,8 @@ def try_statuses(bench):
             due = min((kinds[name] for name in names), key=(2, 1, 3, 0).index) % 3
             bench.status(due, 'rewrite', *names)
             bench.status(due, 'draw', *names)
+            for options in ([], ['--entries'], ['--json']):
+                bench.status(due, 'report', *options, *names)
 
 
 def try_check_statuses(bench):
@@ -337,7 +348,7 @@ def on_a_terminal(bench, *arguments, typed=b'\x04'):
 
 
 def try_terminal(bench):
-    for name, said in (('list', NO_SHEET), ('rewrite', NO_SHEET), ('draw', NO_SHEET), ('import', NO_FILE)):
+    for name, said in (('list', NO_SHEET), ('report', NO_SHEET), ('rewrite', NO_SHEET), ('draw', NO_SHEET), ('import', NO_FILE)):
         for options in ((), ('--quiet',)):
             got = on_a_terminal(bench, name, *options)
             bench.tally.same(f'{name} on a terminal', (got.status, got.out, got.err), (2, b'', said))

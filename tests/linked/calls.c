@@ -1,7 +1,7 @@
 /* calls LIBRARY SHEET PATCHES: loads the shared library and calls each of its functions by the header's declaration, on the texts of
    examples/plate: with lent buffers that are as long as the header's factors say and not a number longer, with each of them a number
-   shorter, with nothing at all, and at each pitch. The plate is made a file of facets besides, and so is the largest surface. Records are
-   read out of numbers of any length by the header's own function. */
+   shorter, with nothing at all, and at each pitch. The plate is made a file of facets besides, and so is the largest surface. Records and
+   entries are read out of numbers of any length by the header's own functions. */
 #include <dlfcn.h>
 #include <stdio.h>
 #include <string.h>
@@ -26,11 +26,13 @@ static void expect(const char *what, int holds)
 static __typeof__(wazelpunt_coordinate) *coordinate;
 static __typeof__(wazelpunt_survey) *survey;
 static __typeof__(wazelpunt_patch) *patch;
+static __typeof__(wazelpunt_chart) *chart;
 static __typeof__(wazelpunt_judge) *judge;
 static __typeof__(wazelpunt_read) *read_sheet;
 static __typeof__(wazelpunt_read_set) *read_set;
 static __typeof__(wazelpunt_write) *write_sheet;
 static __typeof__(wazelpunt_list_text) *list_text;
+static __typeof__(wazelpunt_chart_text) *chart_text;
 static __typeof__(wazelpunt_judge_texts) *judge_texts;
 static __typeof__(wazelpunt_rewrite_text) *rewrite_text;
 static __typeof__(wazelpunt_read_stl) *read_stl;
@@ -54,11 +56,13 @@ static int load(const char *path)
     FIND("wazelpunt_coordinate", coordinate);
     FIND("wazelpunt_survey", survey);
     FIND("wazelpunt_patch", patch);
+    FIND("wazelpunt_chart", chart);
     FIND("wazelpunt_judge", judge);
     FIND("wazelpunt_read", read_sheet);
     FIND("wazelpunt_read_set", read_set);
     FIND("wazelpunt_write", write_sheet);
     FIND("wazelpunt_list_text", list_text);
+    FIND("wazelpunt_chart_text", chart_text);
     FIND("wazelpunt_judge_texts", judge_texts);
     FIND("wazelpunt_rewrite_text", rewrite_text);
     FIND("wazelpunt_read_stl", read_stl);
@@ -87,6 +91,7 @@ static uint16_t corners[C], set_states[2], set_corners[3];
 static int32_t grid[WAZELPUNT_GRID_FOR(W)];
 static uint16_t rings[WAZELPUNT_RINGS_FOR(C)], lengths[WAZELPUNT_LENGTHS_FOR(C)], patches[WAZELPUNT_PATCHES_FOR(C)];
 static uint64_t records[WAZELPUNT_RECORDS_FOR(C)];
+static uint16_t report[WAZELPUNT_REPORT_FOR(C)];
 static size_t place, first, second, third;
 
 /* The pitch at which everything is called, and what reading leaves. */
@@ -110,6 +115,15 @@ static uint32_t patch_with(int less, size_t numbers)
 
 static uint32_t do_patch(int less) { return patch_with(less, but(LENGTH(records), 3, less)); }
 
+/* With so many numbers of the report. */
+static uint32_t chart_with(int less, size_t numbers)
+{
+    return chart(words, W, corners, C, grid, but(LENGTH(grid), 1, less), rings, but(LENGTH(rings), 2, less), records,
+                 but(LENGTH(records), 3, less), report, numbers, &place, &first, &second, &third, pitch);
+}
+
+static uint32_t do_chart(int less) { return chart_with(less, but(LENGTH(report), 4, less)); }
+
 static uint32_t do_judge(int less)
 {
     return judge(words, W, corners, C, set_states, LENGTH(set_states), set_corners, LENGTH(set_corners), grid, but(LENGTH(grid), 1, less),
@@ -129,10 +143,11 @@ static uint32_t do_read_set(int less)
                     &place, &first, &second);
 }
 
-static uint8_t written[WAZELPUNT_SHEET_BYTES], listing[WAZELPUNT_LISTING_BYTES], answer[WAZELPUNT_ANSWER_BYTES];
+static uint8_t written[WAZELPUNT_SHEET_BYTES], listing[WAZELPUNT_LISTING_BYTES], charted[WAZELPUNT_REPORT_BYTES], answer[WAZELPUNT_ANSWER_BYTES];
 
 static uint32_t do_write(int less) { return write_sheet(words, W, corners, C, written, but(sheet_length, 1, less), &place, &first, pitch); }
 static uint32_t do_list(int less) { return list_text(sheet, sheet_length, listing, but(LENGTH(listing), 1, less), &place, &first); }
+static uint32_t do_chart_text(int less) { return chart_text(sheet, sheet_length, charted, but(LENGTH(charted), 1, less), &place, &first); }
 static uint32_t do_rewrite(int less) { return rewrite_text(sheet, sheet_length, written, but(LENGTH(written), 1, less), &place, &first); }
 static uint32_t do_judge_texts(int less)
 {
@@ -166,6 +181,7 @@ static void mark_lent(void)
     memset(rings, 0x77, sizeof rings);
     memset(records, 0x77, sizeof records);
     memset(patches, 0x77, sizeof patches);
+    memset(report, 0x77, sizeof report);
 }
 
 static int is_marked(const void *numbers, size_t used, size_t size)
@@ -176,12 +192,24 @@ static int is_marked(const void *numbers, size_t used, size_t size)
     return 1;
 }
 
-/* Whether the patcher's buffers are as they were behind so much of each. */
-static int stays_behind(size_t words_used, size_t vertices_used, size_t loops_used, size_t laid_used)
+/* Whether the buffers that patching and charting share are as they were behind so much of each. */
+static int stays_behind_both(size_t words_used, size_t vertices_used, size_t loops_used)
 {
     return is_marked(grid, words_used * sizeof grid[0], sizeof grid) && is_marked(rings, vertices_used * sizeof rings[0], sizeof rings)
-        && is_marked(records, loops_used * sizeof(struct wazelpunt_record), sizeof records)
-        && is_marked(patches, laid_used * sizeof patches[0], sizeof patches);
+        && is_marked(records, loops_used * sizeof(struct wazelpunt_record), sizeof records);
+}
+
+/* Whether the patcher's buffers are. */
+static int stays_behind(size_t words_used, size_t vertices_used, size_t loops_used, size_t laid_used)
+{
+    return stays_behind_both(words_used, vertices_used, loops_used) && is_marked(patches, laid_used * sizeof patches[0], sizeof patches);
+}
+
+/* Whether those of charting are. */
+static int stays_behind_entries(size_t words_used, size_t vertices_used, size_t loops_used, size_t entries_used)
+{
+    return stays_behind_both(words_used, vertices_used, loops_used)
+        && is_marked(report, entries_used * sizeof(struct wazelpunt_entry), sizeof report);
 }
 
 /* What the patcher leaves of a surface with two loops stays as it was behind their records, and all of it where it is refused: records that
@@ -205,6 +233,51 @@ static void call_patch(void)
         mark_lent();
         expect("short records", patch_with(0, short_records[s]) == WAZELPUNT_BUFFER && place == 3 && stays_behind(0, 0, 0, 0));
         expect("are told before short patches", patch_with(4, short_records[s]) == WAZELPUNT_BUFFER && place == 3);
+    }
+}
+
+/* Whether an entry of the report is that. */
+static int is_entry(size_t entry, uint16_t kind, uint16_t number)
+{
+    struct wazelpunt_entry told = wazelpunt_entry_at(report, LENGTH(report), entry);
+    return told.kind == kind && told.number == number;
+}
+
+/* The plate is one piece with a rim and a lake. What charting leaves stays as it was behind its entries, and all of it where it is refused:
+   a report that is long enough for an entry a triangle is not long enough. */
+static void call_chart(void)
+{
+    static const size_t short_reports[] = {0, 1, 2 * T, 2 * T + 1, 3 * T, 4 * T - 1};
+    uint64_t kept[LENGTH(records)];
+    mark_lent();
+    expect("patched again", do_patch(0) == 0);
+    memcpy(kept, records, sizeof kept);
+    mark_lent();
+    expect("charted", do_chart(0) == 0 && stays_behind_entries(W, 6, 2, 3));
+    expect("two loops and three entries", first == 2 && second == 6 && third == 3);
+    expect("a piece, its rim and its lake",
+           is_entry(0, WAZELPUNT_ENTRY_PIECE, 0) && is_entry(1, WAZELPUNT_ENTRY_RIM, 0) && is_entry(2, WAZELPUNT_ENTRY_LAKE, 1));
+    expect("the grid and the rings", grid[3] == 30 && grid[17] == 0 && rings[2] == 2 && rings[3] == 4 && rings[5] == 5);
+    expect("the patcher's records", memcmp(records, kept, sizeof kept) == 0);
+    expect("no patches", is_marked(patches, 0, sizeof patches));
+    /* the hole reaches corner 2 of the plate where its fourth triangle is left out */
+    memmove(corners + 9, corners + 12, 6 * sizeof corners[0]);
+    mark_lent();
+    expect("a hole at the rim", chart(words, W, corners, C - 3, grid, LENGTH(grid), rings, LENGTH(rings), records, LENGTH(records), report,
+                                      LENGTH(report), &place, &first, &second, &third, pitch) == 0 && stays_behind_entries(W, 7, 2, 3));
+    expect("is a tide pool",
+           is_entry(0, WAZELPUNT_ENTRY_PIECE, 0) && is_entry(1, WAZELPUNT_ENTRY_RIM, 1) && is_entry(2, WAZELPUNT_ENTRY_POOL, 0));
+    do_read(0);
+    for (int less = 1; less <= 4; less++) {
+        mark_lent();
+        place = first = second = third = 77;
+        expect("a short buffer", do_chart(less) == WAZELPUNT_BUFFER && place == (size_t)less && stays_behind_entries(0, 0, 0, 0));
+        expect("no counts then", first == 0 && second == 0 && third == 0);
+    }
+    for (size_t s = 0; s < LENGTH(short_reports); s++) {
+        mark_lent();
+        expect("a short report", chart_with(0, short_reports[s]) == WAZELPUNT_BUFFER && place == 4 && stays_behind_entries(0, 0, 0, 0));
+        expect("is told behind short records", chart_with(3, short_reports[s]) == WAZELPUNT_BUFFER && place == 3);
     }
 }
 
@@ -255,6 +328,28 @@ static void read_records(void)
     }
 }
 
+/* Whether the entry at that place of so many numbers, which are 100 and on, is its own two, or none where it is not wholly there. */
+static int is_read_entry(const uint16_t *numbers, size_t count, size_t entry)
+{
+    struct wazelpunt_entry told = wazelpunt_entry_at(numbers, count, entry);
+    if (entry >= count / 2) return told.kind == WAZELPUNT_ENTRY_NOTHING && told.number == 0;
+    return told.kind == 100 + 2 * entry && told.number == 101 + 2 * entry;
+}
+
+static void read_entries(void)
+{
+    uint16_t numbers[9];
+    for (size_t i = 0; i < LENGTH(numbers); i++) numbers[i] = (uint16_t)(100 + i);
+    expect("an entry is two numbers", sizeof(struct wazelpunt_entry) == 2 * sizeof(uint16_t) && WAZELPUNT_ENTRY == 2);
+    expect("and aligned as they are", _Alignof(struct wazelpunt_entry) == _Alignof(uint16_t));
+    for (size_t count = 0; count <= LENGTH(numbers); count++) {
+        for (size_t entry = 0; entry < 6; entry++) expect("an entry that is there, or nothing", is_read_entry(numbers, count, entry));
+        expect("nothing at the greatest numbers", is_read_entry(numbers, count, SIZE_MAX) && is_read_entry(numbers, count, SIZE_MAX / 2)
+                                                      && is_read_entry(numbers, count, SIZE_MAX / 2 + 1));
+    }
+    expect("out of as many numbers as can be", is_read_entry(numbers, SIZE_MAX, 3));
+}
+
 static int holds(const uint8_t *bytes, size_t count, const char *due) { return count == strlen(due) && memcmp(bytes, due, count) == 0; }
 
 static void call_numbers(void)
@@ -267,6 +362,8 @@ static void call_numbers(void)
     expect("their rings, and the grid", rings[2] == 2 && rings[3] == 4 && rings[5] == 5 && grid[3] == 30 && grid[17] == 0);
     fits("patch", do_patch, 4);
     call_patch();
+    fits("chart", do_chart, 4);
+    call_chart();
     fits("read_set", do_read_set, 2);
     expect("two states and three corners are read", first == 2 && second == 3 && set_states[0] == 4 && set_corners[1] == 5);
     fits("judge", do_judge, 3);
@@ -284,10 +381,13 @@ static void call_texts(void)
     fits("list_text", do_list, 1);
     expect("its listing", holds(listing, first, "answer=0,0\nloops=2\nloop=3,4,0,0,0,120\nring=0,1,2\nloop=3,1,100,4,0,40\nring=4,3,5\n"
                                              "patch=4,5,3\n"));
+    fits("chart_text", do_chart_text, 1);
+    expect("its report", holds(charted, first, "answer=0,0\nentries=3\nentry=0,0\nentry=1,0\nentry=3,1\n"));
     fits("judge_texts", do_judge_texts, 1);
     expect("its answer", holds(answer, first, "answer=0,0\n"));
     sheet[0] = 'P';
     expect("a wrong text is no refusal of the call", do_list(0) == 0 && place == 0 && holds(listing, first, "answer=10,1\n"));
+    expect("of charting either", do_chart_text(0) == 0 && place == 0 && holds(charted, first, "answer=10,1\n"));
 }
 
 /* A file of facets, with room for a facet too many; what is read of it, with a number more behind it that has to stay; and the floats of
@@ -460,11 +560,19 @@ static void call_with_nothing(void)
     expect("no loops have no records", patch(words, 3, corners, 0, grid, LENGTH(grid), rings, LENGTH(rings), records, LENGTH(records),
                                              patches, LENGTH(patches), &place, &first, &second, &third, 1) == 0
                                            && first == 0 && stays_behind(3, 0, 0, 0));
+    place = first = second = third = 77;
+    expect("no report", chart(words, 0, corners, 0, grid, 0, rings, 0, records, 0, report, 0, &place, &first, &second, &third, 1) == 0
+                            && place == 0 && first == 0 && second == 0 && third == 0);
+    mark_lent();
+    expect("no pieces have no entries", chart(words, 3, corners, 0, grid, LENGTH(grid), rings, LENGTH(rings), records, LENGTH(records),
+                                              report, LENGTH(report), &place, &first, &second, &third, 1) == 0
+                                            && third == 0 && stays_behind_entries(3, 0, 0, 0));
     expect("no set", judge(words, 0, corners, 0, set_states, 0, set_corners, 0, grid, 0, rings, 0, lengths, 0, &place, &first, &second, 1)
                          == 0);
     expect("no text", read_sheet(sheet, 0, words, 0, corners, 0, &place, &first, &second, &pitch_read) == WAZELPUNT_LINE && place == 1);
     expect("no text of a set", read_set(set, 0, 0, set_states, 0, corners, 0, &place, &first, &second) == WAZELPUNT_LINE && place == 1);
     expect("no text to list", list_text(sheet, 0, listing, LENGTH(listing), &place, &first) == 0 && holds(listing, first, "answer=10,1\n"));
+    expect("no text to chart", chart_text(sheet, 0, charted, LENGTH(charted), &place, &first) == 0 && holds(charted, first, "answer=10,1\n"));
     expect("no texts to judge", judge_texts(sheet, 0, set, 0, answer, LENGTH(answer), &place, &first) == 0);
     expect("their answer", holds(answer, first, "answer=10,1\n"));
     expect("no file", read_stl(file, 0, file_words, 0, file_corners, 0, &place, &first, &second) == WAZELPUNT_MISFIT && place == 0);
@@ -516,11 +624,13 @@ static void call_without_pitch(void)
         expect("survey without a pitch", do_survey(1) == WAZELPUNT_NO_PITCH && place == 0 && first == 0 && second == 0);
         place = first = second = third = 77;
         expect("patch without a pitch", patch_with(1, 0) == WAZELPUNT_NO_PITCH && place == 0 && first == 0 && second == 0 && third == 0);
+        place = first = second = third = 77;
+        expect("chart without a pitch", chart_with(1, 0) == WAZELPUNT_NO_PITCH && place == 0 && first == 0 && second == 0 && third == 0);
         place = first = second = 77;
         expect("judge without a pitch", do_judge(1) == WAZELPUNT_NO_PITCH && place == 0 && first == 0 && second == 0);
         place = first = 77;
         expect("write without a pitch", do_write(1) == WAZELPUNT_NO_PITCH && place == 0 && first == 0);
-        expect("and nothing is changed", stays_behind(0, 0, 0, 0) && written[0] == 77);
+        expect("and nothing is changed", stays_behind(0, 0, 0, 0) && stays_behind_entries(0, 0, 0, 0) && written[0] == 77);
         place = 77;
         expect("17 before 1", survey(words, 1, corners, 1, grid, 0, rings, 0, lengths, 0, &place, &first, &second, pitch)
                                       == WAZELPUNT_NO_PITCH && place == 0);
@@ -538,6 +648,8 @@ static void call_at(uint32_t at_pitch, const char *line, int32_t inner, uint64_t
     fits("patch at a pitch", do_patch, 4);
     expect("the rim's record at a pitch", is(record_of(0), 3, WAZELPUNT_RIM, 0, 0, 120));
     expect("the hole's record at a pitch", is(record_of(1), 3, WAZELPUNT_PATCHED, weight, 4, run));
+    fits("chart at a pitch", do_chart, 4);
+    expect("the same records, and the lake", is(record_of(1), 3, WAZELPUNT_PATCHED, weight, 4, run) && is_entry(2, WAZELPUNT_ENTRY_LAKE, 1));
     set_states[1] = WAZELPUNT_PATCHED;
     fits("judge at a pitch", do_judge, 3);
     expect("the text at a pitch", write_sheet(words, W, corners, C, written, longer, &place, &first, pitch) == 0 && first == longer
@@ -562,6 +674,8 @@ static void call_texts_at_a_pitch(void)
     expect("listed at a pitch", list_text(coarse, length, listing, LENGTH(listing), &place, &first) == 0
                                     && holds(listing, first, "answer=0,0\nloops=2\nloop=3,4,0,0,0,120\nring=0,1,2\n"
                                                              "loop=3,1,400,4,0,80\nring=4,3,5\npatch=4,5,3\n"));
+    expect("charted at a pitch", chart_text(coarse, length, charted, LENGTH(charted), &place, &first) == 0
+                                     && holds(charted, first, "answer=0,0\nentries=3\nentry=0,0\nentry=1,0\nentry=3,1\n"));
     expect("judged at a pitch", judge_texts(coarse, length, set, set_length, answer, LENGTH(answer), &place, &first) == 0
                                     && holds(answer, first, "answer=0,0\n"));
     expect("a set's lines are counted on", judge_texts(coarse, length, set, 0, answer, LENGTH(answer), &place, &first) == 0
@@ -614,6 +728,7 @@ int main(int count, char **names)
     if (count != 4 || !load(names[1]) || !load_texts(names[2], names[3])) return 1;
     call_coordinates();
     read_records();
+    read_entries();
     call_numbers();
     call_without_pitch();
     call_at_pitches();

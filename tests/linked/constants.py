@@ -1,10 +1,11 @@
 #!/usr/bin/env python3
 """constants.py PRINTED: holds include/wazelpunt.h, of which header.c printed the constants, against the sources that it stands for:
 
-- the limits and lengths, computed from the constants of base_types, program_lines and program_roll, or as stl_facets defines them, and of
-  them how many numbers each lent buffer needs;
-- the answers and states, by their names and numbers in base_answers and base_types;
-- the record of a loop, number by number in its order, against the struct of patch_records;
+- the limits and lengths, computed from the constants of base_types, chart_rules, program_lines, program_roll and program_chart, or as
+  stl_facets defines them, and of them how many numbers each lent buffer needs;
+- the answers, states and kinds of entries, by their names and numbers in base_answers, base_types and chart_rules;
+- the record of a loop, number by number in its order, against the struct of patch_records, and the entry of a report against that of
+  chart_rules;
 - the declarations, against the signatures of the exported functions in the crate wazelpunt, and what else the header has, by name;
 - how much stack each function takes, against what docs/SPEED.md says was measured;
 - the constants and sentences that python/wazelpunt.py has again.
@@ -32,7 +33,7 @@ def rattle_constants(*crates):
     for crate in crates:
         source = re.sub(r"//.*", "", pathlib.Path(f"crates/{crate}/src/lib.rt").read_text(encoding="utf-8"))
         owner = ""
-        for found in re.finditer(r"^impl (\w+)|^(\})|^ *pub const (\w+): \w+ =\s*([^;]+);", source, re.M):
+        for found in re.finditer(r"^impl (\w+)|^(\})|^ *(?:pub )?const (\w+): \w+ =\s*([^;]+);", source, re.M):
             opened, closed, name, expression = found.groups()
             if opened or closed:
                 owner = opened + "::" if opened else ""
@@ -92,20 +93,22 @@ def header_functions():
     return functions
 
 
-def expect_record(said, record):
-    """The struct has the fields of patch_records' own, each of 64 bits and one behind the other."""
-    kept = rattle_struct("patch_records", "Record")
-    expect("how many numbers a record of patch_records has", str(len(kept)), record)
-    expect("their types there", {kind for _, kind in kept}, {"u64"})
-    expect("the fields of struct wazelpunt_record", header_struct("wazelpunt_record"), [("uint64_t", name) for name, _ in kept])
-    expect("where they stand", {at: name for at, name in said.items() if at.startswith("record at ")},
-           {f"record at {8 * i}": name for i, (name, _) in enumerate(kept)})
-    expect("how many bytes they take", said["record bytes"], str(8 * len(kept)))
+def expect_struct(said, what, crate, bits):
+    """The struct has the fields of the crate's own, each of so many bits and one behind the other."""
+    kept = rattle_struct(crate, what.capitalize())
+    bytes_each = bits // 8
+    expect(f"how many numbers {what} of {crate} has", str(len(kept)), said[f"WAZELPUNT_{what.upper()}"])
+    expect(f"their types in {crate}", {kind for _, kind in kept}, {f"u{bits}"})
+    expect(f"the fields of struct wazelpunt_{what}", header_struct(f"wazelpunt_{what}"), [(f"uint{bits}_t", name) for name, _ in kept])
+    expect(f"where they stand in {what}", {at: name for at, name in said.items() if at.startswith(f"{what} at ")},
+           {f"{what} at {bytes_each * i}": name for i, (name, _) in enumerate(kept)})
+    expect(f"how many bytes {what} takes", said[f"{what} bytes"], str(bytes_each * len(kept)))
 
 
-def expect_needs(said, record):
+def expect_needs(said):
     """How many numbers each buffer needs that is lent for 30 words and 7 triangles, as refusal 3 of the scope counts them."""
-    due = {"grid": 30, "rings": 3 * 7, "lengths": 7, "records": int(record) * 7, "patches": 9 * 7}
+    record, entry = int(said["WAZELPUNT_RECORD"]), int(said["WAZELPUNT_ENTRY"])
+    due = {"grid": 30, "rings": 3 * 7, "lengths": 7, "records": record * 7, "patches": 9 * 7, "report": 2 * entry * 7}
     expect("what lent buffers need", {what: said[what] for what in said if what.startswith("needed of ")},
            {f"needed of {name}": str(count) for name, count in due.items()})
     expect("the factors of the header", re.findall(r"^#define WAZELPUNT_(\w+)_FOR\(", plain_header(), re.M), [name.upper() for name in due])
@@ -114,10 +117,10 @@ def expect_needs(said, record):
 def expect_names():
     """What the header has besides functions that are declared: every struct, enum and function that is written out there."""
     header = plain_header()
-    expect("structs", re.findall(r"^struct (\w+) \{", header, re.M), ["wazelpunt_record"])
-    expect("enums", re.findall(r"^enum (\w+) \{", header, re.M), ["wazelpunt_answer", "wazelpunt_state"])
+    expect("structs", re.findall(r"^struct (\w+) \{", header, re.M), ["wazelpunt_record", "wazelpunt_entry"])
+    expect("enums", re.findall(r"^enum (\w+) \{", header, re.M), ["wazelpunt_answer", "wazelpunt_state", "wazelpunt_kind"])
     expect("functions that are written out", re.findall(r"^static inline .*?\b(wazelpunt_\w+)\(", header, re.M),
-           ["wazelpunt_record_at", "wazelpunt_sentence", "wazelpunt_floats_are_default"])
+           ["wazelpunt_record_at", "wazelpunt_entry_at", "wazelpunt_sentence", "wazelpunt_floats_are_default"])
 
 
 def stack_figures(path, pattern):
@@ -137,14 +140,17 @@ def main(printed):
     header = {name[len("WAZELPUNT_"):]: value for name, value in said.items() if name.startswith("WAZELPUNT_")}
     sentences = [said[f"sentence {number}"] for number in range(20)]
 
-    known = rattle_constants("base_types", "program_lines", "program_roll")
+    known = rattle_constants("base_types", "chart_rules", "program_lines", "program_roll", "program_chart")
     known.update(defined_numbers("crates/stl_facets/specs/Facets.antt"))
+    # two entries a triangle
+    known["a full report"] = 2 * known["Entry::WIDTH"] * known["Surface::TRIANGLES"]
     due = {
         "POINTS": "Surface::POINTS", "TRIANGLES": "Surface::TRIANGLES", "WORDS": "Surface::WORDS", "CORNERS": "Surface::CORNERS",
         "SET_STATES": "PatchSet::STATES", "SET_TRIANGLES": "PatchSet::TRIANGLES", "SET_CORNERS": "PatchSet::CORNERS",
-        "LONGEST": "Loop::LONGEST", "RECORD": "Loop::RECORD", "GREATEST": "Grid::GREATEST", "SHEET_BYTES": "Surface::TEXT",
-        "SET_BYTES": "PatchSet::TEXT", "ANSWER_BYTES": "LINE", "LISTING_BYTES": "LISTING", "STL_BYTES": "Surface::FILE",
-        "STL_FRONT": "front", "STL_FACET_BYTES": "facetBytes",
+        "LONGEST": "Loop::LONGEST", "RECORD": "Loop::RECORD", "ENTRY": "Entry::WIDTH", "REPORT": "a full report",
+        "GREATEST": "Grid::GREATEST", "SHEET_BYTES": "Surface::TEXT", "SET_BYTES": "PatchSet::TEXT", "ANSWER_BYTES": "LINE",
+        "LISTING_BYTES": "LISTING", "REPORT_BYTES": "REPORT", "STL_BYTES": "Surface::FILE", "STL_FRONT": "front",
+        "STL_FACET_BYTES": "facetBytes",
     }
     for name, source in due.items():
         expect(f"WAZELPUNT_{name}", header.pop(name), str(known.get(source, f"no constant {source}")))
@@ -156,12 +162,15 @@ def main(printed):
         expect(f"WAZELPUNT_{answer_name(name)}", header.pop(answer_name(name), None), number)
     for state in ("PATCHED", "LONG", "OPEN", "RIM"):
         expect(f"WAZELPUNT_{state}", header.pop(state), str(known[f"State::{state}"]))
+    for kind in ("PIECE", "RIM", "POOL", "LAKE", "NOTHING"):
+        expect(f"WAZELPUNT_ENTRY_{kind}", header.pop(f"ENTRY_{kind}"), str(known[f"Entry::{kind}"]))
 
     expect("sentences of numbers 0 to 17 that are not like another", len(set(sentences[:18])), 18)
     expect("sentences of other numbers", set(sentences[18:]), {"an answer that this header does not know"})
 
-    expect_record(said, said["WAZELPUNT_RECORD"])
-    expect_needs(said, said["WAZELPUNT_RECORD"])
+    expect_struct(said, "record", "patch_records", 64)
+    expect_struct(said, "entry", "chart_rules", 16)
+    expect_needs(said)
     expect_names()
     constants = re.findall(r"^#define (WAZELPUNT_\w+) ", plain_header(), re.M)
     expect("constants that are printed", sorted(set(constants) - set(said)), [])

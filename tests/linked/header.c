@@ -1,5 +1,5 @@
 /* Prints what include/wazelpunt.h says: every constant, enumerator and sentence, how many numbers each lent buffer needs, and where each
-   number of a record stands. It is compiled as C99, as C11 and as C++. */
+   number of a record and of an entry stands. It is compiled as C99, as C11 and as C++. */
 #include "wazelpunt.h"
 
 #include <stdio.h>
@@ -17,10 +17,13 @@ static void say_limits(void)
     SAY(WAZELPUNT_SET_CORNERS);
     SAY(WAZELPUNT_LONGEST);
     SAY(WAZELPUNT_RECORD);
+    SAY(WAZELPUNT_ENTRY);
+    SAY(WAZELPUNT_REPORT);
     SAY(WAZELPUNT_GREATEST);
     SAY(WAZELPUNT_SHEET_BYTES);
     SAY(WAZELPUNT_SET_BYTES);
     SAY(WAZELPUNT_LISTING_BYTES);
+    SAY(WAZELPUNT_REPORT_BYTES);
     SAY(WAZELPUNT_ANSWER_BYTES);
     SAY(WAZELPUNT_STL_BYTES);
     SAY(WAZELPUNT_STL_FRONT);
@@ -53,6 +56,15 @@ static void say_answers(void)
     SAY(WAZELPUNT_RIM);
 }
 
+static void say_kinds(void)
+{
+    SAY(WAZELPUNT_ENTRY_PIECE);
+    SAY(WAZELPUNT_ENTRY_RIM);
+    SAY(WAZELPUNT_ENTRY_POOL);
+    SAY(WAZELPUNT_ENTRY_LAKE);
+    SAY(WAZELPUNT_ENTRY_NOTHING);
+}
+
 /* For 30 words and 21 corners, seven triangles; the counts may be any expressions. */
 static void say_needs(void)
 {
@@ -61,11 +73,13 @@ static void say_needs(void)
     printf("needed of lengths=%lu\n", (unsigned long)WAZELPUNT_LENGTHS_FOR(1 + 20));
     printf("needed of records=%lu\n", (unsigned long)WAZELPUNT_RECORDS_FOR(1 + 20));
     printf("needed of patches=%lu\n", (unsigned long)WAZELPUNT_PATCHES_FOR(1 + 20));
+    printf("needed of report=%lu\n", (unsigned long)WAZELPUNT_REPORT_FOR(1 + 20));
 }
 
-#define SAY_PLACE(field) printf("record at %lu=%s\n", (unsigned long)offsetof(struct wazelpunt_record, field), #field)
+#define SAY_PLACE_IN(what, field) printf("%s at %lu=%s\n", #what, (unsigned long)offsetof(struct wazelpunt_##what, field), #field)
+#define SAY_PLACE(field) SAY_PLACE_IN(record, field)
 
-static void say_record(void)
+static void say_places(void)
 {
     printf("record bytes=%lu\n", (unsigned long)sizeof(struct wazelpunt_record));
     SAY_PLACE(length);
@@ -75,6 +89,9 @@ static void say_record(void)
     SAY_PLACE(first);
     SAY_PLACE(piece);
     SAY_PLACE(run);
+    printf("entry bytes=%lu\n", (unsigned long)sizeof(struct wazelpunt_entry));
+    SAY_PLACE_IN(entry, kind);
+    SAY_PLACE_IN(entry, number);
 }
 
 int main(void)
@@ -82,8 +99,9 @@ int main(void)
     printf("WAZELPUNT_VERSION=%s\n", WAZELPUNT_VERSION);
     say_limits();
     say_answers();
+    say_kinds();
     say_needs();
-    say_record();
+    say_places();
     /* one number more than there are answers, and the greatest */
     for (uint32_t number = 0; number <= 18; number++) printf("sentence %u=%s\n", (unsigned)number, wazelpunt_sentence(number));
     printf("sentence 19=%s\n", wazelpunt_sentence(UINT32_MAX));

@@ -5,6 +5,7 @@ and against itself. FOLDER is an empty one that it may write to."""
 import array
 import contextlib
 import ctypes
+import dataclasses
 import io
 import itertools
 import math
@@ -26,7 +27,7 @@ sys.path.insert(0, str(HOME / "python"))
 
 import wazelpunt  # noqa: E402
 from faceted import stl_of  # noqa: E402
-from wazelpunt import Coordinate, PatchSet, Refusal, State, Surface, Verdict  # noqa: E402
+from wazelpunt import Coordinate, Entry, Kind, PatchSet, Refusal, State, Surface, Verdict  # noqa: E402
 
 CASES = HOME / "tests/programs/cases"
 PLATE = (HOME / "examples/plate.sheet").read_bytes()
@@ -74,6 +75,24 @@ def listing_of(patched):
     return "".join(line + "\n" for line in lines).encode()
 
 
+def report_of(charted):
+    """The report as it is printed, put together from the objects."""
+    lines = ["answer=0,0", f"entries={len(charted.report)}"] + [f"entry={entry.kind.value},{entry.number}" for entry in charted.report]
+    return "".join(line + "\n" for line in lines).encode()
+
+
+def entries_of(patched, pieces):
+    """The report of a patched surface by its loops: how many pieces there are is not to be seen there."""
+    rims = {loop.piece: set(loop.ring) for loop in patched.loops if loop.state is State.RIM}
+    entries = []
+    for piece in range(pieces):
+        of_piece = [(number, loop) for number, loop in enumerate(patched.loops) if loop.piece == piece]
+        kinds = [Kind.RIM if loop.state is State.RIM else Kind.POOL if rims[piece] & set(loop.ring) else Kind.LAKE for _, loop in of_piece]
+        entries.append((Kind.PIECE, piece))
+        entries += sorted((kind, number) for kind, (number, _) in zip(kinds, of_piece))
+    return tuple(entries)
+
+
 def answer_line(number, place):
     return f"answer={number},{place}\n".encode()
 
@@ -97,7 +116,20 @@ def try_records(name, surface, patched):
     expect(f"{name}, the pieces of its rims", (len(set(rims)), set(rims)), (len(rims), {loop.piece for loop in patched.loops}))
 
 
-def try_surface(name, sheet, listing):
+def try_report(name, surface, patched, report):
+    """The report of a surface, against what is stored and against the patched surface."""
+    charted = surface.chart()
+    expect(f"{name}, charted by objects", report_of(charted), report)
+    expect(f"{name}, the grid of its chart", charted.grid, patched.grid)
+    unpatched = tuple(dataclasses.replace(loop, patches=()) for loop in patched.loops)
+    expect(f"{name}, the loops of its chart", charted.loops, unpatched)
+    pieces = [entry.number for entry in charted.report if entry.kind is Kind.PIECE]
+    expect(f"{name}, its pieces", pieces, list(range(len(pieces))))
+    expect(f"{name}, its entries", charted.report, entries_of(patched, len(pieces)))
+    expect(f"{name}, the kinds of them", {(type(entry), type(entry.kind)) for entry in charted.report} <= {(Entry, Kind)}, True)
+
+
+def try_surface(name, sheet, listing, report):
     """A sheet that is accepted, by way of objects."""
     surface = Surface.from_text(sheet)
     expect(f"{name}, written", surface.text(), sheet)
@@ -105,12 +137,14 @@ def try_surface(name, sheet, listing):
     if not listing.startswith(b"answer=0,0"):
         expect(f"{name}, surveyed", answer_line(*refusal_of(surface.survey)), listing)
         expect(f"{name}, patched", answer_line(*refusal_of(surface.patch)), listing)
+        expect(f"{name}, charted", answer_line(*refusal_of(surface.chart)), report)
         return
     patched, survey = surface.patch(), surface.survey()
     expect(f"{name}, listed by objects", listing_of(patched), listing)
     grid = tuple(tuple(nearest(number, surface.pitch) for number in point) for point in surface.points)
     expect(f"{name}, its grid", patched.grid, grid)
     try_records(name, surface, patched)
+    try_report(name, surface, patched, report)
     expect(f"{name}, surveyed", (survey.grid, survey.rings), (patched.grid, tuple(loop.ring for loop in patched.loops)))
     verdict = surface.judge(patched.patch_set)
     expect(f"{name}, what is patched passes", (verdict, bool(verdict)), (Verdict(0, 0, survey.rings), True))
@@ -134,14 +168,16 @@ def try_cases():
         patches_file = folder / f"{name}.patches"
         patches = patches_file.read_bytes() if patches_file.exists() else b""
         listing, verdict = listing_file.read_bytes(), (CASES / f"{name}.verdict").read_bytes()
+        report = (CASES / f"{name}.report").read_bytes()
         rewritten_file = CASES / f"{name}.rewritten"
         expect(f"{name}, listed", wazelpunt.list_text(sheet), listing)
+        expect(f"{name}, charted", wazelpunt.chart_text(sheet), report)
         expect(f"{name}, judged", wazelpunt.judge_texts(sheet, patches), verdict)
         expect(f"{name}, rewritten", wazelpunt.rewrite_text(sheet), rewritten_file.read_bytes() if rewritten_file.exists() else sheet)
         if rewritten_file.exists():
             expect(f"{name}, read", answer_line(*refusal_of(lambda text=sheet: Surface.from_text(text))), rewritten_file.read_bytes())
         else:
-            try_surface(name, sheet, listing)
+            try_surface(name, sheet, listing, report)
             expect(f"{name}, judged by objects", answer_line(*verdict_of(sheet, patches)), verdict)
     for imported in sorted(CASES.glob("*.imported")):
         expect(f"{imported.stem}, imported", wazelpunt.import_stl((CASES / f"{imported.stem}.stl").read_bytes()), imported.read_bytes())
@@ -167,7 +203,7 @@ def try_refusals():
     ]
     for make, due in ways:
         surface = make()
-        for name in ("survey", "patch"):
+        for name in ("survey", "patch", "chart"):
             expect(f"{name} refuses {due}", refusal_of(getattr(surface, name)), due)
         expect(f"judge refuses {due}", refusal_of(lambda: surface.judge(PatchSet())), due)
         if due[0] <= 4:
@@ -187,6 +223,7 @@ def try_refusals():
     expect("3", refusal_of(lambda: wazelpunt._get("write", *plate._given(), short, counts=1, last=ctypes.c_uint32(1))), (3, 1))
     given = wazelpunt._given_bytes(PLATE, "a text")
     expect("3, printed", refusal_of(lambda: wazelpunt._printed("list_text", wazelpunt.LISTING_BYTES - 1, given)), (3, 1))
+    expect("3, charted", refusal_of(lambda: wazelpunt._printed("chart_text", wazelpunt.REPORT_BYTES - 1, given)), (3, 1))
     expect("3, imported", refusal_of(lambda: wazelpunt._printed("import_stl", wazelpunt.SHEET_BYTES - 1, given)), (3, 1))
 
     expect("a refusal, pickled", str(pickle.loads(pickle.dumps(Refusal(10, 3)))), "answer 10,3: a line of the text is wrong")
@@ -290,6 +327,7 @@ def try_wrong_types():
         ("a text in a str", TypeError, "'rb'", lambda: Surface.from_text(PLATE.decode())),
         ("a text in floats", TypeError, "'f'", lambda: wazelpunt.list_text(flat)),
         ("a text in none", TypeError, "bytes-like", lambda: wazelpunt.list_text(None)),
+        ("a text to chart in a str", TypeError, "'rb'", lambda: wazelpunt.chart_text("")),
         ("a set's text in a str", TypeError, "'rb'", lambda: wazelpunt.judge_texts(PLATE, "")),
         ("lines before that are negative", ValueError, "-1", lambda: PatchSet.from_text(b"", -1)),
         ("too many lines before", ValueError, "65536", lambda: PatchSet.from_text(b"", 65536)),
@@ -357,6 +395,7 @@ def try_pitches():
         grid = tuple(tuple(nearest(number, pitch) for number in point) for point in room.points)
         expect(f"grids at pitch {pitch}", [own.patch().grid, asked.grid, own.survey().grid, room.survey(pitch=pitch).grid], [grid] * 4)
         expect(f"patched at pitch {pitch}", own.patch(), asked)
+        expect(f"charted at pitch {pitch}", [own.chart().grid, room.chart(pitch=pitch)], [grid, own.chart()])
         expect(f"listed at pitch {pitch}", listing_of(asked), wazelpunt.list_text(own.text()))
         expect(f"judged at pitch {pitch}", [own.judge(asked.patch_set).passed, room.judge(asked.patch_set, pitch=pitch).passed], [True] * 2)
         expect(f"written at pitch {pitch}", own.text(), room.text(pitch=pitch))
@@ -379,7 +418,7 @@ def try_wrong_pitches():
     """17 comes before all else, of every number that is no pitch, also of one that cannot be handed over."""
     wrong_one = Surface([0, 0, 0, 0], [0, 0])  # refused with 1 otherwise
     for pitch in (0, 3, 4, 6, 11, 20, 257, 65537, -1, -5, (1 << 32) + 5, 1 << 80):
-        for what, call in [("survey", wrong_one.survey), ("patch", wrong_one.patch), ("text", wrong_one.text),
+        for what, call in [("survey", wrong_one.survey), ("patch", wrong_one.patch), ("chart", wrong_one.chart), ("text", wrong_one.text),
                            ("judge", lambda pitch: wrong_one.judge(PatchSet(), pitch=pitch)),
                            ("coordinate", lambda pitch: wazelpunt.coordinate(1, pitch=pitch)),
                            ("made", lambda pitch: Surface(TRIANGLE, pitch=pitch).survey()),
@@ -495,6 +534,10 @@ def try_objects():
     expect("told", repr(plate), "<Surface: 6 points, 6 triangles>")
     expect("its points", plate.points[1], (30.0, 0.0, 0.0))
     expect("its patches", plate.patch().patches, ((4, 5, 3),))
+    expect("its report", plate.chart().report, ((0, 0), (1, 0), (3, 1)))
+    expect("an entry by its names", plate.chart().report[2], Entry(kind=Kind.LAKE, number=1))
+    expect("a chart, pickled", pickle.loads(pickle.dumps(plate.chart())), plate.chart())
+    expect("no report", (Surface().chart(), Surface(TRIANGLE).chart().report), (wazelpunt.Charted((), (), ()), ()))
     expect("what stays open", [loop.stays_open for loop in plate.patch().loops], [False, False])
     expect("nothing", (Surface().patch(), Surface().text()), (wazelpunt.Patched((), ()), b"points=0\ntriangles=0\n"))
     rims_alone = Surface.from_text((CASES / "hole-65-in-a-rim-of-66.sheet").read_bytes()).patch()
@@ -506,7 +549,7 @@ def try_usage(room):
     shutil.copy(HOME / "examples/plate.sheet", room)
     (room / "plate.stl").write_bytes(stl_of_surface(Surface.from_text(PLATE)))
     usage = textwrap.dedent("".join(line for line in wazelpunt.__doc__.splitlines(True) if line.startswith("    ") or line == "\n"))
-    due = ["RIM (0, 1, 2) 0 ()", "PATCHED (4, 3, 5) 100 ((4, 5, 3),)", "4 1 a corner names no point"]
+    due = ["RIM (0, 1, 2) 0 ()", "PATCHED (4, 3, 5) 100 ((4, 5, 3),)", "PIECE 0", "RIM 0", "LAKE 1", "4 1 a corner names no point"]
     expect("what the usage says", [line for line in due if f"# {line}\n" in usage], due)
     printed = io.StringIO()
     with contextlib.redirect_stdout(printed):
@@ -522,13 +565,13 @@ def try_threads():
     """Threads that share a surface, and others that have their own, get what one alone gets."""
     names = ["plate", "plate-cone", "plate-crossed", "folded", "islands"]
     surfaces = [Surface.from_text((HOME / f"examples/{name}.sheet").read_bytes()) for name in names]
-    due = [(surface.patch(), surface.survey()) for surface in surfaces]
+    due = [(surface.patch(), surface.survey(), surface.chart()) for surface in surfaces]
     found = []
 
     def work(start):
         for turn in range(20):
             which = (start + turn) % len(surfaces)
-            found.append((surfaces[which].patch(), surfaces[which].survey()) == due[which])
+            found.append((surfaces[which].patch(), surfaces[which].survey(), surfaces[which].chart()) == due[which])
 
     threads = [threading.Thread(target=work, args=(start,)) for start in range(8)]
     for thread in threads:
@@ -573,6 +616,11 @@ def try_finding(room):
         old = f"class Old:\n def __call__(self, *given): return {answer}\n def __getattr__(self, name): return Old()\n"
         status, out, said = run(room / "alone", "-c", f"import ctypes\n{old}ctypes.CDLL = lambda name: Old()\nimport wazelpunt")
         expect(what, (status, out, b"ImportError" in said, b"keeps no records of loops" in said), (1, b"", True, True))
+    # one from before there were reports
+    old = "class Old:\n def __call__(self, *given): return 17\n"
+    old += " def __getattr__(self, name):\n  if 'chart' in name: raise AttributeError(f'undefined symbol: {name}')\n  return Old()\n"
+    status, out, said = run(room / "alone", "-c", f"import ctypes\n{old}ctypes.CDLL = lambda name: Old()\nimport wazelpunt")
+    expect("one without reports", (status, out, b"ImportError" in said, b"undefined symbol: wazelpunt_chart" in said), (1, b"", True, True))
 
 
 def try_command(room):

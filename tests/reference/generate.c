@@ -844,6 +844,7 @@ void generate_lend_exactly(struct generated_surface *surface)
     surface->lent[1] = 3 * triangles;
     surface->lent[2] = REFERENCE_RECORD * triangles;
     surface->lent[3] = 9 * triangles;
+    surface->report_lent = 2 * REFERENCE_ENTRY * triangles;
     surface->lengths_lent = triangles;
 }
 
@@ -860,7 +861,9 @@ static void lend_otherwise(struct generator *generator, size_t *length, int shor
 }
 
 /* Lends some buffers too long, and at times some too short; of records also so
-   many that one or more of their numbers has no room for any loop. */
+   many that one or more of their numbers has no room for any loop, and of the
+   report so many that there is room for one entry a triangle, or for one
+   number of each. */
 static void lend(struct generator *generator, struct generated_surface *surface)
 {
     int shortage = chance(generator, 6);
@@ -871,6 +874,10 @@ static void lend(struct generator *generator, struct generated_surface *surface)
     lend_otherwise(generator, &surface->lengths_lent, shortage);
     if (shortage && chance(generator, 6)) {
         surface->lent[2] = between(generator, 1, REFERENCE_RECORD - 1) * (surface->corner_count / 3);
+    }
+    lend_otherwise(generator, &surface->report_lent, shortage);
+    if (shortage && chance(generator, 6)) {
+        surface->report_lent = REFERENCE_ENTRY * (surface->corner_count / 3);
     }
 }
 

@@ -20,9 +20,10 @@ struct generator {
 };
 
 /* A surface with its pitch, and how long each of the patcher's four buffers is
-   lent: grid, ring vertices, loop records, patch corners. The checker and the
-   survey are lent the first two as well, and for their third, ring lengths,
-   there is a length of its own. */
+   lent: grid, ring vertices, loop records, patch corners. The report is lent
+   the first three as well, and for its fourth there is a length of its own.
+   The checker and the survey are lent the first two, and for their third, ring
+   lengths, there is one too. */
 struct generated_surface {
     uint32_t pitch;
     uint32_t words[GENERATE_WORD_ROOM];
@@ -30,6 +31,7 @@ struct generated_surface {
     uint16_t corners[GENERATE_CORNER_ROOM];
     size_t corner_count;
     size_t lent[GENERATE_BUFFERS];
+    size_t report_lent;
     size_t lengths_lent;
 };
 

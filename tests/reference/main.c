@@ -60,6 +60,7 @@ struct desk {
     uint16_t lengths[REFERENCE_MOST_TRIANGLES];
     uint64_t records[REFERENCE_MOST_RECORDS];
     uint16_t patches[REFERENCE_MOST_PATCH_CORNERS];
+    uint16_t report[REFERENCE_MOST_REPORT];
     uint8_t text[REFERENCE_LONGEST_TEXT];
 };
 
@@ -152,6 +153,31 @@ static void list_program(FILE *out, const struct file *sheet)
     }
 }
 
+/* The report as a program prints it, which the requests ask for nowhere: the
+   answer as a listing has it, then `entries=`, and for each entry `entry=` its
+   kind and its number. */
+static void chart_program(FILE *out, const struct file *sheet)
+{
+    struct reference_read_answer read;
+    struct reference_report_answer told;
+    read_sheet(sheet, &read);
+    if (read.number != 0) {
+        print_answer(out, read.number, read.place);
+        return;
+    }
+    reference_report(desk.words, read.words, desk.corners, read.corners,
+                     desk.grid, REFERENCE_MOST_WORDS, desk.rings, REFERENCE_MOST_CORNERS,
+                     desk.records, REFERENCE_MOST_RECORDS, desk.report, REFERENCE_MOST_REPORT,
+                     (uint32_t)read.pitch, &told);
+    print_answer(out, told.number, told.place);
+    if (told.number == 0) {
+        fprintf(out, "entries=%zu\n", told.entries);
+        for (size_t entry = 0; entry < told.entries; entry++) {
+            print_list(out, "entry=", desk.report + REFERENCE_ENTRY * entry, REFERENCE_ENTRY);
+        }
+    }
+}
+
 /* The number of lines of a text. */
 static size_t count_lines(const struct file *file)
 {
@@ -239,6 +265,11 @@ static struct file case_sheet;
 static struct file case_patches;
 static struct file case_expected;
 
+/* What each program's outputs are named after. */
+enum { LIST, CHECK, REWRITE, CHART, PROGRAMS };
+
+static const char *const kinds[PROGRAMS] = {"listing", "verdict", "rewritten", "report"};
+
 static int open_case(const char *directory, unsigned number, const char *kind, struct file *file)
 {
     char name[4096];
@@ -246,15 +277,17 @@ static int open_case(const char *directory, unsigned number, const char *kind, s
     return read_file(name, file);
 }
 
-/* Runs one program, 0 list, 1 check, 2 rewrite, on the case's texts. */
+/* Runs one program on the case's texts. */
 static void run_program(int program, FILE *out)
 {
-    if (program == 0) {
+    if (program == LIST) {
         list_program(out, &case_sheet);
-    } else if (program == 1) {
+    } else if (program == CHECK) {
         check_program(out, &case_sheet, &case_patches);
-    } else {
+    } else if (program == REWRITE) {
         rewrite_program(out, &case_sheet);
+    } else {
+        chart_program(out, &case_sheet);
     }
 }
 
@@ -274,7 +307,6 @@ static int prints_expected(int program)
 /* Whether one program agrees with a case of the directory. */
 static int agrees(const char *directory, unsigned number, int program)
 {
-    static const char *const kinds[3] = {"listing", "verdict", "rewritten"};
     int same = open_case(directory, number, kinds[program], &case_expected) && prints_expected(program);
     if (!same) {
         printf("differs: %04u.%s\n", number, kinds[program]);
@@ -287,20 +319,27 @@ static int run_cases(const char *directory)
     size_t cases = 0;
     size_t agreeing = 0;
     size_t outputs = 0;
+    size_t all = 0;
     for (unsigned number = 0; number < 10000; number++) {
         size_t same = 0;
+        size_t tried = 0;
         if (!open_case(directory, number, "sheet", &case_sheet)) {
             continue;
         }
         open_case(directory, number, "patches", &case_patches);
-        for (int program = 0; program < 3; program++) {
-            same += (size_t)agrees(directory, number, program);
+        for (int program = 0; program < PROGRAMS; program++) {
+            /* cases from before there were reports have none */
+            if (program != CHART || open_case(directory, number, kinds[CHART], &case_expected)) {
+                same += (size_t)agrees(directory, number, program);
+                tried += 1;
+            }
         }
         cases += 1;
         outputs += same;
-        agreeing += same == 3;
+        all += tried;
+        agreeing += same == tried;
     }
-    printf("cases=%zu agree=%zu outputs=%zu of %zu\n", cases, agreeing, outputs, 3 * cases);
+    printf("cases=%zu agree=%zu outputs=%zu of %zu\n", cases, agreeing, outputs, all);
     return cases > 0 && agreeing == cases ? 0 : 1;
 }
 
@@ -319,7 +358,6 @@ static void write_case(const char *directory, unsigned number, const char *kind,
 
 static void write_printed(const char *directory, unsigned number, int program)
 {
-    static const char *const kinds[3] = {"listing", "verdict", "rewritten"};
     char name[4096];
     snprintf(name, sizeof name, "%s/%04u.%s", directory, number, kinds[program]);
     FILE *out = fopen(name, "wb");
@@ -390,7 +428,7 @@ static void make_case(struct generator *generator, const char *directory, unsign
         write_case(directory, number, "patches", &case_patches);
     }
     write_case(directory, number, "sheet", &case_sheet);
-    for (int program = 0; program < 3; program++) {
+    for (int program = 0; program < PROGRAMS; program++) {
         write_printed(directory, number, program);
     }
 }
@@ -506,12 +544,12 @@ static int run_examples(void)
         take_text(&case_sheet, examples[e].sheet);
         take_text(&case_patches, examples[e].patches);
         take_text(&case_expected, examples[e].listing);
-        int same = examples[e].listing == NULL || prints_expected(0);
+        int same = examples[e].listing == NULL || prints_expected(LIST);
         take_text(&case_expected, examples[e].verdict);
-        same = prints_expected(1) && same;
+        same = prints_expected(CHECK) && same;
         /* what was listed was read, and so is written again as it was */
         take_text(&case_expected, examples[e].sheet);
-        same = (examples[e].listing == NULL || strncmp(examples[e].listing, "answer=0", 8) != 0 || prints_expected(2)) && same;
+        same = (examples[e].listing == NULL || strncmp(examples[e].listing, "answer=0", 8) != 0 || prints_expected(REWRITE)) && same;
         if (!same) {
             printf("differs: example %zu\n", e);
         }
@@ -525,7 +563,7 @@ static int run_examples(void)
 
 static int explain(void)
 {
-    fputs("reference cases DIR | make DIR N SEED | list FILE | check SHEET PATCHES | rewrite FILE | import FILE | self N SEED\n"
+    fputs("reference cases DIR | make DIR N SEED | list FILE | check SHEET PATCHES | rewrite FILE | chart FILE | import FILE | self N SEED\n"
           "(a FILE or SHEET of - is standard input)\n", stderr);
     return 2;
 }
@@ -549,6 +587,8 @@ int main(int count, char **given)
         list_program(stdout, &case_sheet);
     } else if (count == 3 && strcmp(given[1], "rewrite") == 0) {
         rewrite_program(stdout, &case_sheet);
+    } else if (count == 3 && strcmp(given[1], "chart") == 0) {
+        chart_program(stdout, &case_sheet);
     } else if (count == 3 && strcmp(given[1], "import") == 0) {
         import_program(stdout, &case_sheet);
     } else if (count == 4 && strcmp(given[1], "check") == 0) {

@@ -723,6 +723,117 @@ void reference_patch(const uint32_t *words, size_t word_count,
     answer->corners = run.corners;
 }
 
+/* ---- The report ---- */
+
+/* Where the ring of a loop begins. */
+static const uint16_t *ring_of(const struct survey *survey, size_t loop)
+{
+    const uint16_t *ring = survey->rings;
+    for (size_t before = 0; before < loop; before++) {
+        ring += survey->lengths[before];
+    }
+    return ring;
+}
+
+/* "shares a vertex": a vertex is a point by its number; two points may lie in
+   the same place. */
+static int share_vertex(const struct survey *survey, size_t loop, size_t other)
+{
+    const uint16_t *ring = ring_of(survey, loop);
+    const uint16_t *other_ring = ring_of(survey, other);
+    for (size_t v = 0; v < survey->lengths[loop]; v++) {
+        for (size_t w = 0; w < survey->lengths[other]; w++) {
+            if (ring[v] == other_ring[w]) {
+                return 1;
+            }
+        }
+    }
+    return 0;
+}
+
+/* "each loop that is no rim is a tide pool if it shares a vertex with its own
+   piece's rim, and a lake otherwise." */
+static size_t kind_of(const struct survey *survey, const uint16_t *pieces, size_t loop)
+{
+    if (survey->rims[loop]) {
+        return REFERENCE_IS_RIM;
+    }
+    for (size_t other = 0; other < survey->loops; other++) {
+        if (survey->rims[other] && pieces[survey->firsts[other] / 3] == pieces[survey->firsts[loop] / 3]
+            && share_vertex(survey, loop, other)) {
+            return REFERENCE_IS_POOL;
+        }
+    }
+    return REFERENCE_IS_LAKE;
+}
+
+/* "An entry is a kind and a number". */
+static void put_entry(uint16_t *report, size_t *entries, size_t kind, size_t number)
+{
+    report[REFERENCE_ENTRY * *entries] = (uint16_t)kind;
+    report[REFERENCE_ENTRY * *entries + 1] = (uint16_t)number;
+    *entries += 1;
+}
+
+/* "for each piece its rim, its tide pools and its lakes, in listed order.
+   [...] 0 a piece, 1 its rim, 2 a tide pool, 3 a lake; pieces ascend, and the
+   answer counts the entries. [...] A piece without open edges appears with no
+   rim." All loops are looked through for each piece and each kind. */
+static size_t lay_report(const struct survey *survey, const uint16_t *corners, size_t corner_count, uint16_t *report)
+{
+    uint16_t pieces[REFERENCE_MOST_TRIANGLES];
+    size_t kinds[REFERENCE_MOST_TRIANGLES];
+    size_t many = 0;
+    size_t entries = 0;
+    reference_pieces(corners, corner_count, pieces);
+    for (size_t t = 0; t < corner_count / 3; t++) {
+        many = pieces[t] < many ? many : (size_t)pieces[t] + 1;
+    }
+    for (size_t loop = 0; loop < survey->loops; loop++) {
+        kinds[loop] = kind_of(survey, pieces, loop);
+    }
+    for (size_t piece = 0; piece < many; piece++) {
+        put_entry(report, &entries, REFERENCE_IS_PIECE, piece);
+        for (size_t kind = REFERENCE_IS_RIM; kind < REFERENCE_KINDS; kind++) {
+            for (size_t loop = 0; loop < survey->loops; loop++) {
+                if (kinds[loop] == kind && pieces[survey->firsts[loop] / 3] == piece) {
+                    put_entry(report, &entries, kind, loop);
+                }
+            }
+        }
+    }
+    return entries;
+}
+
+/* "1 to 8 as for the patcher, 3 numbering grid 1, ring vertices 2, loop
+   records 3 (as the patcher's) and the report 4 (2T entries)." */
+void reference_report(const uint32_t *words, size_t word_count,
+                      const uint16_t *corners, size_t corner_count,
+                      int32_t *grid, size_t grid_length,
+                      uint16_t *rings, size_t rings_length,
+                      uint64_t *records, size_t records_length,
+                      uint16_t *report, size_t report_length, uint32_t pitch,
+                      struct reference_report_answer *answer)
+{
+    size_t triangles = corner_count / 3;
+    const size_t needed[4] = {word_count, 3 * triangles, 7 * triangles, 2 * (2 * triangles)};
+    const size_t lent[4] = {grid_length, rings_length, records_length, report_length};
+    struct finding refusal = find_refusal(words, word_count, corners, corner_count, needed, lent, 4, pitch);
+    *answer = (struct reference_report_answer){refusal.number, refusal.place, 0, 0, 0};
+    if (refusal.number != 0) {
+        return;
+    }
+    struct survey survey;
+    struct run run;
+    take_survey(&survey, words, word_count, corners, corner_count, pitch);
+    patch_loops(&survey, corners, corner_count, &run);
+    hand_out_grid(&survey, word_count, grid, rings);
+    hand_out_records(&survey, &run, corners, corner_count, records);
+    answer->loops = survey.loops;
+    answer->vertices = survey.vertices;
+    answer->entries = lay_report(&survey, corners, corner_count, report);
+}
+
 /* ---- The checker ---- */
 
 /* "each begun at any corner, but not turned round". */

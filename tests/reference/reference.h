@@ -34,6 +34,18 @@ enum {
 
 #define REFERENCE_MOST_RECORDS (REFERENCE_RECORD * REFERENCE_MOST_TRIANGLES)
 
+/* The kinds of a report's entries, in the order in which a piece has them, and how many numbers an entry has. */
+enum {
+    REFERENCE_IS_PIECE,
+    REFERENCE_IS_RIM,
+    REFERENCE_IS_POOL,
+    REFERENCE_IS_LAKE,
+    REFERENCE_KINDS
+};
+
+#define REFERENCE_ENTRY 2
+#define REFERENCE_MOST_REPORT (2 * REFERENCE_ENTRY * REFERENCE_MOST_TRIANGLES)
+
 /* What stands for "no such half-edge" and for "no allowed cover". */
 #define REFERENCE_NO_EDGE ((size_t)-1)
 #define REFERENCE_NO_COVER ((int64_t)-1)
@@ -53,6 +65,15 @@ struct reference_patch_answer {
     size_t loops;
     size_t vertices;
     size_t corners;
+};
+
+/* The answer of the report. */
+struct reference_report_answer {
+    size_t number;
+    size_t place;
+    size_t loops;
+    size_t vertices;
+    size_t entries;
 };
 
 /* The answer of the readers of sheet texts and of files of facets. A file has
@@ -119,6 +140,16 @@ void reference_patch(const uint32_t *words, size_t word_count,
                      uint64_t *records, size_t records_length,
                      uint16_t *patches, size_t patches_length, uint32_t pitch,
                      struct reference_patch_answer *answer);
+
+/* The report with its four buffers: the first three as the patcher's, and the
+   entries one after the other, a kind and a number each. */
+void reference_report(const uint32_t *words, size_t word_count,
+                      const uint16_t *corners, size_t corner_count,
+                      int32_t *grid, size_t grid_length,
+                      uint16_t *rings, size_t rings_length,
+                      uint64_t *records, size_t records_length,
+                      uint16_t *report, size_t report_length, uint32_t pitch,
+                      struct reference_report_answer *answer);
 
 /* One number of a loop's record: REFERENCE_LENGTH to REFERENCE_RUN. */
 uint64_t reference_kept(const uint64_t *records, size_t loop, size_t number);

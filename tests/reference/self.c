@@ -14,7 +14,7 @@
 enum tally {
     TALLY_PATCHED, TALLY_LOOPS, TALLY_HOLES, TALLY_LONG, TALLY_NO_COVER, TALLY_RIMS, TALLY_LONG_RIMS, TALLY_EQUAL_RUNS,
     TALLY_SHORTER_RIMS, TALLY_PIECES, TALLY_CLOSED_PIECES, TALLY_BEHIND_CLOSED, TALLY_SPLIT, TALLY_LATER_FIRST, TALLY_GREATER_FIRST,
-    TALLY_SHORT_RECORDS, TALLY_ENUMERATED,
+    TALLY_SHORT_RECORDS, TALLY_POOLS, TALLY_LAKES, TALLY_AT_OTHER_RIMS, TALLY_SHORT_REPORT, TALLY_ENUMERATED,
     TALLY_IS_NO_COVER, TALLY_IS_COVER, TALLY_VERDICT, TALLY_RIM_REFUSED, TALLY_HOLE_NO_RIM, TALLY_READ, TALLY_WRONG_LINE,
     TALLY_FILES_READ, TALLY_JOINED, TALLY_MISFITS, TALLY_MANY_FACETS, TALLY_MANY_POINTS,
     TALLY_COARSE, TALLY_COARSE_HOLES, TALLY_COARSE_WEIGHED, TALLY_COARSE_READ, TALLY_COARSE_WRONG_LINE, TALLY_COARSE_TIES, TALLY_COARSE_FAR,
@@ -27,6 +27,7 @@ static const char *const tally_names[TALLIES] = {
     "pieces", "pieces without a loop", "loops in a piece that is numbered behind one without a loop", "cycles of several loops",
     "loops listed from another half-edge than their cycle is walked from", "loops listed from another half-edge than their smallest",
     "records that are too short by one for each triangle, or by more",
+    "tide pools", "lakes", "lakes that have a vertex of another piece's rim", "reports that are too short",
     "loops compared with all their covers", "lists tested that are no cover", "lists tested that are a cover",
     "verdicts compared with all covers", "verdicts on a rim that is not declared 4",
     "verdicts on a loop that is no rim and declared 4", "texts read and written again", "texts with a wrong line",
@@ -52,11 +53,12 @@ static void expect(int holds, const char *what)
 
 /* ---- Lent buffers ---- */
 
-/* A patcher's buffers with a mark in every place, as long as they can be lent. */
+/* The buffers of a patcher, and those of others, with a mark in every place, as long as they can be lent. */
 #define GRID_ROOM (GENERATE_WORD_ROOM + 8)
 #define RING_ROOM (GENERATE_CORNER_ROOM + 8)
 #define RECORD_ROOM (REFERENCE_RECORD * (GENERATE_CORNER_ROOM / 3) + 8)
 #define PATCH_ROOM (3 * GENERATE_CORNER_ROOM + 8)
+#define REPORT_ROOM (2 * REFERENCE_ENTRY * (GENERATE_CORNER_ROOM / 3) + 8)
 #define MARK 0xa5
 #define NO_PIECE 0xffff
 
@@ -66,6 +68,7 @@ static struct lent {
     uint16_t lengths[RING_ROOM];
     uint64_t records[RECORD_ROOM];
     uint16_t patches[PATCH_ROOM];
+    uint16_t report[REPORT_ROOM];
 } lent, other;
 
 /* What the patcher left of a loop. */
@@ -100,15 +103,16 @@ static int is_marked(const void *bytes, size_t used, size_t size)
     return 1;
 }
 
-/* "everything after that stays." The patcher leaves records and the others lengths. */
+/* "everything after that stays." The patcher leaves records and patches, the report records and entries, and the others lengths. */
 static void expect_rest_stays(const struct lent *l, size_t words, size_t vertices, size_t lengths,
-                              size_t records, size_t corners)
+                              size_t records, size_t corners, size_t entries)
 {
     expect(is_marked(l->grid, words * sizeof l->grid[0], sizeof l->grid), "grid is written past its end");
     expect(is_marked(l->rings, 2 * vertices, sizeof l->rings), "rings are written past their end");
     expect(is_marked(l->lengths, 2 * lengths, sizeof l->lengths), "lengths are written past their end");
     expect(is_marked(l->records, 7 * 8 * records, sizeof l->records), "records are written past their end");
     expect(is_marked(l->patches, 2 * corners, sizeof l->patches), "patches are written past their end");
+    expect(is_marked(l->report, 4 * entries, sizeof l->report), "the report is written past its end");
 }
 
 static void patch_lent(const struct generated_surface *s, struct reference_patch_answer *answer)
@@ -118,7 +122,17 @@ static void patch_lent(const struct generated_surface *s, struct reference_patch
                     lent.grid, s->lent[0], lent.rings, s->lent[1], lent.records, s->lent[2],
                     lent.patches, s->lent[3], s->pitch, answer);
     expect_rest_stays(&lent, answer->number == 0 ? s->word_count : 0, answer->vertices, 0,
-                      answer->loops, answer->corners);
+                      answer->loops, answer->corners, 0);
+}
+
+static void report_lent(const struct generated_surface *s, struct reference_report_answer *answer)
+{
+    memset(&other, MARK, sizeof other);
+    reference_report(s->words, s->word_count, s->corners, s->corner_count,
+                     other.grid, s->lent[0], other.rings, s->lent[1], other.records, s->lent[2],
+                     other.report, s->report_lent, s->pitch, answer);
+    expect_rest_stays(&other, answer->number == 0 ? s->word_count : 0, answer->vertices, 0,
+                      answer->loops, 0, answer->entries);
 }
 
 static void check_lent(const struct generated_surface *s, const struct generated_set *set,
@@ -130,7 +144,7 @@ static void check_lent(const struct generated_surface *s, const struct generated
                     other.grid, s->lent[0], other.rings, s->lent[1], other.lengths, s->lengths_lent, s->pitch, answer);
     int judged = answer->number == 0 || (answer->number >= 11 && answer->number <= 15);
     expect_rest_stays(&other, judged ? s->word_count : 0,
-                      answer->vertices, answer->loops, 0, 0);
+                      answer->vertices, answer->loops, 0, 0, 0);
 }
 
 /* ---- Loops ---- */
@@ -410,6 +424,104 @@ static void expect_records(const struct generated_surface *s, size_t loops)
         closed += best[piece] == loops;
     }
     tallies[TALLY_CLOSED_PIECES] += closed;
+}
+
+/* ---- A second look at the report ---- */
+
+/* What was seen of each loop in the report, REFERENCE_KINDS where nothing was; of each ring vertex its loop; and of each loop whether it has
+   a vertex of the rim of its own piece, and of another's. */
+static struct {
+    size_t kinds[REFERENCE_MOST_TRIANGLES];
+    size_t loops[REFERENCE_MOST_CORNERS];
+    int at_own_rim[REFERENCE_MOST_TRIANGLES];
+    int at_other_rim[REFERENCE_MOST_TRIANGLES];
+} told_of;
+
+/* Any two places of the rings that have the same vertex. */
+static void find_meetings(size_t loops, size_t vertices)
+{
+    size_t at = 0;
+    for (size_t loop = 0; loop < loops; loop++) {
+        told_of.kinds[loop] = REFERENCE_KINDS;
+        told_of.at_own_rim[loop] = 0;
+        told_of.at_other_rim[loop] = 0;
+        for (size_t v = 0; v < length_of(loop); v++) {
+            told_of.loops[at] = loop;
+            at += 1;
+        }
+    }
+    for (size_t v = 0; v < vertices; v++) {
+        for (size_t w = 0; w < vertices; w++) {
+            size_t loop = told_of.loops[v];
+            size_t rim = told_of.loops[w];
+            if (lent.rings[v] == lent.rings[w] && state_of(rim) == 4) {
+                int own = reference_kept(lent.records, loop, REFERENCE_PIECE) == reference_kept(lent.records, rim, REFERENCE_PIECE);
+                *(own ? &told_of.at_own_rim[loop] : &told_of.at_other_rim[loop]) = 1;
+            }
+        }
+    }
+}
+
+/* Every loop stands in the report once, behind the entry of its piece, as what it is. */
+static void expect_kinds(size_t loops)
+{
+    for (size_t loop = 0; loop < loops; loop++) {
+        size_t due = state_of(loop) == 4 ? REFERENCE_IS_RIM : told_of.at_own_rim[loop] ? REFERENCE_IS_POOL : REFERENCE_IS_LAKE;
+        expect(told_of.kinds[loop] == due, "a second look finds another kind of a loop, or none");
+        tallies[TALLY_POOLS] += due == REFERENCE_IS_POOL;
+        tallies[TALLY_LAKES] += due == REFERENCE_IS_LAKE;
+        tallies[TALLY_AT_OTHER_RIMS] += due == REFERENCE_IS_LAKE && told_of.at_other_rim[loop];
+    }
+}
+
+/* The entries one after the other: pieces ascend one by one, kinds ascend within a piece, and loops within a kind. */
+static void expect_report(const struct generated_surface *s, const struct reference_patch_answer *patch)
+{
+    static uint16_t pieces[REFERENCE_MOST_TRIANGLES];
+    struct generated_surface exact = *s;
+    struct reference_report_answer answer;
+    size_t piece = (size_t)-1;
+    size_t kind = 0;
+    size_t number = 0;
+    exact.report_lent = REFERENCE_MOST_REPORT;
+    report_lent(&exact, &answer);
+    expect(answer.number == 0 && answer.loops == patch->loops && answer.vertices == patch->vertices, "the report finds other loops");
+    expect(memcmp(other.records, lent.records, sizeof lent.records) == 0 && memcmp(other.rings, lent.rings, sizeof lent.rings) == 0
+               && memcmp(other.grid, lent.grid, sizeof lent.grid) == 0, "the report leaves other loops than the patcher");
+    find_meetings(patch->loops, patch->vertices);
+    for (size_t entry = 0; entry < answer.entries; entry++) {
+        size_t before = kind;
+        size_t last = number;
+        kind = other.report[2 * entry];
+        number = other.report[2 * entry + 1];
+        if (kind == 0) {
+            piece += 1;
+            expect(number == piece, "pieces do not ascend one by one");
+            continue;
+        }
+        expect(kind > before || (kind == before && number > last && kind != REFERENCE_IS_RIM), "entries are in another order");
+        expect(kind < REFERENCE_KINDS && number < patch->loops && told_of.kinds[number] == REFERENCE_KINDS, "a loop is told twice");
+        expect(reference_kept(lent.records, number, REFERENCE_PIECE) == piece, "a loop is told in another piece");
+        told_of.kinds[number] = kind;
+    }
+    expect(piece + 1 == expect_pieces(s, pieces) && answer.entries == piece + 1 + patch->loops, "the report has other pieces");
+    expect_kinds(patch->loops);
+}
+
+/* What the patcher refuses the report does too, but each has a fourth buffer of its own. */
+static void expect_report_refusal(const struct generated_surface *s, const struct reference_patch_answer *patch)
+{
+    struct reference_report_answer answer;
+    int own = patch->number == 3 && patch->place == 4;
+    report_lent(s, &answer);
+    if (answer.number == 3 && answer.place == 4) {
+        expect(own || patch->number == 0 || patch->number > 3, "a report is refused that was refused before for something else");
+        expect(s->report_lent < 4 * (s->corner_count / 3), "a report that is long enough is refused");
+        tallies[TALLY_SHORT_REPORT] += 1;
+    } else {
+        expect(own || (answer.number == patch->number && answer.place == patch->place), "the report is refused for something else");
+    }
+    expect(answer.number == 0 || (answer.loops == 0 && answer.vertices == 0 && answer.entries == 0), "a refused report has a count");
 }
 
 /* ---- Patches ---- */
@@ -1167,8 +1279,10 @@ static void expect_short_buffers(size_t p)
 {
     static const size_t exact[4] = {18, 18, 42, 54};
     static const size_t short_records[6] = {0, 6, 18, 35, 36, 41};
+    static const size_t short_reports[6] = {0, 6, 12, 13, 18, 23};
     static struct generated_surface surface;
     struct reference_patch_answer answer;
+    struct reference_report_answer told;
     take_reckoned(&by_hand[1], p, &surface);
     expect(memcmp(surface.lent, exact, sizeof exact) == 0 && surface.lengths_lent == 6, "the plate needs other buffers than by hand");
     for (size_t b = 0; b < 4; b++) {
@@ -1190,6 +1304,14 @@ static void expect_short_buffers(size_t p)
     surface.lent[2] = 42;
     patch_lent(&surface, &answer);
     expect(answer.number == 0 && answer.loops == 2, "records that are long enough are refused");
+    for (size_t r = 0; r < 6; r++) {
+        surface.report_lent = short_reports[r];
+        report_lent(&surface, &told);
+        expect(told.number == 3 && told.place == 4 && told.entries == 0, "a short report is not refused");
+    }
+    surface.report_lent = 24;
+    report_lent(&surface, &told);
+    expect(told.number == 0 && told.entries == 3, "a report that is long enough is refused");
 }
 
 /* Rings of any length closed in by frames of any length: the frame lies far out, or the ring's points do. The frame's first edge is
@@ -1600,7 +1722,8 @@ static void expect_sheets(uint64_t seed, uint32_t pitch)
         {170, 0, 0, 1}, {146, 0, 0, 1}, {78, 0, 0, 1}, {26, 0, 0, 1}, {15, 0, 0, 1}, {8, 0, 0, 481}, {15, 0, 0, 1},
         {145, 0, 0, 1}, {127, 0, 0, 1}, {0, 0, 5, 611},
         {1, 0, 0, 1}, {1, 0, 0, 1}, {1, 0, 0, 1}, {1, 0, 0, 1}, {1, 0, 0, 1},
-        {1, 0, 0, 1}, {1, 0, 0, 1}, {1, 0, 0, 1}, {1, 0, 0, 1}, {1, 0, 0, 1}};
+        {1, 0, 0, 1}, {1, 0, 0, 1}, {1, 0, 0, 1}, {1, 0, 0, 1}, {1, 0, 0, 1},
+        {77, 0, 0, 1}, {127, 0, 0, 1}};
     static struct generated_surface surface;
     struct generator generator;
     struct reference_patch_answer answer;
@@ -1634,10 +1757,13 @@ static void self_check(struct generator *generator)
     struct reference_patch_answer patch;
     if (generate_below(generator, 4) == 0) {
         generate_sound_surface(generator, &surface);
+    } else if (generate_below(generator, 8) == 0) {
+        sheet_make_coasts(generator, &surface);
     } else {
         generate_surface(generator, &surface);
     }
     patch_lent(&surface, &patch);
+    expect_report_refusal(&surface, &patch);
     generate_set(generator, &surface, &set);
     expect_same_refusal(&surface, &set, &patch);
     if (patch.number == 0) {
@@ -1646,6 +1772,7 @@ static void self_check(struct generator *generator)
         expect_rings(&surface, patch.loops, patch.vertices);
         expect_second_look(&surface, patch.loops, patch.vertices);
         expect_records(&surface, patch.loops);
+        expect_report(&surface, &patch);
         expect_patched_surface(&surface, &patch);
         expect_least_covers(&surface, patch.loops);
         expect_cover_test(&surface, &set, patch.loops);

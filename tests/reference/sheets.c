@@ -1,4 +1,5 @@
-/* Surfaces laid triangle by triangle: cones over common points, and full sheets of islands and of plates with holes. */
+/* Surfaces laid triangle by triangle: cones over common points, sheets with tide pools and lakes, and full sheets of islands and of plates
+   with holes. */
 
 #include <string.h>
 
@@ -145,6 +146,204 @@ void sheet_make_cones(struct generator *generator, struct generated_surface *sur
             place_far(surface, frame, edges);
         }
     }
+    generate_lend_exactly(surface);
+}
+
+/* ---- Coasts ---- */
+
+/* A sheet of so many squares; which of them are left out as one large hole; and once in how often a triangle is, 0 for never. */
+struct squares {
+    size_t across, down;
+    size_t left, top, right, bottom;
+    size_t times;
+};
+
+/* Single triangles over both diagonals of a square that is left out. */
+static void shut_square(struct generated_surface *surface, const size_t *square, size_t *points)
+{
+    sheet_add_triangle(surface, square[0], square[2], *points);
+    sheet_add_triangle(surface, square[1], square[3], *points + 1);
+    *points += 2;
+}
+
+/* Puts the squares between points that are numbered row by row from the first on. */
+static void add_squares(struct generator *generator, struct generated_surface *surface, const struct squares *s, size_t first, size_t *points)
+{
+    for (size_t q = 0; q < s->across * s->down; q++) {
+        size_t row = q / s->across;
+        size_t column = q % s->across;
+        size_t corner = first + row * (s->across + 1) + column;
+        const size_t square[4] = {corner, corner + 1, corner + s->across + 2, corner + s->across + 1};
+        if (row >= s->top && row < s->bottom && column >= s->left && column < s->right) {
+            continue;
+        }
+        if (s->times > 0 && generate_below(generator, 8 * s->times) == 0 && *points + 2 <= REFERENCE_MOST_POINTS) {
+            shut_square(surface, square, points);
+            continue;
+        }
+        for (size_t half = 0; half < 2; half++) {
+            if (s->times == 0 || generate_below(generator, s->times) > 0) {
+                sheet_add_triangle(surface, square[0], square[half + 1], square[half + 2]);
+            }
+        }
+    }
+}
+
+/* Where the points lie: row by row, in a cube where many lie in one place, or anywhere. */
+static void place_squares(struct generator *generator, struct generated_surface *surface, const struct squares *s, size_t first, size_t last)
+{
+    int32_t pitch = (int32_t)surface->pitch;
+    size_t mood = generate_below(generator, 3);
+    int32_t away = within(generator, 20);
+    for (size_t p = first; p < last; p++) {
+        size_t at = p - first;
+        if (mood == 0) {
+            place_point(surface, p, pitch * (10 * (int32_t)(at % (s->across + 1)) + away), pitch * 10 * (int32_t)(at / (s->across + 1)), 0);
+        } else {
+            size_t size = mood == 1 ? 1 : (size_t)reference_greatest(surface->pitch) / surface->pitch;
+            place_point(surface, p, pitch * within(generator, size), pitch * within(generator, size), pitch * within(generator, size));
+        }
+    }
+}
+
+/* Squares as small as can be, of a middle size, or many with a hole of up to 68 edges. */
+static struct squares choose_squares(struct generator *generator)
+{
+    struct squares s = {1 + generate_below(generator, 6), 1 + generate_below(generator, 6), 0, 0, 0, 0, 3 + generate_below(generator, 30)};
+    size_t choice = generate_below(generator, 24);
+    if (choice == 0) {
+        s = (struct squares){19, 19, 1, 1, 16 + generate_below(generator, 3), 18, 30 + generate_below(generator, 200)};
+    } else if (choice == 1) {
+        s.across = 10 + generate_below(generator, 9);
+        s.down = 10 + generate_below(generator, 9);
+    } else if (choice < 8 && s.across > 2 && s.down > 2) {
+        s.left = 1;
+        s.top = 1;
+        s.right = s.across - 1;
+        s.bottom = s.down - 1;
+        s.times *= 2;
+    } else if (choice == 8) {
+        s.times = 0;
+    }
+    return s;
+}
+
+/* A sheet of squares, if there is room for it. */
+static void add_coast(struct generator *generator, struct generated_surface *surface, size_t *points)
+{
+    struct squares s = choose_squares(generator);
+    size_t first = *points;
+    size_t last = first + (s.across + 1) * (s.down + 1);
+    if (surface->corner_count + 6 * s.across * s.down > REFERENCE_MOST_CORNERS || last > REFERENCE_MOST_POINTS) {
+        return;
+    }
+    *points = last;
+    add_squares(generator, surface, &s, first, points);
+    place_squares(generator, surface, &s, first, *points);
+}
+
+/* A single triangle, two that lie on each other, or a tetrahedron. */
+static void add_islet(struct generator *generator, struct generated_surface *surface, size_t *points)
+{
+    size_t first = *points;
+    size_t choice = generate_below(generator, 3);
+    if (surface->corner_count + 12 > REFERENCE_MOST_CORNERS || first + 4 > REFERENCE_MOST_POINTS) {
+        return;
+    }
+    *points += choice == 2 ? 4 : 3;
+    sheet_add_triangle(surface, first, first + 1, first + 2);
+    if (choice == 1) {
+        sheet_add_triangle(surface, first, first + 2, first + 1);
+    }
+    for (size_t side = 0; choice == 2 && side < 3; side++) {
+        sheet_add_triangle(surface, first + (side + 1) % 3, first + side, first + 3);
+    }
+}
+
+/* One of the points from the first on becomes one of those before it: what is new touches what was there in that point alone. */
+static void hang(struct generator *generator, struct generated_surface *surface, size_t corner, size_t first, size_t points)
+{
+    if (first == 0 || first == points) {
+        return;
+    }
+    size_t gone = first + generate_below(generator, points - first);
+    size_t kept = generate_below(generator, first);
+    for (size_t c = corner; c < surface->corner_count; c++) {
+        if (surface->corners[c] == gone) {
+            surface->corners[c] = (uint16_t)kept;
+        }
+    }
+}
+
+/* Whether a triangle has both points. */
+static int has_both(const struct generated_surface *surface, size_t a, size_t b)
+{
+    for (size_t t = 0; t < surface->corner_count / 3; t++) {
+        const uint16_t *corners = surface->corners + 3 * t;
+        if ((corners[0] == a || corners[1] == a || corners[2] == a) && (corners[0] == b || corners[1] == b || corners[2] == b)) {
+            return 1;
+        }
+    }
+    return 0;
+}
+
+/* Two points become one, unless they are joined by an edge, or both to a third point: then a half-edge could be there twice. */
+static void join(struct generated_surface *surface, size_t kept, size_t gone)
+{
+    if (kept == gone || has_both(surface, kept, gone)) {
+        return;
+    }
+    for (size_t c = 0; c < surface->corner_count; c++) {
+        const uint16_t *corners = surface->corners + c - c % 3;
+        if (surface->corners[c] != gone) {
+            continue;
+        }
+        for (size_t other = 0; other < 3; other++) {
+            if (corners[other] != gone && has_both(surface, kept, corners[other])) {
+                return;
+            }
+        }
+    }
+    for (size_t c = 0; c < surface->corner_count; c++) {
+        if (surface->corners[c] == gone) {
+            surface->corners[c] = (uint16_t)kept;
+        }
+    }
+}
+
+/* A few points become one with others, of the same piece or of another. */
+static void join_some(struct generator *generator, struct generated_surface *surface, size_t points)
+{
+    for (size_t joins = generate_below(generator, 6); joins > 0 && points > 0; joins--) {
+        size_t kept = generate_below(generator, points);
+        join(surface, kept, generate_below(generator, points));
+    }
+}
+
+void sheet_make_coasts(struct generator *generator, struct generated_surface *surface)
+{
+    size_t parts = 1 + generate_below(generator, 6);
+    size_t points = 0;
+    surface->pitch = generate_pitch(generator);
+    surface->corner_count = 0;
+    place_points(generator, surface, REFERENCE_MOST_POINTS, 2 * surface->pitch);
+    for (size_t part = 0; part < parts; part++) {
+        size_t first = points;
+        size_t corner = surface->corner_count;
+        if (generate_below(generator, 3) == 0) {
+            add_islet(generator, surface, &points);
+        } else {
+            add_coast(generator, surface, &points);
+        }
+        if (generate_below(generator, 3) > 0) {
+            hang(generator, surface, corner, first, points);
+        }
+    }
+    join_some(generator, surface, points);
+    if (generate_below(generator, 2) == 0) {
+        generate_shuffle_triangles(generator, surface->corners, surface->corner_count);
+    }
+    surface->word_count = 3 * points;
     generate_lend_exactly(surface);
 }
 
@@ -348,11 +547,76 @@ static void make_cut_cone(struct generator *generator, struct generated_surface 
     place_far(surface, foot, length);
 }
 
+/* The points of a sheet of squares, ten pitches apart, and as many as it has. */
+static void place_rows(struct generated_surface *surface, size_t across, size_t down)
+{
+    int32_t step = 10 * (int32_t)surface->pitch;
+    surface->word_count = 3 * (across + 1) * (down + 1);
+    for (size_t p = 0; p < surface->word_count / 3; p++) {
+        place_point(surface, p, step * (int32_t)(p % (across + 1)), step * (int32_t)(p / (across + 1)), 0);
+    }
+}
+
+/* The two triangles of a square, unless they are left out: the one above its diagonal and the one below. */
+static void add_square(struct generated_surface *surface, size_t across, size_t row, size_t column, int no_upper, int no_lower)
+{
+    size_t corner = row * (across + 1) + column;
+    if (!no_upper) {
+        sheet_add_triangle(surface, corner, corner + 1, corner + across + 2);
+    }
+    if (!no_lower) {
+        sheet_add_triangle(surface, corner, corner + across + 2, corner + across + 1);
+    }
+}
+
+/* Moves the triangles of the second half to the front. */
+static void turn_halves(struct generated_surface *surface)
+{
+    uint16_t kept[REFERENCE_MOST_CORNERS];
+    size_t half = surface->corner_count / 6 * 3;
+    memcpy(kept, surface->corners, surface->corner_count * sizeof *kept);
+    for (size_t c = 0; c < surface->corner_count; c++) {
+        surface->corners[c] = kept[(c + half) % surface->corner_count];
+    }
+}
+
+/* A sheet of squares with holes of three edges, no two of which touch: along its upper and its left side those that touch the rim in one
+   vertex, 17 tide pools, and inside 60 lakes. Of these some are listed before the tide pools and some behind. */
+static void make_holed(struct generated_surface *surface)
+{
+    size_t across = 22;
+    size_t down = 23;
+    for (size_t q = 0; q < across * down; q++) {
+        size_t row = q / across;
+        size_t column = q % across;
+        int within_rows = row % 2 == 0 && row > 0 && row < down - 1;
+        int within_columns = column % 3 == 1 && column < across - 1;
+        add_square(surface, across, row, column, column == 0 && within_rows,
+                   within_columns && (row == 0 || (within_rows && column > 1)));
+    }
+    turn_halves(surface);
+    place_rows(surface, across, down);
+}
+
+/* A strip of two rows of squares with 127 tide pools of three edges along its two sides, and no lake. */
+static void make_holed_strip(struct generated_surface *surface)
+{
+    size_t across = 256;
+    for (size_t q = 0; q < 2 * across; q++) {
+        size_t row = q / across;
+        size_t column = q % across;
+        add_square(surface, across, row, column, row == 1 && column % 4 == 3 && column < across - 1, row == 0 && column % 4 == 1);
+    }
+    place_rows(surface, across, 2);
+}
+
 /* ---- Sheets by their number ---- */
 
-/* After so many full sheets come small ones: a plate and a cut cone with one hole of each length from SMALLEST on. */
+/* After so many full sheets come small ones, a plate and a cut cone with one hole of each length from SMALLEST on, and after these full ones
+   with tide pools. */
 #define FULL_SHEETS 19
 #define SMALLEST 4
+#define POOL_SHEETS 29
 
 const char *sheet_make(struct generator *generator, size_t sheet, struct generated_surface *surface, uint32_t pitch)
 {
@@ -367,11 +631,22 @@ const char *sheet_make(struct generator *generator, size_t sheet, struct generat
                                         "plate with a hole of 5", "cone with a hole of 5",
                                         "plate with a hole of 6", "cone with a hole of 6",
                                         "plate with a hole of 7", "cone with a hole of 7",
-                                        "plate with a hole of 8", "cone with a hole of 8"};
+                                        "plate with a hole of 8", "cone with a hole of 8",
+                                        "sheet with tide pools and lakes", "strip with tide pools"};
     if (sheet >= sizeof names / sizeof names[0]) {
         return 0;
     }
     surface->pitch = pitch;
+    if (sheet >= POOL_SHEETS) {
+        surface->corner_count = 0;
+        if (sheet == POOL_SHEETS) {
+            make_holed(surface);
+        } else {
+            make_holed_strip(surface);
+        }
+        generate_lend_exactly(surface);
+        return names[sheet];
+    }
     if (sheet >= FULL_SHEETS) {
         size_t length = SMALLEST + (sheet - FULL_SHEETS) / 2;
         int cone = (sheet - FULL_SHEETS) % 2 == 1;

@@ -27,8 +27,14 @@ void sheet_make_cones(struct generator *generator, struct generated_surface *sur
    cover is left to them; at that pitch, buffers exact. */
 void sheet_make_pair(struct generator *generator, struct generated_surface *surface, size_t first, size_t second, int shut, uint32_t pitch);
 
+/* Sheets of split squares from which triangles are left out, most of them at random, so that they have tide pools and lakes and fall into
+   pieces, large holes and small ones that are shut among them; beside them sheets, islands and closed pieces, some of which hang on a
+   point of what stands before; and a few points made one; at any pitch, buffers exact. */
+void sheet_make_coasts(struct generator *generator, struct generated_surface *surface);
+
 /* The sheet of that number at that pitch: first full ones, then small ones with one hole; its points anywhere on the plate, on whole
-   numbers, which a coarse pitch moves; buffers exact; gives its name, or 0 where there is no sheet of that number. */
+   numbers, which a coarse pitch moves; then full ones with tide pools, whose points lie in rows; buffers exact; gives its name, or 0 where
+   there is no sheet of that number. */
 const char *sheet_make(struct generator *generator, size_t sheet, struct generated_surface *surface, uint32_t pitch);
 
 #endif

@@ -47,6 +47,21 @@ uint32_t wazelpunt_patch(const uint32_t *words, size_t words_count, const uint16
     return (uint32_t)answer.number;
 }
 
+uint32_t wazelpunt_chart(const uint32_t *words, size_t words_count, const uint16_t *corners, size_t corners_count,
+                         int32_t *grid, size_t grid_length, uint16_t *rings, size_t rings_length, uint64_t *records,
+                         size_t records_length, uint16_t *report, size_t report_length, size_t *place, size_t *loops,
+                         size_t *vertices, size_t *entries, uint32_t pitch)
+{
+    struct reference_report_answer answer;
+    reference_report(words, words_count, corners, corners_count, grid, grid_length, rings, rings_length, records, records_length,
+                     report, report_length, pitch, &answer);
+    *place = answer.place;
+    *loops = answer.loops;
+    *vertices = answer.vertices;
+    *entries = answer.entries;
+    return (uint32_t)answer.number;
+}
+
 uint32_t wazelpunt_judge(const uint32_t *words, size_t words_count, const uint16_t *corners, size_t corners_count,
                          const uint16_t *states, size_t states_count, const uint16_t *set, size_t set_count, int32_t *grid,
                          size_t grid_length, uint16_t *rings, size_t rings_length, uint16_t *lengths, size_t lengths_length,
@@ -128,6 +143,7 @@ static struct {
     uint16_t lengths[REFERENCE_MOST_TRIANGLES];
     uint64_t records[REFERENCE_MOST_RECORDS];
     uint16_t patches[REFERENCE_MOST_PATCH_CORNERS];
+    uint16_t report[REFERENCE_MOST_REPORT];
 } desk;
 
 /* What is printed, before it is copied to the caller: snprintf puts a NUL behind it, for which the caller lends no room. */
@@ -216,6 +232,28 @@ uint32_t wazelpunt_list_text(const uint8_t *text, size_t text_length, uint8_t *o
     print_answer(patched.number, patched.place);
     if (patched.number == 0) {
         print_loops(patched.loops);
+    }
+    return end(out, bytes);
+}
+
+uint32_t wazelpunt_chart_text(const uint8_t *text, size_t text_length, uint8_t *out, size_t out_length, size_t *place, size_t *bytes)
+{
+    if (begin(out_length, WAZELPUNT_REPORT_BYTES, place, bytes) != 0) {
+        return WAZELPUNT_BUFFER;
+    }
+    struct reference_read_answer sheet = read_sheet(text, text_length);
+    struct reference_report_answer told = {.number = sheet.number, .place = sheet.place};
+    if (sheet.number == 0) {
+        reference_report(desk.words, sheet.words, desk.corners, sheet.corners, desk.grid, REFERENCE_MOST_WORDS,
+                         desk.rings, REFERENCE_MOST_CORNERS, desk.records, REFERENCE_MOST_RECORDS,
+                         desk.report, REFERENCE_MOST_REPORT, (uint32_t)sheet.pitch, &told);
+    }
+    print_answer(told.number, told.place);
+    if (told.number == 0) {
+        print_number("entries=", told.entries, "\n");
+        for (size_t entry = 0; entry < told.entries; entry++) {
+            print_list("entry=", desk.report + WAZELPUNT_ENTRY * entry, WAZELPUNT_ENTRY);
+        }
     }
     return end(out, bytes);
 }

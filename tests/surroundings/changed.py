@@ -117,20 +117,20 @@ def try_changed(front, tally, room, count, seed):
         write(f'{folder}/{number:04}.patches', patches)
     numbers = {}
     results = []
-    for command in (['list'], ['check', '--beside']):
+    for command in (['list'], ['check', '--beside'], ['report', '--entries']):
         got = front(*command, *names, cwd=folder)
         answers = [line[len(b'answer='):].decode() for line in got.out.split(b'\n') if line.startswith(b'answer=')]
         numbers[command[0]] = {answer.split(',')[0] for answer in answers}
         tally.same(f'{command} of changed ones', (got.status, len(answers), got.out.count(b'# ')), (1, count, count))
         tally.same(f'what {command} says of changed ones', got.err.count(b'wazelpunt: '), count)
-        json = front(*command, '--json', *names, cwd=folder)
+        json = front(*(word for word in command if word != '--entries'), '--json', *names, cwd=folder)
         objects = parsed(tally, f'{command} --json of changed ones', json.out)
         told = [f'{found["answer"]["number"]},{found["answer"]["place"]}' for found in objects]
         tally.same(f'{command} --json of changed ones', (json.status, json.err, told), (1, b'', answers))
         results += [got.out, got.err, json.out]
     # the changes are worth something only if they are answered in many ways
     tally.true('the changed ones are of many kinds', len(numbers['list']) >= 7 and len(numbers['check']) >= 10, f'{numbers}')
-    for command in ('rewrite', 'import'):
+    for command in ('rewrite', 'import', 'report'):
         got = front(command, *names, cwd=folder)
         tally.same(f'{command} of changed ones', (got.status, got.out.count(b'# ')), (1, count))
         results += [got.out, got.err]

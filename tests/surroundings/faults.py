@@ -25,7 +25,9 @@ def try_faults(place):
     scenarios = [('list', 'plate.sheet'), ('list', '-q', 'islands.sheet', '-', 'islands.sheet', 'islands.sheet'),
                  ('check', '--beside', 'plate.sheet', 'plate.sheet'), ('list', '--json', 'refused.sheet', 'plate.sheet'),
                  ('draw', '-q', 'plate.sheet'), ('rewrite', 'refused.sheet'), ('import', 'box.stl', 'cut.stl'),
-                 ('list', 'box.stl', '-'), ('check', 'box.stl', 'plate.patches'), ('list', '--pitch', '5', 'box.stl', 'plate.sheet')]
+                 ('list', 'box.stl', '-'), ('check', 'box.stl', 'plate.patches'), ('list', '--pitch', '5', 'box.stl', 'plate.sheet'),
+                 ('report', 'shore.sheet', '-', 'refused.sheet'), ('report', '--entries', 'shore.sheet', 'refused.sheet'),
+                 ('report', '--json', 'shore.sheet', 'refused.sheet')]
     for arguments in scenarios:
         given = many if 'box.stl' in arguments else place.plate
         whole = place.call(*arguments, given=given)

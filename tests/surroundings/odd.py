@@ -11,8 +11,9 @@ import threading
 import time
 
 from calls import HOME, LIMIT, LONGEST_SET, Front, read, sheets_of, write
-from facets import LONGEST, answer, apart, grid, stl
+from facets import LONGEST, answer, apart, grid, pitch_of, stl
 from place import PIPE, Place, pipe, set_not_waiting, slowly_read, slowly_write
+from records import entries_printed, report_printed
 
 NOBODY = 65534
 SHEET_AND_MORE = b'answer=10,15\n'  # the plate has 14 lines
@@ -21,13 +22,15 @@ PRINTING = [('list', '-q', 'plate.sheet'), ('list', 'plate.sheet'), ('list', '--
             ('check', '--json', 'plate.sheet'), ('rewrite', 'plate.sheet'), ('draw', '-q', 'plate.sheet'), ('example',),
             ('example', 'patches'), ('--help',), ('help', 'check'), ('--version',), ('list', 'refused.sheet'), ('list', 'box.stl'),
             ('import', '-q', 'box.stl'), ('import', 'cut.stl'), ('list', '--pitch', '5', 'box.stl'),
-            ('import', '--pitch=10', '-q', 'box.stl')]
+            ('import', '--pitch=10', '-q', 'box.stl'), ('report', 'shore.sheet'), ('report', '--json', 'shore.sheet'),
+            ('report', '--entries', 'shore.sheet'), ('report', '-q', '--entries', 'shore.sheet'), ('report', 'refused.sheet'),
+            ('report', '--pitch', '5', 'box.stl'), ('help', 'report')]
 
 
 def try_full(place):
     """A full disk, and a file that may not grow."""
     with open('/dev/full', 'wb') as full:
-        for arguments in PRINTING + [('list', '-q', *place.many)]:
+        for arguments in PRINTING + [('list', '-q', *place.many), ('report', *place.many)]:
             got = place.call(*arguments, stdout=full)
             place.due(f'{arguments} to a full disk', got, 2, b'', [b'standard output', b'No space left on device'])
             got = place.call(*arguments, stdout=full, stderr=full)
@@ -37,6 +40,11 @@ def try_full(place):
         place.due('messages to a full disk', got, 2, place.listing)
         got = place.call('list', '-q', 'plate.sheet', stderr=full)
         place.due('no messages to a full disk', got, 0, place.listing)
+        got = place.call('report', '--entries', 'shore.sheet', stderr=full)
+        place.due('what is said of entries to a full disk', got, 2, place.entries)
+        for arguments, out in ((('--entries', '-q'), place.entries), ((), place.report)):
+            got = place.call('report', *arguments, 'shore.sheet', stderr=full)
+            place.due(f'report {arguments}, of which nothing is said, with messages to a full disk', got, 0, out)
     for most in (100, PIPE + 100):
         for is_ignored in (True, False):
             printed = os.path.join(place.room, 'printed')
@@ -61,7 +69,9 @@ def try_closed(place):
              ('check', '-q', 'plate.sheet', '-'): (0, 1), ('check', '-q', '-', 'plate.patches'): (0, 1), ('rewrite', '-'): (0, 1),
              ('list', '-q', '--json', 'plate.sheet'): (1,), ('example',): (1,), ('--help',): (1,), ('--version',): (1,),
              ('draw', '-q', 'plate.sheet'): (1,), ('list', '-q', '-', 'plate.sheet'): (0, 1), ('import', '-q', 'box.stl'): (1,),
-             ('import', 'box.stl'): (1, 2), ('import', '-q', '-'): (0, 1), ('import', '-q'): (0, 1)}
+             ('import', 'box.stl'): (1, 2), ('import', '-q', '-'): (0, 1), ('import', '-q'): (0, 1), ('report', 'shore.sheet'): (1,),
+             ('report', '-'): (0, 1), ('report',): (0, 1), ('report', '--entries', 'shore.sheet'): (1, 2),
+             ('report', '-q', '--entries', '-'): (0, 1), ('report', '--json', 'shore.sheet'): (1,)}
     names = {0: b'standard input is closed', 1: b'standard output is closed'}
     for arguments, used in calls.items():
         given = read(f'{place.folder}/plate.patches') if arguments[0] == 'check' and arguments[-1] == '-' else place.plate
@@ -160,7 +170,8 @@ def try_gone(place):
                             (('list', '-q', *place.many), PIPE + 5000), (('rewrite', *place.many), 1000),
                             (('draw', '-q', *place.many), 1000),
                             (('list', '--json', '--patches', *place.many), 1000), (('example',), 0), (('--help',), 0),
-                            (('list', 'plate.sheet'), 0)):
+                            (('list', 'plate.sheet'), 0), (('report', *place.many), 1000), (('report', 'shore.sheet'), 0),
+                            (('report', '--json', *place.many), 1000), (('report', '-q', '--entries', *place.many), 1000)):
         reading, writing = pipe()
         if most == 0:
             os.close(reading)
@@ -198,7 +209,7 @@ def try_long(place):
             place.due(f'{arguments} of 100 MB', got, 1, SHEET_AND_MORE)
             place.tally.true(f'{arguments} reads no further than it has to', file.tell() <= longest + 1, f'{file.tell()} bytes')
     os.remove(big)
-    for command in ('list', 'rewrite', 'import'):
+    for command in ('list', 'report', 'rewrite', 'import'):
         place.due(f'{command} of /dev/zero', place.call(command, '-q', '/dev/zero'), 1, answer(16))
     place.due('/dev/zero as a set', place.call('check', '-q', 'plate.sheet', '/dev/zero'), 1, SHEET_AND_MORE)
     place.due('/dev/zero, among others', place.call('list', '-q', '/dev/zero', 'plate.sheet'), 1,
@@ -207,7 +218,7 @@ def try_long(place):
     for begin, piece, due, most in ((place.plate, bytes(4096), SHEET_AND_MORE, LONGEST), (b'', b'y\n' * 2048, b'answer=10,1\n', LONGEST),
                                     (place.box, bytes(4096), answer(16), LONGEST),
                                     (stl([], count=100_000), bytes(4096), answer(16), 5_000_084)):
-        for command in ('list', 'rewrite'):
+        for command in ('list', 'report', 'rewrite'):
             reading, writing = pipe()
             fed = []
             feeding = threading.Thread(target=feed_without_end, args=(writing, begin, piece, fed))
@@ -259,7 +270,7 @@ def try_unreadable(place):
                         ('loop.sheet', [b'loop.sheet', b'Too many levels of symbolic links']),
                         ('secret.sheet', [b'secret.sheet', b'Permission denied']), ('n' * 300, [b'n' * 300, b'File name too long']),
                         ('n/' * 3000, [b'File name too long']), ('two words', [b': two words: ']), ('a\nb', [b': a\\nb: '])):
-        for command in ('list', 'rewrite', 'draw', 'import'):
+        for command in ('list', 'report', 'rewrite', 'draw', 'import'):
             got = place.call(command, name, **as_nobody)
             due = [part.replace(b'a sheet', b'an STL file') for part in parts] if command == 'import' else parts
             place.due(f'{command} {name[:20]}', got, 2, b'', due)
@@ -325,6 +336,9 @@ def try_pieces(place):
         got = place.call('list', '-q', '-', given=stl(apart(1100)), through=through + [str(piece)])
         place.due(f'many facets in pieces of {piece}', got, 1, answer(2))
     place.due('writes that are cut short', place.call('list', '-q', *place.many, through=through + ['short']), 0, place.long, b'')
+    long = place.front('report', *place.many, cwd=place.folder).out
+    place.tally.true('there is a long report', len(long) > 2.5 * PIPE)
+    place.due('writes of a report that are cut short', place.call('report', *place.many, through=through + ['short']), 0, long, b'')
     got = place.call('list', '-q', *place.many, through=through + ['refused'])
     place.due('writes that are refused', got, 2, b'', [b'standard output', b'Message too long'])
 
@@ -352,6 +366,13 @@ def try_signals(place):
         place.tally.same(f'{number} in mid read', (ended.status, ended.err), (-number, b''))
 
 
+def reported(stem, is_entries):
+    """The report of a sheet by the model, as its entries or in words."""
+    text, listing = read(f'{stem}.sheet'), read(f'{stem}.listing')
+    pitch = f'pitch {pitch_of(text)}: ' if listing.startswith(b'answer=0,0\n') and pitch_of(text) != 1 else ''
+    return entries_printed(text, listing) if is_entries else report_printed(text, listing, pitch)
+
+
 def try_stack(place, made):
     """A stack of 256 KiB, for the longest loops and for the full sheets of a folder. The emulator gives 8 MiB whatever the limit is, and is
     told apart."""
@@ -361,16 +382,17 @@ def try_stack(place, made):
     cases = f'{HOME}/tests/programs/cases'
     stems = [f'{cases}/hole-64', f'{cases}/hole-64-closed-by-a-fan'] + [f'{made}/{name[:-len(".sheet")]}' for name in sheets_of(made)]
     sheets = [f'{stem}.sheet' for stem in stems]
-    for command, ending in ((['list'], 'listing'), (['check', '--beside'], 'verdict')):
+    for command, ending in ((['list'], 'listing'), (['check', '--beside'], 'verdict'), (['report', '--entries'], None), (['report'], None)):
         got = place.call(*command, '-q', *sheets, preexec_fn=limit, environment=environment)
-        due = b''.join(b'# ' + os.fsencode(f'{stem}.sheet') + b'\n' + read(f'{stem}.{ending}') for stem in stems)
+        printed = [read(f'{stem}.{ending}') if ending else reported(stem, '--entries' in command) for stem in stems]
+        due = b''.join(b'# ' + os.fsencode(f'{stem}.sheet') + b'\n' + each for stem, each in zip(stems, printed))
         place.tally.true(f'{command} with a stack of 256 KiB', got.out == due, repr(got))
     # files of as many facets and points as there may be, and of more points: one that is explained by reading it again and again
     full = [write(os.path.join(place.room, f'{name}.stl'), stl(facets))
             for name, facets in (('grid', grid(32, 16)), ('apart', apart(1024)), ('strip', grid(512, 1)))]
     for command, some in ((['list', '--json', '--patches'], sheets), (['check', '--json', '--beside'], sheets), (['rewrite'], sheets),
                           (['draw'], sheets[:4]), (['draw', '--plan'], sheets[1:3]), (['list'], full), (['list', '--json'], full),
-                          (['import'], full), (['rewrite'], full), (['draw'], full)):
+                          (['import'], full), (['rewrite'], full), (['draw'], full), (['report', '--json'], sheets), (['report'], full)):
         got = place.call(*command, *some, preexec_fn=limit, environment=environment)
         place.tally.true(f'{command} with a stack of 256 KiB', got.status in (0, 1) and got.out != b'', repr(got))
 

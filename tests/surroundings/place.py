@@ -36,6 +36,9 @@ class Place:
         write(f'{self.folder}/box.stl', self.box)
         write(f'{self.folder}/cut.stl', self.box[:-1])
         self.listing = read(f'{HOME}/tests/programs/cases/plate.listing')
+        write(f'{self.folder}/shore.sheet', read(f'{HOME}/examples/shore.sheet'))
+        self.report, self.entries = (self.call('report', '-q', *options, 'shore.sheet').out for options in ([], ['--entries']))
+        tally.same('the report', (self.report.count(b'\n'), self.entries.count(b'\nentry=')), (8, 10))
         # a listing that no pipe holds
         self.many = ['islands.sheet'] * 6
         self.long = self.call('list', '-q', *self.many).out

@@ -13,6 +13,7 @@ from changed import try_changed  # noqa: E402
 from faults import try_faults  # noqa: E402
 from objects import try_objects  # noqa: E402
 from odd import try_odd, try_stack  # noqa: E402
+from report import try_report  # noqa: E402
 from stl import try_files  # noqa: E402
 from told import try_told  # noqa: E402
 
@@ -57,6 +58,9 @@ def main(room):
     try_told(fronts['SANITIZED'], tally)
     try_objects(fronts['SANITIZED'], tally, f'{room}/SANITIZED')
     tell('what is told and the objects, sanitized')
+    # it stands on the reference, which is slow on full sheets
+    try_report(fronts['SANITIZED'], tally, f'{room}/SANITIZED', with_made=False)
+    tell('reports, sanitized')
     try_files(fronts['SANITIZED'], tally, f'{room}/SANITIZED')
     tell('binary STL files, sanitized')
     place.front = fronts['FAULTY']

@@ -21,7 +21,8 @@ class Told:
         self.stem = os.path.splitext(sheet)[0]
         self.patches = f'{self.stem}.patches'
         is_check = os.path.exists(f'{CASES}/{self.patches}')
-        self.command = 'import' if sheet.startswith('import-') else 'check' if is_check else 'list'
+        named = next((command for command in ('import', 'report') if sheet.startswith(f'{command}-')), None)
+        self.command = named or ('check' if is_check else 'list')
         self.due = read(f'{CASES}/{self.stem}.said').decode().split('\n')[:-1]
         self.is_done = ', answer ' not in self.due[0]
 
@@ -59,9 +60,14 @@ def try_text(front, tally, case):
     """What is said of one case alone. What is said after a refusal is given back, for the other ways of asking."""
     names = [case.sheet, case.patches] if case.command == 'check' else [case.sheet]
     got = front(case.command, *names, cwd=CASES)
-    lines = lines_of(got.err)
+    # the words of a report are its output
+    is_reported = case.command == 'report' and case.is_done
+    lines = lines_of(got.out if is_reported else got.err)
     tally.true(case.stem, all_said(lines, case.due), '\n  ' + '\n  '.join(lines) + '\n  but due is\n  ' + '\n  '.join(case.due))
     tally.same(f'the status of {case.stem}', got.status, 0 if case.is_done else 1)
+    if is_reported:
+        tally.same(f'what is said besides of {case.stem}', got.err, b'')
+        return got.out
     # the answer that is said is the one that is printed
     printed = got.out.decode().split('\n')[0].replace('answer=', '', 1)
     done = got.out == imported(read(f'{CASES}/{case.sheet}')) if case.command == 'import' else printed == '0,0'
@@ -88,6 +94,29 @@ def try_together(front, tally, cases, said):
             try_object(tally, case, found, lines_of(said[case.stem]))
     got = front('rewrite', *(case.sheet for case in listed), cwd=CASES)
     tally.same('rewrite of all', got.err, b''.join(case.said_by_rewrite(said[case.stem]) for case in listed))
+    try_reports(front, tally, listed + [case for case in cases if case.command == 'report'], said)
+
+
+def try_reports(front, tally, cases, said):
+    """Reports of all of them in one call: the words of each that is done, and of what is refused just what list says of it."""
+    names = [case.sheet for case in cases]
+    refusals = b''.join(said[case.stem] for case in cases if not case.is_done)
+    printed = b''
+    for options in ([], ['--quiet']):
+        got = front('report', *options, *names, cwd=CASES)
+        tally.same(f'what report {options} of all says', (got.status, got.err), (1, refusals))
+        printed = got.out
+    for case in cases:
+        if case.command == 'report' and case.is_done:
+            due = b'# ' + case.sheet.encode() + b'\n' + said[case.stem]
+            tally.true(f'the report of {case.stem} among others', due in printed, 'is not there')
+    got = front('report', '--entries', '--quiet', *names, cwd=CASES)
+    tally.same('what report --entries of all says', (got.status, got.err), (1, refusals))
+    got = front('report', '--json', *names, cwd=CASES)
+    objects = parsed(tally, 'report --json of all', got.out)
+    tally.same('report --json of all', (got.status, got.err, len(objects)), (1, b'', len(cases)))
+    for case, found in zip(cases, objects):
+        try_object(tally, case, found, lines_of(said[case.stem]))
 
 
 def try_object(tally, case, found, lines):

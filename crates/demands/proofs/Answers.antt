@@ -19,6 +19,7 @@ use Rattle.rim_rules.specs.Rims.{rimList}
 use Rattle.fill_fates.specs.Course.{ringList}
 use Rattle.judge_rules.proofs.Theorems.{verdict-told}
 use Rattle.patch_surface.specs.Outcome as patcher
+use Rattle.chart_surface.specs.Outcome as chart
 use Rattle.judge_surface.specs.Outcome.{JudgesCounted, JudgesIf, Judges}
 use Rattle.text_rules.specs.Text.{TextOf, both}
 use Rattle.text_sheet.specs.Sheet.{Sheet, sheet, pitchSaid, wordsSaid, cornersSaid, text}
@@ -30,10 +31,11 @@ use Rattle.program_rewrite.specs.Rewriting.{Rewrites}
 use Rattle.program_import.specs.Importing.{Imports}
 use Rattle.program_judge.specs.Hears.{HearsLine}
 use Rattle.program_list.specs.Lists.{Prints}
-use Rattle.demands.specs.Answers.{Check, otherPitch, wordCount, cornerCount, shortBuffer, unnamedCorner, stateCount, table, writeChecks, Answered, AnswersDemand}
+use Rattle.program_chart.specs.Charting as charted
+use Rattle.demands.specs.Answers.{otherPitch, wordCount, cornerCount, shortBuffer, unnamedCorner, stateCount, table, writeChecks, Answered, AnswersDemand}
 use Rattle.demands.proofs.Checks.{answerOf, answerBy, answered, last-of, pitch-is, counts-are, table-is, table-refuses, chosen, then-once}
 use Rattle.demands.proofs.Files.{sizing, reading-file, importing-refused, importing}
-use Rattle.demands.proofs.Programs.{sheet-texts, set-texts, hearing-set-wrong, hearing, rewriting-refused, rewriting, printing}
+use Rattle.demands.proofs.Programs.{sheet-texts, set-texts, hearing-set-wrong, hearing, rewriting-refused, rewriting, charting-refused, charting-told, printing}
 
 -- ---- the entry points
 
@@ -45,29 +47,41 @@ surveying pitch words corners b =
     (refusal pitch words corners (survey.lent b) (survey.needs words corners)) (table-is pitch words corners (survey.lent b) (survey.needs words corners))
     (λ a. survey.refused a b) (λ o. o .answer) (survey.done pitch words corners b) _ (λ a. refl) refl refl
 
+-- an outcome by the table alone
+module _ (pitch : ℕ) (words corners lent needs : List ℕ) where
+  abbrev tableRefusal : Answer
+  tableRefusal = refusal pitch words corners lent needs
+
+  by-table : {O : Type 0} (refused : Answer → O) (answer : O → Answer) (o : O) → ((a : Answer) → answer (refused a) ≡ a) → (refusing tableRefusal ≡ true → o ≡ refused tableRefusal)
+      → (refusing tableRefusal ≡ false → refusing (answer o) ≡ false) → Answered (table pitch words corners lent needs) refused answer o
+  by-table refused answer o same if-refused if-not =
+      let is = table-is pitch words corners lent needs in
+      answered (table pitch words corners lent needs) (table-refuses pitch words corners lent needs) refused answer o same (λ h. if-refused (ap refusing is ∙ h) ∙ ap refused is)
+      (λ h. if-not (ap refusing is ∙ h))
+
 module _ (pitch : ℕ) (words corners : List ℕ) (b : patcher.Buffers) (o : patcher.Outcome) (p : patcher.Patches pitch words corners b o) where
   abbrev patchRefusal : Answer
   patchRefusal = refusal pitch words corners (patcher.lent b) (patcher.needs words corners)
 
-  abbrev patchTable : List Check
-  patchTable = table pitch words corners (patcher.lent b) (patcher.needs words corners)
+  patch-if : {t : Bool} → refusing patchRefusal ≡ t → patcher.PatchesIf t patchRefusal pitch words corners b o
+  patch-if e = subst (λ (t : Bool). patcher.PatchesIf t patchRefusal pitch words corners b o) e p
 
-  patch-is : patchRefusal ≡ answerOf patchTable
-  patch-is = table-is pitch words corners (patcher.lent b) (patcher.needs words corners)
+  patching : Answered (table pitch words corners (patcher.lent b) (patcher.needs words corners)) (λ a. patcher.refused a b) (λ x. x .answer) o
+  patching =
+      by-table pitch words corners (patcher.lent b) (patcher.needs words corners) (λ a. patcher.refused a b) (λ x. x .answer) o (λ a. refl) patch-if
+      (λ h. let (fates, course, e) = patch-if h in ap (λ (x : patcher.Outcome). refusing (x .answer)) e)
 
-  patch-refused : refusing (answerOf patchTable) ≡ true → o ≡ patcher.refused (answerOf patchTable) b
-  patch-refused h =
-      let e : o ≡ patcher.refused patchRefusal b = subst (λ (t : Bool). patcher.PatchesIf t patchRefusal pitch words corners b o) (ap refusing patch-is ∙ h) p in
-      e ∙ ap (λ (a : Answer). patcher.refused a b) patch-is
+module _ (pitch : ℕ) (words corners : List ℕ) (b : chart.Buffers) (o : chart.Outcome) (p : chart.Charts pitch words corners b o) where
+  abbrev chartRefusal : Answer
+  chartRefusal = refusal pitch words corners (chart.lent b) (chart.needs words corners)
 
-  patch-done : refusing (answerOf patchTable) ≡ false → refusing (o .answer) ≡ false
-  patch-done h = go (subst (λ (t : Bool). patcher.PatchesIf t patchRefusal pitch words corners b o) (ap refusing patch-is ∙ h) p)
-    where
-      go : patcher.PatchesIf false patchRefusal pitch words corners b o → refusing (o .answer) ≡ false
-      go (fates, course, e) = ap (λ (x : patcher.Outcome). refusing (x .answer)) e
+  chart-if : {t : Bool} → refusing chartRefusal ≡ t → chart.ChartsIf t chartRefusal pitch words corners b o
+  chart-if e = subst (λ (t : Bool). chart.ChartsIf t chartRefusal pitch words corners b o) e p
 
-  patching : Answered patchTable (λ a. patcher.refused a b) (λ x. x .answer) o
-  patching = answered patchTable (table-refuses pitch words corners (patcher.lent b) (patcher.needs words corners)) (λ a. patcher.refused a b) (λ x. x .answer) o (λ a. refl) patch-refused patch-done
+  charting : Answered (table pitch words corners (chart.lent b) (chart.needs words corners)) (λ a. chart.refused a b) (λ x. x .answer) o
+  charting =
+      by-table pitch words corners (chart.lent b) (chart.needs words corners) (λ a. chart.refused a b) (λ x. x .answer) o (λ a. refl) chart-if
+      (λ h. let (fates, course, e) = chart-if h in ap (λ (x : chart.Outcome). refusing (x .answer)) e)
 
 module _ (pitch : ℕ) (words corners states set : List ℕ) (b : survey.Buffers) (o : survey.Outcome) (j : Judges pitch words corners states set b o) where
   abbrev judgeRefusal : Answer
@@ -134,6 +148,7 @@ pub answers-demand : AnswersDemand
 answers-demand = record {
   surveying = surveying;
   patching = patching;
+  charting = charting;
   judging = judging;
   sheet-texts = sheet-texts;
   set-texts = set-texts;
@@ -152,9 +167,13 @@ answers-demand = record {
   rewriting-wrong = λ bytes out w. w .of-fault;
   rewriting-refused = rewriting-refused;
   rewriting = rewriting;
+  charting-wrong = λ bytes out w. w .of-fault;
+  charting-refused = charting-refused;
+  charting-told = charting-told;
   importing-refused = importing-refused;
   importing = importing;
   listing-printed = λ bytes. printing (Prints bytes);
+  charting-printed = λ bytes. printing (charted.Prints bytes);
   hearing-printed = λ bytes patches. printing (HearsLine bytes patches);
   rewriting-printed = λ bytes. printing (Rewrites bytes);
   importing-printed = λ file. printing (Imports file);

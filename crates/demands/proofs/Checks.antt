@@ -43,7 +43,7 @@ due-refuses [] r a d = absurd d
 due-refuses (c ∷ after) r a (inl f) = ap refusing (f .gives-it) ∙ r .0 (f .at)
 due-refuses (c ∷ after) r a (inr d) = due-refuses after (r .1) a (d .1)
 
-is-due : (checks : List Check) → Refuses checks → refusing (answerOf checks) ≡ true → Due checks (answerOf checks)
+pub is-due : (checks : List Check) → Refuses checks → refusing (answerOf checks) ≡ true → Due checks (answerOf checks)
 is-due [] r h = absurd (true≢false (sym h))
 is-due (c ∷ after) r h = go (least (c .finds) (c .places)) refl (is-due after (r .1))
   where

@@ -36,9 +36,11 @@ use Rattle.survey_grid.specs.Grid.{wholeOf, gridOf}
 use Rattle.survey_grid.proofs.Laws.Laying.{no-nan, not-far}
 use Rattle.survey_rules.specs.Outcome as survey
 use Rattle.patch_surface.specs.Outcome as patcher
+use Rattle.chart_surface.specs.Outcome as chart
 use Rattle.judge_surface.specs.Outcome.{JudgesCounted, JudgesIf, Judges}
 use Rattle.demands.specs.Grid.{away, Stands, Gridded, GridDemand}
 use Rattle.demands.proofs.Sets.{patch-done}
+use Rattle.demands.proofs.Report.{chart-done}
 
 module _ (pitch : ℕ) (some : 0 < pitch) (most : pitch ≤ 10) where
   -- ---- one coordinate
@@ -129,6 +131,11 @@ module _ (pitch : ℕ) (some : 0 < pitch) (most : pitch ≤ 10) where
         let (r, (fates, course, e)) = patch-done pitch words corners b o h n in
         subst (λ (x : patcher.Outcome). Gridded pitch words (x .left .grid)) (sym e) (gridded words corners (patcher.lent b) (patcher.needs words corners) r (b .grid))
 
+    charted : (b : chart.Buffers) (o : chart.Outcome) → chart.Charts pitch words corners b o → refusing (o .answer) ≡ false → Gridded pitch words (o .left .grid)
+    charted b o h n =
+        let (r, (fates, course, e)) = chart-done pitch words corners b o h n in
+        subst (λ (x : chart.Outcome). Gridded pitch words (x .left .grid)) (sym e) (gridded words corners (chart.lent b) (chart.needs words corners) r (b .grid))
+
     module _ (states set : List ℕ) (b : survey.Buffers) (o : survey.Outcome) where
       abbrev judgeRefusal : Answer
       judgeRefusal = refusal pitch words corners (survey.lent b) (survey.needs words corners)
@@ -160,5 +167,6 @@ grid-demand pitch v =
       refusals = refusals pitch some most;
       surveyed = surveyed pitch some most;
       patched = patched pitch some most;
+      charted = charted pitch some most;
       judged = judged pitch some most;
     }

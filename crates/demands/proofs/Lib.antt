@@ -9,5 +9,6 @@ pub mod Sets
 pub mod Records
 pub mod Grid
 pub mod Pieces
+pub mod Report
 pub mod Texts
 pub mod Theorems

@@ -25,6 +25,7 @@ use Rattle.loop_rules.specs.Loops.{loops}
 use Rattle.survey_grid.specs.Grid.{gridOf}
 use Rattle.rim_rules.specs.Rims.{rimList}
 use Rattle.fill_fates.specs.Course.{ringList}
+use Rattle.chart_rules.specs.Report.{reportOf}
 use Rattle.judge_rules.proofs.Theorems.{verdict-told}
 use Rattle.text_rules.specs.Text.{TextOf, count, both, bothLines}
 use Rattle.text_rules.specs.Fault.{Fault}
@@ -38,8 +39,9 @@ use Rattle.program_lines.specs.Lines.{answerLine}
 use Rattle.program_lines.specs.Printout.{PrintOutcome}
 use Rattle.program_rewrite.specs.Rewriting.{Rewrites}
 use Rattle.program_judge.specs.Hears.{AnswersCounted, AnswersIf, Answers, Hears}
+use Rattle.program_chart.specs.Charting as charted
 use Rattle.demands.specs.Answers.{Check, Clear, Due, wordCount, cornerCount, unnamedCorner, stateCount, sheetChecks, lineAndSheet, linesBefore, Decided, Answered, PrintsAnswered}
-use Rattle.demands.proofs.Checks.{answerOf, Refuses, due-is, last-of, counts-are, table-is, table-refuses, chosen, then-once}
+use Rattle.demands.proofs.Checks.{answerOf, Refuses, due-is, due-refuses, is-due, last-of, counts-are, table-is, table-refuses, chosen, then-once}
 
 -- the counts of what a text says are right
 text-counts : {bytes : List ℕ} {s : Sheet} → TextOf sheet bytes s → countRefusal (length (wordsSaid s)) (length (cornersSaid s)) ≡ Done
@@ -117,6 +119,25 @@ module _ (bytes out : List ℕ) (w : Rewrites bytes out) (s : Sheet) (t : TextOf
 
   pub rewriting : Clear (unnamedCorner (wordsSaid s) (cornersSaid s)) → out ≡ bytes
   rewriting c = w .of-sheet s t (ap (refuseAt Unnamed) (never-least (unnamedCorner (wordsSaid s) (cornersSaid s) .finds) (length (cornersSaid s)) c))
+
+module _ (bytes out : List ℕ) (w : charted.Prints bytes out) (s : Sheet) (t : TextOf sheet bytes s) where
+  abbrev fourToEight : List Check
+  fourToEight = sheetChecks (pitchSaid s) (wordsSaid s) (cornersSaid s)
+
+  chart-is : sheetRefusal (pitchSaid s) (wordsSaid s) (cornersSaid s) ≡ answerOf fourToEight
+  chart-is = sheet-is (pitchSaid s) (wordsSaid s) (cornersSaid s) (t .says .head-valid) (text-counts t)
+
+  pub charting-refused : (a : Answer) → Due fourToEight a → out ≡ answerLine a
+  charting-refused a d =
+      let all = sheet-refuses (pitchSaid s) (wordsSaid s) (cornersSaid s) in
+      w .of-text s t ∙ rw (chart-is ∙ due-is fourToEight all a d, due-refuses fourToEight all a d)
+
+  pub charting-told : ((a : Answer) → Due fourToEight a → ⊥) → out ≡ charted.reportText (reportOf (gridOf (pitchSaid s) (wordsSaid s)) (cornersSaid s))
+  charting-told none = go (refusing (answerOf fourToEight)) refl
+    where
+      go : (b : Bool) → refusing (answerOf fourToEight) ≡ b → out ≡ charted.reportText (reportOf (gridOf (pitchSaid s) (wordsSaid s)) (cornersSaid s))
+      go true e = absurd (none (answerOf fourToEight) (is-due fourToEight (sheet-refuses (pitchSaid s) (wordsSaid s) (cornersSaid s)) e))
+      go false e = w .of-text s t ∙ rw (ap refusing chart-is ∙ e)
 
 -- the buffer is the one check
 pub printing : (IsDue : List ℕ → Type 0) → PrintsAnswered IsDue

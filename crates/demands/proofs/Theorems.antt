@@ -11,6 +11,7 @@ use Rattle.loop_rules.specs.Loops.{loops, ring}
 use Rattle.survey_rules.specs.Outcome as survey
 use Rattle.fill_edges.specs.Filling.{Filled}
 use Rattle.patch_surface.specs.Outcome as patcher
+use Rattle.chart_surface.specs.Outcome as chart
 use Rattle.judge_surface.specs.Outcome.{Judges}
 use Rattle.demands.specs.Answers.{AnswersDemand}
 use Rattle.demands.specs.Grid.{GridDemand}
@@ -20,6 +21,7 @@ use Rattle.demands.specs.Texts.{TextsDemand}
 use Rattle.demands.specs.Closing.{ClosingDemand}
 use Rattle.demands.specs.Sets.{CheckerDemand, PatcherDemand}
 use Rattle.demands.specs.Pieces.{GroupsDemand, PiecesDemand}
+use Rattle.demands.specs.Report.{ReportDemand}
 use Rattle.demands.proofs.Answers.{answers-demand}
 use Rattle.demands.proofs.Grid.{grid-demand}
 use Rattle.demands.proofs.Kept.{loops-demand}
@@ -28,6 +30,7 @@ use Rattle.demands.proofs.Texts.{texts-demand}
 use Rattle.demands.proofs.Closing.{closing-demand}
 use Rattle.demands.proofs.Sets.{checker-demand, patcher-demand}
 use Rattle.demands.proofs.Pieces.{groups-demand, pieces-demand}
+use Rattle.demands.proofs.Report.{report-demand}
 
 -- 1. Every input gets an answer: any bytes are a text or have a fault; each refusal has a number and a place, is given exactly when the table
 -- says, and changes nothing.
@@ -68,3 +71,7 @@ demand-i-pieces = groups-demand
 
 pub demand-i-rims : (grid : List ℤ) (corners : List ℕ) → Sound corners → PiecesDemand grid corners
 demand-i-rims = pieces-demand
+
+-- (vi) Each loop stands in the report in one place, as the rim of its piece, a tide pool or a lake, and each piece once.
+pub demand-vi-report : (pitch : ℕ) (words corners : List ℕ) (b : chart.Buffers) (o : chart.Outcome) → chart.Charts pitch words corners b o → refusing (o .answer) ≡ false → ReportDemand pitch words corners b o
+demand-vi-report = report-demand

@@ -17,8 +17,11 @@ use Rattle.surface_rules.specs.Edges.{twice, repeats}
 use Rattle.surface_rules.specs.Refusals.{short, unnamed, notFinite, tooFar}
 use Rattle.surface_rules.specs.Threes.{Three, threes, flat}
 use Rattle.loop_rules.specs.Loops.{loops}
+use Rattle.survey_grid.specs.Grid.{gridOf}
 use Rattle.survey_rules.specs.Outcome as survey
 use Rattle.patch_surface.specs.Outcome as patcher
+use Rattle.chart_rules.specs.Report.{reportOf}
+use Rattle.chart_surface.specs.Outcome as chart
 use Rattle.judge_surface.specs.Outcome.{Judges}
 use Rattle.text_rules.specs.Text.{Format, TextOf, both}
 use Rattle.text_rules.specs.Fault.{Fault}
@@ -36,6 +39,7 @@ use Rattle.program_rewrite.specs.Rewriting.{Rewrites}
 use Rattle.program_import.specs.Importing.{Imports}
 use Rattle.program_judge.specs.Hears.{Hears, HearsLine}
 use Rattle.program_list.specs.Lists.{Lists, Prints}
+use Rattle.program_chart.specs.Charting as charted
 
 -- ---- the table
 
@@ -176,6 +180,8 @@ pub record AnswersDemand : Type 0 where
       → Answered (table pitch words corners (survey.lent b) (survey.needs words corners)) (λ a. survey.refused a b) (λ o. o .answer) (survey.surveyOf pitch words corners b)
   pub patching : (pitch : ℕ) (words corners : List ℕ) (b : patcher.Buffers) (o : patcher.Outcome) → patcher.Patches pitch words corners b o
       → Answered (table pitch words corners (patcher.lent b) (patcher.needs words corners)) (λ a. patcher.refused a b) (λ p. p .answer) o
+  pub charting : (pitch : ℕ) (words corners : List ℕ) (b : chart.Buffers) (o : chart.Outcome) → chart.Charts pitch words corners b o
+      → Answered (table pitch words corners (chart.lent b) (chart.needs words corners)) (λ a. chart.refused a b) (λ p. p .answer) o
   pub judging : (pitch : ℕ) (words corners states patches : List ℕ) (b : survey.Buffers) (o : survey.Outcome) → Judges pitch words corners states patches b o
       → Answered (table pitch words corners (survey.lent b) (survey.needs words corners) ++ (stateCount corners states ∷ [])) (λ a. survey.refused a b) (λ p. p .answer) o
   -- any bytes are a text or have a fault, so that what follows speaks of all of them
@@ -224,12 +230,20 @@ pub record AnswersDemand : Type 0 where
       → (a : Answer) → Due (unnamedCorner (wordsSaid s) (cornersSaid s) ∷ []) a → out ≡ answerLine a
   pub rewriting : (bytes out : List ℕ) → Rewrites bytes out → (s : Sheet) → TextOf sheet bytes s
       → Clear (unnamedCorner (wordsSaid s) (cornersSaid s)) → out ≡ bytes
+  -- a sheet's text that is charted: 10, and then 4 to 8 are printed as an answer line, and where nothing is due the report
+  pub charting-wrong : (bytes out : List ℕ) → charted.Prints bytes out → (line : ℕ) → Fault sheet bytes line → out ≡ answerLine (Line line)
+  pub charting-refused : (bytes out : List ℕ) → charted.Prints bytes out → (s : Sheet) → TextOf sheet bytes s
+      → (a : Answer) → Due (sheetChecks (pitchSaid s) (wordsSaid s) (cornersSaid s)) a → out ≡ answerLine a
+  pub charting-told : (bytes out : List ℕ) → charted.Prints bytes out → (s : Sheet) → TextOf sheet bytes s
+      → ((a : Answer) → Due (sheetChecks (pitchSaid s) (wordsSaid s) (cornersSaid s)) a → ⊥)
+      → out ≡ charted.reportText (reportOf (gridOf (pitchSaid s) (wordsSaid s)) (cornersSaid s))
   -- a file that is imported: 16, 2 and 1 are printed as an answer line, and for any other file the text of its sheet
   pub importing-refused : (file out : List ℕ) → Imports file out → (a : Answer) → Due (fileChecks file) a → out ≡ answerLine a
   pub importing : (file out : List ℕ) → Imports file out → Clear (wrongSize (length file) (facets file)) → Clear (manyFacets (facets file)) → Clear (manyPoints file)
       → TextOf sheet out (sheetOf 1 (pointsIn file) (threes (cornersIn file)))
   -- the same printed into a lent buffer
   pub listing-printed : (bytes : List ℕ) → PrintsAnswered (Prints bytes)
+  pub charting-printed : (bytes : List ℕ) → PrintsAnswered (charted.Prints bytes)
   pub hearing-printed : (bytes patches : List ℕ) → PrintsAnswered (HearsLine bytes patches)
   pub rewriting-printed : (bytes : List ℕ) → PrintsAnswered (Rewrites bytes)
   pub importing-printed : (file : List ℕ) → PrintsAnswered (Imports file)

@@ -15,6 +15,7 @@ use Rattle.grid_coordinate.specs.declared.Coordinate.the-variants.{Exact, Shift
 use Rattle.surface_rules.specs.Refusals.{notFinite, tooFar}
 use Rattle.survey_rules.specs.Outcome as survey
 use Rattle.patch_surface.specs.Outcome as patcher
+use Rattle.chart_surface.specs.Outcome as chart
 use Rattle.judge_surface.specs.Outcome.{Judges}
 
 -- how far a value lies from a whole number of plate units, of which each has 2^149 units
@@ -50,10 +51,12 @@ pub record GridDemand (pitch : ℕ) : Type 0 where
   -- "Not finite" and "too far" are the refusals 7 and 8 of a sheet that has the word, and the other two are none.
   pub refusals : (words : List ℕ) (i : ℕ) (c : Coordinate) → Places pitch (ofBits binary32 (getD words i 0)) c
       → answerOf i c ≡ cond (notFinite words i) (answer.NotFinite i) (cond (tooFar pitch words i) (answer.TooFar i) answer.Done)
-  -- The grid that a survey, the patcher or the checker leaves, where it does not refuse, has these numbers.
+  -- The grid that a survey, the patcher, charting or the checker leaves, where it does not refuse, has these numbers.
   pub surveyed : (words corners : List ℕ) (b : survey.Buffers) → refusing (survey.surveyOf pitch words corners b .answer) ≡ false
       → Gridded pitch words (survey.surveyOf pitch words corners b .left .grid)
   pub patched : (words corners : List ℕ) (b : patcher.Buffers) (o : patcher.Outcome) → patcher.Patches pitch words corners b o → refusing (o .answer) ≡ false
+      → Gridded pitch words (o .left .grid)
+  pub charted : (words corners : List ℕ) (b : chart.Buffers) (o : chart.Outcome) → chart.Charts pitch words corners b o → refusing (o .answer) ≡ false
       → Gridded pitch words (o .left .grid)
   pub judged : (words corners states set : List ℕ) (b : survey.Buffers) (o : survey.Outcome) → Judges pitch words corners states set b o → refusing (o .answer) ≡ false
       → Gridded pitch words (o .left .grid)

@@ -5,4 +5,5 @@ pub mod Records
 pub mod Closing
 pub mod Sets
 pub mod Pieces
+pub mod Report
 pub mod Texts

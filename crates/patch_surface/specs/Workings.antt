@@ -1,3 +1,4 @@
 -- Definitions that serve the code: contracts of inner functions name them, and no promise of an entry point does.
 pub mod Checking
 pub mod Weighing
+pub mod Filling

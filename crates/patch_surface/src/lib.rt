@@ -8,7 +8,9 @@ ghost use Rattle.base_types.specs.Pitches.{pitchOf};
 ghost use Rattle.check_surface.specs.Workings.Checks.{Fitted};
 ghost use Rattle.fill_scratch.specs.Workings.Tray.{EdgeRoom};
 ghost use Rattle.patch_surface.specs.Outcome.{buffers};
-ghost use Rattle.patch_surface.specs.Workings.Checking.{Bench, Checks, PatchRoom, Finishes};
+ghost use Rattle.patch_records.specs.Workings.Columns.{columns};
+ghost use Rattle.patch_surface.specs.Workings.Checking.{GridFirst, ChecksWith, Bench, Checks, PatchRoom, Finishes};
+ghost use Rattle.patch_surface.specs.Workings.Filling.{FoundLoops, FillRoom, Fills};
 ghost use Rattle.patch_surface.specs.Workings.Weighing.{weighing, WeighRoom, Weighs};
 use base_answers::Answer;
 use base_types::Loop;
@@ -41,7 +43,23 @@ pub fn check(
     let n = corners.len();
     let lent = [grid.len(), rings.len(), records.len(), patches.len()];
     let needs = [words.len(), n, Loop::RECORD * (n / 3), 3 * n];
-    let checked = check_surface::check(words, corners, &lent, &needs, turns, pitch);
+    check_with(words, corners, &lent, &needs, turns, grid, pitch)
+}
+
+// The same with any list of lent buffers, of which the grid is the first, and how long each need be.
+pub fn check_with(
+    words: &[u32],
+    corners: &[u16],
+    lent: &[usize],
+    needs: &[usize],
+    turns: &mut [u16],
+    grid: &mut [i32],
+    pitch: Pitch,
+) -> Answer
+    requires { ⌜ Fitted (now words) (now corners) (now turns) × GridFirst (now words) (now lent) (now needs) (now grid) ⌝ }
+    ensures { λ r. ⌜ ChecksWith (pitchOf pitch) (was words) (was corners) (was lent) (was needs) (was grid) r (left turns) (left grid) ⌝ }
+{
+    let checked = check_surface::check(words, corners, lent, needs, turns, pitch);
     if checked.refuses() {
         return checked;
     }
@@ -86,24 +104,61 @@ pub fn patch_checked(
         runs,
         states,
     );
-    let laid = run_course(
+    let laid = fill_found(
         grid,
         corners,
         &rings[..vertices],
         &lengths[..loops],
+        firsts,
+        places,
+        runs,
         states,
         records,
         patches,
         turns,
         path,
     );
-    patch_records::lay(&lengths[..loops], states, firsts, places, runs, records);
     Patched {
         answer: Answer::Done,
         loops,
         vertices,
         corners: laid,
     }
+}
+
+// What becomes of the loops that were found, listed and marked, and the record of each, laid from its columns. Answers how many corners were laid.
+// Nobody needs the turns and the path any more: they become the links and the ends of the chained edges.
+pub fn fill_found(
+    grid: &[i32],
+    corners: &[u16],
+    rings: &[u16],
+    lengths: &[u16],
+    firsts: &[u16],
+    pieces: &[u16],
+    runs: &[u32],
+    states: &mut [u16],
+    records: &mut [u64],
+    patches: &mut [u16],
+    turns: &mut [u16],
+    path: &mut [u16],
+) -> usize
+    requires { ⌜ FoundLoops (now grid) (now corners) (now rings) (columns (now lengths) (now states) (now firsts) (now pieces) (now runs)) ⌝ }
+    requires { ⌜ FillRoom (now corners) (columns (now lengths) (now states) (now firsts) (now pieces) (now runs)) (now records) (now patches) × EdgeRoom (now corners) (now turns) (now path) ⌝ }
+    ensures { λ r. ⌜ Fills (was grid) (was corners) (was records) (was patches) r (left records) (left patches) ⌝ }
+{
+    let laid = run_course(
+        grid,
+        corners,
+        rings,
+        lengths,
+        states,
+        records,
+        patches,
+        turns,
+        path,
+    );
+    patch_records::lay(lengths, states, firsts, pieces, runs, records);
+    laid
 }
 
 // The course over the loops that were found. The weights come to stand in the last seventh of the place of the records, until these are

@@ -19,7 +19,7 @@ joined (n ∷ m ∷ l) = decimal n ++ (comma ∷ joined (m ∷ l))
 unfoldable pub line : List ℕ → List ℕ → List ℕ
 line key numbers = key ++ joined numbers
 
--- `answer=`, `loops=`, `loop=`, `ring=` and `patch=`
+-- `answer=`, `loops=`, `loop=`, `ring=`, `patch=`, `entries=` and `entry=`
 abbrev pub answer= : List ℕ
 answer= = 97 ∷ 110 ∷ 115 ∷ 119 ∷ 101 ∷ 114 ∷ 61 ∷ []
 
@@ -34,6 +34,12 @@ ring= = 114 ∷ 105 ∷ 110 ∷ 103 ∷ 61 ∷ []
 
 abbrev pub patch= : List ℕ
 patch= = 112 ∷ 97 ∷ 116 ∷ 99 ∷ 104 ∷ 61 ∷ []
+
+abbrev pub entries= : List ℕ
+entries= = 101 ∷ 110 ∷ 116 ∷ 114 ∷ 105 ∷ 101 ∷ 115 ∷ 61 ∷ []
+
+abbrev pub entry= : List ℕ
+entry= = 101 ∷ 110 ∷ 116 ∷ 114 ∷ 121 ∷ 61 ∷ []
 
 -- bytes were put into a buffer from a place on, and r is the place behind them
 pub record PutAt (at : ℕ) (bytes before : List ℕ) (r : ℕ) (after : List ℕ) : Type 0 where

@@ -77,7 +77,7 @@ pub fn put_number(out: &mut [u8], at: usize, n: u64, end: u8) -> usize
 }
 
 // Puts a line of a key and one number.
-fn put_one(out: &mut [u8], at: usize, key: &[u8], a: u64) -> usize
+pub fn put_one(out: &mut [u8], at: usize, key: &[u8], a: u64) -> usize
     requires { ⌜ at + length (line (now key) (a ∷ [])) ≤ length (now out) ⌝ }
     ensures { λ r. ⌜ PutAt at (line (was key) (a ∷ [])) (was out) r (left out) ⌝ }
 {
@@ -86,7 +86,7 @@ fn put_one(out: &mut [u8], at: usize, key: &[u8], a: u64) -> usize
 }
 
 // Puts a line of a key and two numbers.
-fn put_two(out: &mut [u8], at: usize, key: &[u8], a: u64, b: u64) -> usize
+pub fn put_two(out: &mut [u8], at: usize, key: &[u8], a: u64, b: u64) -> usize
     requires { ⌜ at + length (line (now key) (a ∷ b ∷ [])) ≤ length (now out) ⌝ }
     ensures { λ r. ⌜ PutAt at (line (was key) (a ∷ b ∷ [])) (was out) r (left out) ⌝ }
 {

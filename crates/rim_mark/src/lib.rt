@@ -4,6 +4,7 @@ ghost use Prim.Native.Nat.{_≤_};
 ghost use lib.ListN.{length};
 ghost use Rattle.base_types.specs.Lent.{was, left};
 ghost use Rattle.surface_rules.specs.Buffers.{over};
+ghost use Rattle.rim_pieces.specs.Computed.{pieceCount};
 ghost use Rattle.rim_mark.specs.Workings.Running.{ringRun, RingRoom, MeasureRoom, Measures, MeasuresAll};
 ghost use Rattle.rim_mark.specs.Workings.Ranking.{HouseRoom, Houses, RankRoom, Rivals, Ranks, toldMarks, TellRoom};
 ghost use Rattle.rim_mark.specs.Workings.Marking.{MarkRoom, Marked, AllRoom, AllMarked};
@@ -70,20 +71,53 @@ pub fn mark_all(
     if n == 0 {
         return;
     }
-    measure_all(grid, rings, lengths, runs);
     // a loop without another is a rim; if it begins on triangle 0, it lies in piece 0
     if n == 1 {
         if firsts[0] < 3 {
+            measure_all(grid, rings, lengths, runs);
             pieces[0] = 0;
             marks[0] = State::RIM;
             return;
         }
     }
+    mark_counted(
+        grid,
+        corners,
+        rings,
+        lengths,
+        firsts,
+        turns,
+        path,
+        pieces,
+        runs,
+        marks,
+    );
+}
+
+// The same, whatever loops there are, and how many pieces.
+pub fn mark_counted(
+    grid: &[i32],
+    corners: &[u16],
+    rings: &[u16],
+    lengths: &[u16],
+    firsts: &[u16],
+    turns: &[u16],
+    path: &mut [u16],
+    pieces: &mut [u16],
+    runs: &mut [u32],
+    marks: &mut [u16],
+) -> usize
+    requires { ⌜ AllRoom (now grid) (now corners) (now rings) (now lengths) (now firsts) (now turns) (now path) (now pieces) (now runs) (now marks) ⌝ }
+    ensures { λ r. ⌜ AllMarked (was grid) (was corners) (was marks) (left pieces) (left runs) (left marks) × (r ≡ pieceCount (was corners)) ⌝ }
+{
+    let n = lengths.len();
+    measure_all(grid, rings, lengths, runs);
     let count = rim_pieces::number(corners, turns, pieces, path);
     house(firsts, path, n, pieces);
     rim_pieces::clear(path, count);
     rank(pieces, runs, n, path);
     tell(pieces, path, n, marks);
+    count
 }
 
 // The same for a few loops, with a short list of runs.

@@ -1,4 +1,4 @@
--- What the demands cite of pieces: to be joined is the least equivalence that has triangles with a shared edge together, the computed numbers are the numbers of the pieces, no other numbering is, and a loop lies in one piece.
+-- What the demands cite of pieces: to be joined is the least equivalence that has triangles with a shared edge together, the computed numbers are the numbers of the pieces, no other numbering is, so many numbers are given, and a loop lies in one piece.
 use mathlib.Core.Path.{_≡_, refl}
 use mathlib.Core.List.{List, [], _∷_}
 use Prim.Native.Nat.{ℕ, _/_, _<_}
@@ -7,9 +7,10 @@ use Rattle.surface_rules.specs.Smallest.{least}
 use Rattle.surface_rules.specs.Edges.{Sound, following, goes, twin}
 use Rattle.loop_rules.specs.Loops.{loops}
 use Rattle.rim_pieces.specs.Pieces.{triangleCount, Shares, Joined, itself, onward, Numbered}
-use Rattle.rim_pieces.specs.Computed.{smallestBy, numbersBelow, unite, many, smallestOf, pieceOf, pieceNumbers}
+use Rattle.rim_pieces.specs.Computed.{smallestBy, numbersBelow, unite, many, smallestOf, pieceOf, pieceNumbers, pieceCount}
+use Rattle.rim_pieces.specs.Workings.Flooding.{Numbers}
 use Rattle.rim_pieces.proofs.Laws.Joining.{numbered-once}
-use Rattle.rim_pieces.proofs.Laws.Uniting.{pieces-numbered, pieces-same}
+use Rattle.rim_pieces.proofs.Laws.Uniting.{pieces-numbered, pieces-same, number-below, number-given, count-only}
 use Rattle.rim_pieces.proofs.Laws.OnePiece.{loop-in-one-piece}
 
 -- Whatever holds between triangles that share an edge, of each and itself, and is handed on, holds between joined ones.
@@ -26,6 +27,18 @@ module _ (corners : List ℕ) (sound : Sound corners) where
   -- No other numbers are such.
   pub numbered-so : (pieces : List ℕ) → Numbered corners pieces → (t : ℕ) → t < triangleCount corners → getD pieces t 0 ≡ getD (pieceNumbers corners) t 0
   numbered-so pieces q = numbered-once corners pieces (pieceNumbers corners) q numbered
+
+  -- Each triangle's number is below the count of the pieces,
+  pub piece-below : (t : ℕ) → t < triangleCount corners → pieceOf corners t < pieceCount corners
+  piece-below = number-below corners sound
+
+  -- and each number below it is that of some triangle.
+  pub piece-given : (n : ℕ) → n < pieceCount corners → (t : ℕ) × (t < triangleCount corners) × (pieceOf corners t ≡ n)
+  piece-given = number-given corners sound
+
+  -- Whoever numbers all pieces, and gives each number below a count and no other, counts them so.
+  pub count-is : (count : ℕ) (pieces : List ℕ) → Numbers corners count pieces → count ≡ pieceCount corners
+  count-is = count-only corners sound
 
   -- Joined triangles have one number.
   pub joined-alike : (t u : ℕ) → Joined corners t u → pieceOf corners t ≡ pieceOf corners u

@@ -50,3 +50,7 @@ pieceOf corners t = many (λ s. eqb (smallestOf corners s) s) (smallestOf corner
 -- the numbers of all triangles
 abbrev pub pieceNumbers : List ℕ → List ℕ
 pieceNumbers corners = map (pieceOf corners) (numbersBelow (triangleCount corners))
+
+-- how many pieces there are: as many as smallest triangles
+unfoldable pub pieceCount : List ℕ → ℕ
+pieceCount corners = many (λ s. eqb (smallestOf corners s) s) (triangleCount corners)

@@ -27,10 +27,13 @@ use Rattle.survey_rules.specs.declared.Surveyed.{Surveyed}
 use Rattle.patch_surface.specs.Outcome as patcher
 use Rattle.patch_surface.specs.declared.Patched.{Patched}
 use Rattle.patch_surface.proofs.Theorems.{patches-once}
+use Rattle.chart_surface.specs.Outcome as charter
+use Rattle.chart_surface.specs.declared.Charted.{Charted}
+use Rattle.chart_surface.proofs.Theorems.{charts-once}
 use Rattle.judge_answer.specs.declared.Judged.{Judged}
 use Rattle.judge_surface.specs.Outcome as checker
 use Rattle.judge_surface.proofs.Theorems.{judges-once}
-use Rattle.wazelpunt.specs.ForC.{TellsPlace, TellsIf, Tells, wholeOf, floatOf, Told, told, surveyed, JudgesTold, PatchTold, patchTold, patched, PatchesTold}
+use Rattle.wazelpunt.specs.ForC.{TellsPlace, TellsIf, Tells, wholeOf, floatOf, Told, told, surveyed, JudgesTold, PatchTold, patchTold, patched, PatchesTold, ChartTold, chartTold, charted, ChartsTold}
 
 number-no-nan : (x : Float) → T (finite x) → T (not (isNan x))
 unfolding isNan
@@ -111,6 +114,20 @@ told-patch pitch words corners b r b′ n p en ep h = record {
 pub patches-told-once : (pitch : ℕ) (words corners : List ℕ) (b : patcher.Buffers) (s t : PatchTold) → PatchesTold pitch words corners b s → PatchesTold pitch words corners b t → s ≡ t
 patches-told-once pitch words corners b s t p q =
     p .its-numbers ∙ ap patched (patches-once pitch words corners b (p .outcome) (q .outcome) (p .right) (q .right)) ∙ sym (q .its-numbers)
+
+-- a charting's answer, field by field
+pub told-chart : (pitch : ℕ) (words corners : List ℕ) (b : charter.Buffers) (r : Charted) (b′ : charter.Buffers) (n p : ℕ) → n ≡ numberOf (r .answer) → p ≡ placeOf (r .answer) → charter.Charts pitch words corners b (charter.outcome r b′)
+    → ChartsTold pitch words corners b (chartTold n p (r .loops) (r .vertices) (r .entries) b′)
+told-chart pitch words corners b r b′ n p en ep h = record {
+  outcome = charter.outcome r b′;
+  right = h;
+  its-numbers = λ t. chartTold (en t) (ep t) (r .loops) (r .vertices) (r .entries) b′;
+}
+
+-- any two chartings told of one input and the same buffers are equal
+pub charts-told-once : (pitch : ℕ) (words corners : List ℕ) (b : charter.Buffers) (s t : ChartTold) → ChartsTold pitch words corners b s → ChartsTold pitch words corners b t → s ≡ t
+charts-told-once pitch words corners b s t p q =
+    p .its-numbers ∙ ap charted (charts-once pitch words corners b (p .outcome) (q .outcome) (p .right) (q .right)) ∙ sym (q .its-numbers)
 
 -- a judgement, field by field
 pub told-judge : (pitch : ℕ) (words corners states set : List ℕ) (b : Buffers) (r : Judged) (b′ : Buffers) (n p : ℕ) → n ≡ numberOf (r .answer) → p ≡ placeOf (r .answer) → checker.Judges pitch words corners states set b (checker.outcome r b′)

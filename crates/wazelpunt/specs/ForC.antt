@@ -13,6 +13,7 @@ use Rattle.grid_coordinate.specs.declared.Coordinate.{Coordinate}
 use Rattle.grid_coordinate.specs.declared.Coordinate.the-variants.{Exact, Shifted, NotFinite, TooFar}
 use Rattle.survey_rules.specs.Outcome.{Buffers, Outcome}
 use Rattle.patch_surface.specs.Outcome as patcher
+use Rattle.chart_surface.specs.Outcome as charter
 use Rattle.judge_surface.specs.Outcome.{Judges}
 
 -- the whole number of an answer, or 0
@@ -79,6 +80,27 @@ pub record PatchesTold (pitch : ℕ) (words corners : List ℕ) (b : patcher.Buf
   pub outcome : patcher.Outcome
   pub right : patcher.Patches pitch words corners b outcome
   pub its-numbers : t ≡ patched outcome
+
+-- a charting's answer in numbers, with what it leaves
+pub record ChartTold : Type 0 where
+  pub number : ℕ
+  pub place : ℕ
+  pub loops : ℕ
+  pub vertices : ℕ
+  pub entries : ℕ
+  pub left : charter.Buffers
+
+abbrev pub chartTold : ℕ → ℕ → ℕ → ℕ → ℕ → charter.Buffers → ChartTold
+chartTold number place loops vertices entries b = record { number = number; place = place; loops = loops; vertices = vertices; entries = entries; left = b }
+
+abbrev pub charted : charter.Outcome → ChartTold
+charted o = chartTold (numberOf (o .answer)) (placeOf (o .answer)) (o .loops) (o .vertices) (o .entries) (o .left)
+
+-- what is told is an outcome of charting
+pub record ChartsTold (pitch : ℕ) (words corners : List ℕ) (b : charter.Buffers) (t : ChartTold) : Type 0 where
+  pub outcome : charter.Outcome
+  pub right : charter.Charts pitch words corners b outcome
+  pub its-numbers : t ≡ charted outcome
 
 -- what is told is an outcome of the checker
 pub record JudgesTold (pitch : ℕ) (words corners states set : List ℕ) (b : Buffers) (t : Told) : Type 0 where

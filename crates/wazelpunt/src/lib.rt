@@ -6,6 +6,7 @@ ghost use Rattle.base_types.specs.Lent.{was, left};
 ghost use Rattle.base_types.specs.Pitches.{pitchOf};
 ghost use Rattle.survey_rules.specs.Outcome.{buffers, surveyOf};
 ghost use Rattle.patch_surface.specs.Outcome as patcher;
+ghost use Rattle.chart_surface.specs.Outcome as charter;
 ghost use Rattle.text_write.specs.Outcome.{writes};
 ghost use Rattle.stl_rules.specs.Reading.{sizeRefusal, readsFile};
 ghost use Rattle.base_limits.specs.Limits.{sheet-text};
@@ -13,7 +14,8 @@ ghost use Rattle.program_rewrite.specs.Rewriting.{Rewrites};
 ghost use Rattle.program_import.specs.Importing.{Imports};
 ghost use Rattle.program_judge.specs.Hears.{HearsLine};
 ghost use Rattle.program_list.specs.Lists.{Prints};
-ghost use Rattle.wazelpunt.specs.ForC.{TellsPlace, Tells, told, surveyed, JudgesTold, patchTold, PatchesTold};
+ghost use Rattle.program_chart.specs.Charting as charting;
+ghost use Rattle.wazelpunt.specs.ForC.{TellsPlace, Tells, told, surveyed, JudgesTold, patchTold, PatchesTold, chartTold, ChartsTold};
 ghost use Rattle.wazelpunt.specs.Texts.{textTold, sheetRead, ReadsTold, ReadsSetTold, writeTold, written};
 ghost use Rattle.wazelpunt.specs.Prints.{PrintsTold};
 ghost use Rattle.wazelpunt.specs.Facets.{handed, handsOut};
@@ -21,6 +23,7 @@ use base_answers::Answer;
 use base_types::Named;
 use base_types::Pitch;
 use grid_coordinate::Coordinate;
+use program_chart::REPORT;
 use program_lines::LINE;
 use program_roll::LISTING;
 use stl_facets::Step;
@@ -134,6 +137,35 @@ pub extern "C" fn wazelpunt_patch(
     answer.number()
 }
 
+// Charts a surface at that pitch, as `chart` does: the grid, the ring vertices, the records of the loops and the entries of the report are left
+// in the lent buffers; the number of the answer is returned, and its place and the three counts are left too.
+#[no_mangle]
+pub extern "C" fn wazelpunt_chart(
+    words: &[u32],
+    corners: &[u16],
+    grid: &mut [i32],
+    rings: &mut [u16],
+    records: &mut [u64],
+    report: &mut [u16],
+    place: &mut usize,
+    loops: &mut usize,
+    vertices: &mut usize,
+    entries: &mut usize,
+    pitch: u32,
+) -> u32
+    ensures { λ r. ⌜ ChartsTold pitch (was words) (was corners) (charter.buffers (was grid) (was rings) (was records) (was report))
+        (chartTold r (left place) (left loops) (left vertices) (left entries)
+        (charter.buffers (left grid) (left rings) (left records) (left report))) ⌝ }
+{
+    let charted = chart::chart(words, corners, grid, rings, records, report, pitch);
+    let answer = charted.answer;
+    *place = answer.place();
+    *loops = charted.loops;
+    *vertices = charted.vertices;
+    *entries = charted.entries;
+    answer.number()
+}
+
 // Judges a patch set for a surface at that pitch, as `judge` does: the grid, the ring vertices and the ring lengths are left in the lent
 // buffers; the number of the answer is returned, and its place, how many loops there are and how many vertices their rings have are left
 // too.
@@ -244,6 +276,24 @@ pub extern "C" fn wazelpunt_list_text(
     let own = listed.answer;
     *place = own.place();
     *bytes = listed.bytes;
+    own.number()
+}
+
+// Prints the report of a sheet's text, or an answer's line, as the charting program does, into the lent buffer; the number of the call's own
+// answer is returned, and its place and how many bytes were printed are left too.
+#[no_mangle]
+pub extern "C" fn wazelpunt_chart_text(
+    text: &[u8],
+    out: &mut [u8],
+    place: &mut usize,
+    bytes: &mut usize,
+) -> u32
+    ensures { λ r. do most ← ⟦REPORT⟧ .entry; ⌜ PrintsTold most (charting.Prints (was text)) (was out) (writeTold r (left place) (left bytes) (left out)) ⌝ }
+{
+    let charted = program_chart::print(text, out);
+    let own = charted.answer;
+    *place = own.place();
+    *bytes = charted.bytes;
     own.number()
 }
 

@@ -1,10 +1,9 @@
--- `patch_checked` lists the loops, marks the rims, runs the course and lays the records.
+-- `patch_checked` lists the loops, marks the rims, and fills what was found.
 use mathlib.Core.Path.{_∙_}
-use native.Mathlib.Omega.{arith}
 use borrow.Author.Needs.{needs}
 use Rattle.surface_rules.proofs.Laws.Lists.{as-long}
 use Rattle.survey_rules.proofs.Laws.Parts.{rings-in, lengths-in}
-use Rattle.patch_surface.proofs.Laws.Patching.{list-room, mark-room, weigh-room, lay-room, completes}
+use Rattle.patch_surface.proofs.Laws.Patching.{found-loops, list-room, mark-room, fill-room, edge-room, completes}
 use Rattle.patch_surface.proofs.patch_checked.Statement.{statement}
 use Rattle.patch_surface.proofs.patch_checked.Tie as tie
 
@@ -49,32 +48,17 @@ housed r = search
 abbrev run-of : tie.After-states → tie.After-runs
 run-of s = search
 
-abbrev states-of : tie.After-run-course → tie.After-states
+abbrev states-of : tie.After-fill-found → tie.After-states
 states-of c = search
 
 abbrev marks-of : tie.After-states → tie.After-mark-all
 marks-of s = marked (queued (housed (run-of s)))
 
-abbrev ran : tie.After-states2 → tie.After-run-course
-ran s = search
-
-abbrev recorded : tie.After-records → tie.After-states2
-recorded r = search
-
-abbrev patched : tie.After-patches → tie.After-records
-patched p = search
-
-abbrev linked : tie.After-turns2 → tie.After-patches
-linked t = search
+abbrev patched : tie.After-turns2 → tie.After-fill-found
+patched t = search
 
 abbrev ended : tie.After-path3 → tie.After-turns2
 ended p = search
-
-abbrev path-of : tie.After-lay → tie.After-path3
-path-of l = search
-
-abbrev course-of : tie.After-path3 → tie.After-run-course
-course-of p = ran (recorded (patched (linked (ended p))))
 
 pub patch-checked-spec : {M : Type 1} → statement M
 patch-checked-spec =
@@ -96,38 +80,33 @@ patch-checked-spec =
     (λ c κs.
     let a : tie.After-states = search in let m = marks-of a in let f = firsts-of m in let l = loops-of f in let s = entry l in
     let p = walked (placed (ringed (measured f))) in
-    let b = s .pre .1 in (
-      weigh-room (s .pre .0 .checked) (s .pre .0 .roomy) b (l .list-with .ensures .0) (m .mark-all .ensures),
-      record {
-        links-long = let t = b .turns-long in omega (arith, turned p .turns .given);
-        ends-long = let t = b .path-long in omega (arith, queued (housed (run-of a)) .path2 .given, p .path .given);
-      },
-    ))
-    (λ c. let p : tie.After-path3 = search in lengths-in (loops-of (firsts-of (marks-of (states-of (course-of p)))) .list-with .ensures .0))
-    (λ c. let p : tie.After-path3 = search in as-long _ _ (lengths-in (loops-of (firsts-of (marks-of (states-of (course-of p)))) .list-with .ensures .0)))
-    (λ c κs.
-    let p : tie.After-path3 = search in
-    let r = course-of p in let a = states-of r in let m = marks-of a in let f = firsts-of m in let l = loops-of f in let s = entry l in
     let h = housed (run-of a) in
-    lay-room (s .pre .0 .checked) (s .pre .0 .roomy) (s .pre .1) (l .list-with .ensures .0) (m .mark-all .ensures) (r .run-course .ensures)
-    (recorded (patched (linked (ended p))) .states2 .given ∙ a .states .given) (f .firsts .given) (h .places2 .given ∙ placed (ringed (measured f)) .places .given) (run-of a .runs .given))
+    let k = s .pre .0 .checked in
+    let y = s .pre .0 .roomy in
+    let b = s .pre .1 in (
+      found-loops k (l .list-with .ensures .0) (m .mark-all .ensures) (b .states-long),
+      (
+        fill-room k y b (a .states .given) (f .firsts .given) (h .places2 .given ∙ placed (ringed (measured f)) .places .given) (run-of a .runs .given),
+        edge-room k y b (turned p .turns .given) (queued h .path2 .given ∙ p .path .given),
+      ),
+    ))
     (λ c.
-    let p = path-of (search) in let f = firsts-of (marks-of (states-of (course-of p))) in
-    ended p .turns2 .given ∙ turned (walked (placed (ringed (measured f)))) .turns .given)
+    let t = ended (search) in let f = firsts-of (marks-of (states-of (patched t))) in
+    t .turns2 .given ∙ turned (walked (placed (ringed (measured f)))) .turns .given)
     (λ c.
-    let p = path-of (search) in let a = states-of (course-of p) in let f = firsts-of (marks-of a) in
+    let p : tie.After-path3 = search in let a = states-of (patched (ended p)) in let f = firsts-of (marks-of a) in
     p .path3 .given ∙ queued (housed (run-of a)) .path2 .given ∙ walked (placed (ringed (measured f))) .path .given)
     (λ c.
-    let p = path-of (search) in let a = states-of (course-of p) in let f = firsts-of (marks-of a) in
+    let a = states-of (search) in let f = firsts-of (marks-of a) in
     housed (run-of a) .places2 .given ∙ placed (ringed (measured f)) .places .given)
-    (λ c. measured (firsts-of (marks-of (states-of (course-of (path-of (search)))))) .lengths .given)
+    (λ c. measured (firsts-of (marks-of (states-of (search)))) .lengths .given)
     (λ c. search needs)
-    (λ c. firsts-of (marks-of (states-of (course-of (path-of (search))))) .firsts .given)
+    (λ c. firsts-of (marks-of (states-of (search))) .firsts .given)
     (λ c. search needs)
-    (λ c. ringed (measured (firsts-of (marks-of (states-of (course-of (path-of (search))))))) .rings .given)
+    (λ c. ringed (measured (firsts-of (marks-of (states-of (search))))) .rings .given)
     (λ c. search needs)
     (λ c. search needs)
     (λ c pitch words checked before.
-    let y : tie.After-lay = search in
-    let p = path-of y in let r = course-of p in let a = states-of r in let m = marks-of a in let f = firsts-of m in let l = loops-of f in let s = entry l in
-    completes checked (s .pre .0 .roomy) (s .pre .1) (l .list-with .ensures .0) (m .mark-all .ensures) (r .run-course .ensures) (y .lay .ensures) before))
+    let y : tie.After-fill-found = search in
+    let l = loops-of (firsts-of (marks-of (states-of y))) in
+    completes checked (l .list-with .ensures .0) (y .fill-found .ensures) before))

@@ -2,9 +2,9 @@
 use mathlib.Core.Path.{_≡_}
 use mathlib.Core.Bool.{true, false}
 use mathlib.Core.List.{List}
-use Prim.Native.Nat.{ℕ, _*_, _/_, _≤_}
+use Prim.Native.Nat.{ℕ, _*_, _/_, _<_, _≤_}
 use lib.IntN.{ℤ}
-use lib.ListN.{length}
+use lib.ListN.{length, getD}
 use Rattle.base_answers.specs.Numbers.{refusing}
 use Rattle.base_answers.specs.declared.Answer.{Answer}
 use Rattle.base_answers.specs.declared.Answer.the-variants.{Done}
@@ -24,13 +24,32 @@ pub record Checked (pitch : ℕ) (words corners turns : List ℕ) (grid : List �
   pub on-grid : OnGrid pitch words
   pub gridded : grid ≡ gridOf pitch words
 
+-- Of the lent buffers the grid is the first, and it need be as long as the words.
+pub record GridFirst (words lent needs : List ℕ) (grid : List ℤ) : Type 0 where
+  pub lent-grid : getD lent 0 0 ≡ length grid
+  pub needs-words : getD needs 0 0 ≡ length words
+  pub some : 1 ≤ length needs
+
+-- no check refused, each buffer is as long as it need be, and the grid was laid
+pub record PassedWith (pitch : ℕ) (words corners lent needs : List ℕ) (grid : List ℤ) (turns : List ℕ) (grid′ : List ℤ) : Type 0 where
+  pub none-refused : refusal pitch words corners lent needs ≡ Done
+  pub checked : Checked pitch words corners turns (gridOf pitch words)
+  pub long : (i : ℕ) → i < length needs → getD needs i 0 ≤ getD lent i 0
+  pub laid : grid′ ≡ over (gridOf pitch words) grid
+
+-- a refusal, with the grid as it was; or none
+abbrev pub ChecksWith : ℕ → List ℕ → List ℕ → List ℕ → List ℕ → List ℤ → Answer → List ℕ → List ℤ → Type 0
+ChecksWith pitch words corners lent needs grid r turns grid′ =
+    (refusing r ≡ true → (r ≡ refusal pitch words corners lent needs) × (grid′ ≡ grid))
+    × (refusing r ≡ false → PassedWith pitch words corners lent needs grid turns grid′)
+
 -- room for what is left of it besides the grid
 pub record Roomy (corners rings records patches : List ℕ) : Type 0 where
   pub rings-long : length corners ≤ length rings
   pub records-long : limits.record-numbers * (length corners / 3) ≤ length records
   pub patches-long : 3 * length corners ≤ length patches
 
--- no check refused, and the grid was laid
+-- of the patcher's own buffers: no check refused, and the grid was laid
 pub record Passed (pitch : ℕ) (words corners : List ℕ) (b : Buffers) (turns : List ℕ) (grid′ : List ℤ) : Type 0 where
   pub none-refused : refusal pitch words corners (lent b) (needs words corners) ≡ Done
   pub checked : Checked pitch words corners turns (gridOf pitch words)

@@ -1,6 +1,6 @@
 -- The loops that were listed, with the parts of the buffers where they stand, for patcher and checker alike: the rims can be marked where the first
--- half-edges stand, and then the marks tell which loops are rims.
-use mathlib.Core.Path.{_≡_, sym, ap, _∙_, subst}
+-- half-edges stand or apart from them, and then the marks tell which loops are rims.
+use mathlib.Core.Path.{_≡_, sym, ap, _∙_}
 use mathlib.Core.List.{List, map}
 use Prim.Native.Nat.{ℕ, _/_, _≤_}
 use native.Mathlib.Omega.{arith}
@@ -13,15 +13,15 @@ use Rattle.loop_cut.specs.Listing.{firstOf, ListsLoops}
 use Rattle.loop_cut.specs.declared.Listed.{Listed}
 use Rattle.loop_find.specs.Workings.Walking.{KeepsTurns}
 use Rattle.survey_grid.specs.Grid.{gridOf}
-use Rattle.survey_rules.proofs.Laws.Known.{Known, corner-inside}
+use Rattle.survey_rules.proofs.Laws.Known.{Known, corner-inside, loops-few}
 use Rattle.survey_rules.proofs.Laws.Parts.{of-parts}
 use Rattle.rim_rules.specs.Rims.{rimList}
 use Rattle.fill_fates.specs.Course.{ringList}
 use Rattle.fill_scratch.specs.Workings.Rings.{Loops, Input, Marks}
 use Rattle.fill_scratch.proofs.Laws.Rings.{loops-of}
-use Rattle.rim_mark.specs.Workings.Marking.{markOf, Found, MarkRoom, Marked}
+use Rattle.rim_mark.specs.Workings.Marking.{markOf, Found, MarkRoom, Marked, AllRoom}
 use Rattle.rim_mark.proofs.Laws.Crossing.{still-crossing}
-use Rattle.rim_mark.proofs.Laws.Marks.{marks-told, rims-many, first-at}
+use Rattle.rim_mark.proofs.Laws.Marks.{marks-stand, rims-many, first-at}
 
 module _ {pitch : ℕ} {words corners table : List ℕ} (k : Known pitch words corners table) where
   pub input-here : Input corners
@@ -51,6 +51,17 @@ module _ {pitch : ℕ} {words corners table : List ℕ} (k : Known pitch words c
         → MarkRoom g corners (take (at .vertices) rings′) (take (at .loops) lengths′) turns path places firsts′
     mark-room kept t p q = record { found = found kept t; path-long = omega arith; places-long = q }
 
+    -- or apart from them, with a piece and a run of each
+    pub all-room : {turns path pieces runs marks : List ℕ} → KeepsTurns corners turns → length corners ≤ length turns → length corners / 3 ≤ length path → length corners / 3 ≤ length pieces
+        → length corners / 3 ≤ length runs → length corners / 3 ≤ length marks → AllRoom g corners (take (at .vertices) rings′) (take (at .loops) lengths′) firsts′ turns path pieces runs marks
+    all-room kept t p q r m = record {
+      found = found kept t;
+      path-long = p;
+      pieces-long = q;
+      runs-long = omega (arith, loops-few k);
+      marks-long = omega (arith, loops-few k);
+    }
+
     module _ {marks : List ℕ} (marked : Marked g corners firsts′ marks) where
       -- of the first half-edges nothing is left
       pub all-marked : marks ≡ over (map markOf (rimList g corners)) firsts
@@ -61,7 +72,7 @@ module _ {pitch : ℕ} {words corners table : List ℕ} (k : Known pitch words c
           (length-map (rimList g corners) markOf ∙ rims-many g corners ∙ sym (length-map (loops corners) firstOf))
 
       pub marks-here : Marks (rimList g corners) marks
-      marks-here = subst (Marks (rimList g corners)) (sym marked) (marks-told (rimList g corners) firsts′ (omega (arith, rims-many g corners, firsts-long)))
+      marks-here = marks-stand g corners firsts′ firsts-long marked
 
       pub rims-here : length (rimList g corners) ≡ length (ringList corners)
       rims-here = rims-many g corners ∙ sym as-many-loops

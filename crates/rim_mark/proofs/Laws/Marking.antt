@@ -12,7 +12,6 @@ use borrow.Author.Tests.{eq-eqb, ne-eqb}
 use Rattle.base_limits.specs.Limits as limits
 use Rattle.surface_rules.specs.Edges.{Sound}
 use Rattle.surface_rules.specs.Buffers.{over}
-use Rattle.surface_rules.proofs.Laws.Lists.{map-at}
 use Rattle.surface_rules.proofs.Laws.Over.{over-none, over-snoc}
 use Rattle.surface_rules.proofs.Laws.Tests.{eq-or-not, not-so}
 use Rattle.loop_rules.specs.Loops.{loops, ring}
@@ -24,7 +23,7 @@ use Rattle.fill_scratch.proofs.Laws.Reading.{as-many}
 use Rattle.rim_pieces.specs.Pieces.{triangleCount}
 use Rattle.rim_pieces.specs.Computed.{numbersBelow, pieceOf, pieceNumbers}
 use Rattle.rim_pieces.specs.Workings.Flooding.{Cleared, NumberRoom, Numbers}
-use Rattle.rim_pieces.proofs.Laws.Uniting.{numbers-length, numbers-at}
+use Rattle.rim_pieces.proofs.Laws.Uniting.{number-at}
 use Rattle.rim_pieces.proofs.Theorems as pieces
 use Rattle.rim_rules.specs.Rims.{loopAt, runAt, pieceAt, isRim, rimList}
 use Rattle.rim_rules.proofs.Theorems.{not-itself, none-rim, one-rim, alone-rim}
@@ -137,8 +136,7 @@ module _ {grid : List ℤ} {corners rings lengths firsts turns : List ℕ} (foun
           housed .told l h
           ∙ ap (λ (e : ℕ). getD numbered (e / 3) 0) (first-is l h)
           ∙ pieces.numbered-so corners sound numbered (given .numbered) (firstOf (loopAt corners l) / 3) (first-in l h)
-          ∙ map-at (pieceOf corners) 0 0 (numbersBelow (triangleCount corners)) (firstOf (loopAt corners l) / 3) (omega (arith, first-in l h, numbers-length (triangleCount corners)))
-          ∙ ap (pieceOf corners) (numbers-at (triangleCount corners) (firstOf (loopAt corners l) / 3) (first-in l h))
+          ∙ number-at corners sound (firstOf (loopAt corners l) / 3) (first-in l h)
 
       home-below : (l : ℕ) → l < length lengths → getD homes l 0 < count
       home-below l h = subst (λ (x : ℕ). x < count) (sym (housed .told l h ∙ ap (λ (e : ℕ). getD numbered (e / 3) 0) (first-is l h))) (given .below (firstOf (loopAt corners l) / 3) (first-in l h))
@@ -243,7 +241,6 @@ module _ {grid : List ℤ} {corners rings lengths firsts turns : List ℕ} (foun
         pieces-first : pieceOf corners 0 ≡ 0
         pieces-first =
             let some : 0 < triangleCount corners = let z = first-in 0 (omega arith) in omega arith in
-            let here : getD (pieceNumbers corners) 0 0 ≡ pieceOf corners 0 =
-            map-at (pieceOf corners) 0 0 (numbersBelow (triangleCount corners)) 0 (omega (arith, numbers-length (triangleCount corners))) ∙ ap (pieceOf corners) (numbers-at (triangleCount corners) 0 some) in
+            let here : getD (pieceNumbers corners) 0 0 ≡ pieceOf corners 0 = number-at corners sound 0 some in
             let low : 0 < getD (pieceNumbers corners) 0 0 → ⊥ = λ q. let w = pieces.numbered corners sound .in-order 0 0 some q in let v = w .1 in absurd (omega arith) in
             omega arith

@@ -1,5 +1,5 @@
 -- The marks laid over a buffer's start tell which loops are rims.
-use mathlib.Core.Path.{_≡_, refl, ap, _∙_}
+use mathlib.Core.Path.{_≡_, refl, sym, ap, _∙_, subst}
 use mathlib.Core.Bool.{Bool, true, false}
 use mathlib.Core.List.{List, [], map}
 use Prim.Native.Nat.{ℕ, _≤_, _<_}
@@ -16,7 +16,7 @@ use Rattle.rim_pieces.proofs.Laws.Uniting.{numbers-length}
 use Rattle.rim_pieces.specs.Computed.{numbersBelow}
 use Rattle.fill_scratch.specs.Workings.Rings.{rimMark, Marks}
 use Rattle.rim_rules.specs.Rims.{loopAt, isRim, rimList}
-use Rattle.rim_mark.specs.Workings.Marking.{markOf}
+use Rattle.rim_mark.specs.Workings.Marking.{markOf, Marked}
 
 mark-read : (b : Bool) → eqb (markOf b) rimMark ≡ b
 mark-read true = refl
@@ -33,6 +33,10 @@ marks-told rims states h = record {
 -- a rim or not, for each loop
 pub rims-many : (grid : List ℤ) (corners : List ℕ) → length (rimList grid corners) ≡ length (loops corners)
 rims-many grid corners = length-map (numbersBelow (length (loops corners))) (isRim grid corners) ∙ numbers-length (length (loops corners))
+
+-- so they do wherever there was room for one of each loop
+pub marks-stand : (grid : List ℤ) (corners before : List ℕ) {marks : List ℕ} → length (loops corners) ≤ length before → Marked grid corners before marks → Marks (rimList grid corners) marks
+marks-stand grid corners before h e = subst (Marks (rimList grid corners)) (sym e) (marks-told (rimList grid corners) before (omega (arith, rims-many grid corners)))
 
 -- the first half-edges, read from where they were listed
 pub first-at : (corners firsts : List ℕ) (l : ℕ) → l < length (loops corners) → getD (over (map firstOf (loops corners)) firsts) l 0 ≡ firstOf (loopAt corners l)

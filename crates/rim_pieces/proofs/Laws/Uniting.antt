@@ -16,9 +16,10 @@ use Rattle.surface_rules.specs.declared.Found.the-variants.{At, Nothing}
 use Rattle.surface_rules.specs.Edges.{Sound, twin}
 use Rattle.surface_rules.proofs.Laws.Edges.{twin-says}
 use Rattle.rim_pieces.specs.Pieces.{triangleCount, Shares, Joined, itself, onward, Numbered}
-use Rattle.rim_pieces.specs.Computed.{many, numbersBelow, lesser, greater, unite, uniteAcross, smallestBy, smallestOf, pieceOf, pieceNumbers}
+use Rattle.rim_pieces.specs.Computed.{many, numbersBelow, lesser, greater, unite, uniteAcross, smallestBy, smallestOf, pieceOf, pieceNumbers, pieceCount}
+use Rattle.rim_pieces.specs.Workings.Flooding.{Numbers}
 use Rattle.rim_pieces.proofs.Laws.Many.{many-apart, many-find}
-use Rattle.rim_pieces.proofs.Laws.Joining.{join-on, join-one, join-back, twin-shares, shares-twin}
+use Rattle.rim_pieces.proofs.Laws.Joining.{join-on, join-one, join-back, twin-shares, shares-twin, numbered-once}
 
 -- ---- lists
 
@@ -225,18 +226,36 @@ module _ (corners : List ℕ) (sound : Sound corners) where
   unfolding pieceOf
   pieces-same t u j = ap (many first) (sym (joined-smallest t u j))
 
+  -- in the list of all numbers each triangle has its own
+  pub number-at : (t : ℕ) → t < n → getD (pieceNumbers corners) t 0 ≡ pieceOf corners t
+  number-at t l = map-at (pieceOf corners) (numbersBelow n) t (let e = numbers-length n in omega arith) ∙ ap (pieceOf corners) (numbers-at n t l)
+
   -- The computed numbers are the numbers of the pieces.
   pub pieces-numbered : Numbered corners (pieceNumbers corners)
   pieces-numbered = record {
-    alike = λ t u lt lu j. at t lt ∙ same t u j ∙ sym (at u lu);
-    apart = λ t u lt lu e. smallest-one t u lt lu (numbers-apart t u lt lu (sym (at t lt) ∙ e ∙ at u lu));
+    alike = λ t u lt lu j. number-at t lt ∙ pieces-same t u j ∙ sym (number-at u lu);
+    apart = λ t u lt lu e. smallest-one t u lt lu (numbers-apart t u lt lu (sym (number-at t lt) ∙ e ∙ number-at u lu));
     in-order = λ t k l h.
-        let w = numbers-in-order t k l (subst (λ (x : ℕ). k < x) (at t l) h) in
-        (w .0, w .1, at (w .0) (let a = w .1 in omega arith) ∙ w .2);
+        let w = numbers-in-order t k l (subst (λ (x : ℕ). k < x) (number-at t l) h) in
+        (w .0, w .1, number-at (w .0) (let a = w .1 in omega arith) ∙ w .2);
   }
-    where
-      at : (t : ℕ) → t < n → getD (pieceNumbers corners) t 0 ≡ pieceOf corners t
-      at t l = map-at (pieceOf corners) (numbersBelow n) t (let e = numbers-length n in omega arith) ∙ ap (pieceOf corners) (numbers-at n t l)
 
-      same : (t u : ℕ) → Joined corners t u → pieceOf corners t ≡ pieceOf corners u
-      same t u j = pieces-same t u j
+  -- ---- how many there are
+
+  -- each number is below the count of the smallest triangles,
+  pub number-below : (t : ℕ) → t < n → pieceOf corners t < pieceCount corners
+  unfolding pieceOf pieceCount
+  number-below t l = many-apart first (smallestOf corners t) n (smallest-first t l) (let a = smallest-low t l in omega arith)
+
+  -- and each below that is one's number
+  pub number-given : (k : ℕ) → k < pieceCount corners → (t : ℕ) × (t < n) × (pieceOf corners t ≡ k)
+  unfolding pieceOf pieceCount
+  number-given k h = let f = many-find first n k h in (f .0, f .1, ap (many first) (eqb-true _ _ (f .2)) ∙ f .3)
+
+  -- so there is no other count of numbers that are all below it and all given
+  pub count-only : (count : ℕ) (pieces : List ℕ) → Numbers corners count pieces → count ≡ pieceCount corners
+  count-only count pieces given =
+      let same : (t : ℕ) → t < n → getD pieces t 0 ≡ pieceOf corners t = λ t l. numbered-once corners pieces (pieceNumbers corners) (given .numbered) pieces-numbered t l ∙ number-at t l in
+      let fewer : count < pieceCount corners → ⊥ = λ h. let w = number-given count h in omega (arith, w .2, same (w .0) (w .1), given .below (w .0) (w .1)) in
+      let more : pieceCount corners < count → ⊥ = λ h. let w = given .all-given (pieceCount corners) h in omega (arith, w .2, same (w .0) (w .1), number-below (w .0) (w .1)) in
+      omega arith

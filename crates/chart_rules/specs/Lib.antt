@@ -1,0 +1,4 @@
+pub mod Report
+pub mod Touching
+pub mod Tallies
+pub mod Order
