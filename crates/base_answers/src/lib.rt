@@ -1,4 +1,6 @@
 // The answers of all entry points, with their numbers and places.
+#![tactic(auto)]
+
 ghost use Rattle.std.specs.Prelude.{◌≡◌};
 ghost use Rattle.base_answers.specs.Numbers.{number_of, place_of, refusing};
 

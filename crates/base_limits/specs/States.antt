@@ -1,18 +1,15 @@
 -- The numbers of a loop's states, as the type `State` of `base_types` has them. No number stands here.
 use Rattle.std.specs.Prelude.{ℕ}
-use Rattle.base_types.proofs.State.is_patched.⟦Self·PATCHED⟧-asked.Lts as for_patched
-use Rattle.base_types.proofs.State.is_long.⟦Self·LONG⟧-asked.Lts as for_long
-use Rattle.base_types.proofs.State.is_open.⟦Self·OPEN⟧-asked.Lts as for_open
-use Rattle.base_types.proofs.State.is_rim.⟦Self·RIM⟧-asked.Lts as for_rim
+use Rattle.base_types.specs.declared.TheConstants.State as state_type
 
 abbrev pub patched : ℕ
-patched = for_patched.answer tt tt
+patched = state_type.PATCHED
 
 abbrev pub long : ℕ
-long = for_long.answer tt tt
+long = state_type.LONG
 
 abbrev pub left_open : ℕ
-left_open = for_open.answer tt tt
+left_open = state_type.OPEN
 
 abbrev pub rim : ℕ
-rim = for_rim.answer tt tt
+rim = state_type.RIM

@@ -1,4 +1,6 @@
 // The workshop's measures: how much a surface, a patch set, the grid and a loop may hold, the pitches of the grid, and the states of a loop.
+#![tactic(auto)]
+
 ghost use Rattle.std.specs.Prelude.{◌≡◌, ◌/◌, eqb, leb, ltb, nat_abs};
 ghost use Rattle.base_types.specs.Counts.{threes};
 ghost use Rattle.base_types.specs.Pitches.{pitch_of, Names};
@@ -37,42 +39,42 @@ impl Surface {
 
     // That many points are not too many.
     pub fn takes_points(points: usize) -> bool
-        ensures* { do most ← (⟦Self::POINTS⟧).entry; ⌜ result ≡ leb points most ⌝ }
+        ensures { result ≡ leb points Self.POINTS }
     {
         points <= Self::POINTS
     }
 
     // That many triangles are not too many.
     pub fn takes_triangles(triangles: usize) -> bool
-        ensures* { do most ← (⟦Self::TRIANGLES⟧).entry; ⌜ result ≡ leb triangles most ⌝ }
+        ensures { result ≡ leb triangles Self.TRIANGLES }
     {
         triangles <= Self::TRIANGLES
     }
 
     // That many words are three for each of at most POINTS points.
     pub fn takes_words(words: usize) -> bool
-        ensures* { do most ← (⟦Self::WORDS⟧).entry; ⌜ result ≡ threes most words ⌝ }
+        ensures { result ≡ threes Self.WORDS words }
     {
         is_threes(words, Self::WORDS)
     }
 
     // That many corners are three for each of at most TRIANGLES triangles.
     pub fn takes_corners(corners: usize) -> bool
-        ensures* { do most ← (⟦Self::CORNERS⟧).entry; ⌜ result ≡ threes most corners ⌝ }
+        ensures { result ≡ threes Self.CORNERS corners }
     {
         is_threes(corners, Self::CORNERS)
     }
 
     // That many bytes are no more than the longest sheet text has.
     pub fn takes_text(bytes: usize) -> bool
-        ensures* { do most ← (⟦Self::TEXT⟧).entry; ⌜ result ≡ leb bytes most ⌝ }
+        ensures { result ≡ leb bytes Self.TEXT }
     {
         bytes <= Self::TEXT
     }
 
     // That many bytes are no more than the longest file of facets has.
     pub fn takes_file(bytes: usize) -> bool
-        ensures* { do most ← (⟦Self::FILE⟧).entry; ⌜ result ≡ leb bytes most ⌝ }
+        ensures { result ≡ leb bytes Self.FILE }
     {
         bytes <= Self::FILE
     }
@@ -104,28 +106,28 @@ impl PatchSet {
 
     // That many states are not too many.
     pub fn takes_states(states: usize) -> bool
-        ensures* { do most ← (⟦Self::STATES⟧).entry; ⌜ result ≡ leb states most ⌝ }
+        ensures { result ≡ leb states Self.STATES }
     {
         states <= Self::STATES
     }
 
     // That many triangles are not too many.
     pub fn takes_triangles(triangles: usize) -> bool
-        ensures* { do most ← (⟦Self::TRIANGLES⟧).entry; ⌜ result ≡ leb triangles most ⌝ }
+        ensures { result ≡ leb triangles Self.TRIANGLES }
     {
         triangles <= Self::TRIANGLES
     }
 
     // That many corners are three for each of at most TRIANGLES triangles.
     pub fn takes_corners(corners: usize) -> bool
-        ensures* { do most ← (⟦Self::CORNERS⟧).entry; ⌜ result ≡ threes most corners ⌝ }
+        ensures { result ≡ threes Self.CORNERS corners }
     {
         is_threes(corners, Self::CORNERS)
     }
 
     // That many bytes are no more than the longest text of a set has.
     pub fn takes_text(bytes: usize) -> bool
-        ensures* { do most ← (⟦Self::TEXT⟧).entry; ⌜ result ≡ leb bytes most ⌝ }
+        ensures { result ≡ leb bytes Self.TEXT }
     {
         bytes <= Self::TEXT
     }
@@ -198,7 +200,7 @@ impl Grid {
 
     // The whole number is no further from 0 than the grid reaches, on either side, whatever its pitch.
     pub fn holds(self, whole: i32) -> bool
-        ensures* { do most ← (⟦Self::GREATEST⟧).entry; ⌜ result ≡ leb (nat_abs whole) most ⌝ }
+        ensures { result ≡ leb (nat_abs whole) Self.GREATEST }
     {
         let most = Self::GREATEST as i32;
         -most <= whole && whole <= most
@@ -226,7 +228,7 @@ impl Loop {
 
     // The loop has more edges than are ever patched.
     pub fn is_long(self) -> bool
-        ensures* { do most ← (⟦Self::LONGEST⟧).entry; ⌜ result ≡ ltb most self.length ⌝ }
+        ensures { result ≡ ltb Self.LONGEST self.length }
     {
         let length = self.length;
         Self::LONGEST < length
@@ -234,7 +236,7 @@ impl Loop {
 
     // How many records that many numbers hold.
     pub fn records(numbers: usize) -> usize
-        ensures* { do width ← (⟦Self::RECORD⟧).entry; ⌜ result ≡ numbers / width ⌝ }
+        ensures { result ≡ numbers / Self.RECORD }
     {
         numbers / Self::RECORD
     }
@@ -257,28 +259,28 @@ impl State {
 
     // The loop is patched.
     pub fn is_patched(self) -> bool
-        ensures* { do number ← (⟦Self::PATCHED⟧).entry; ⌜ result ≡ eqb self.number number ⌝ }
+        ensures { result ≡ eqb self.number Self.PATCHED }
     {
         self.number == Self::PATCHED
     }
 
     // The loop has more edges than are ever patched.
     pub fn is_long(self) -> bool
-        ensures* { do number ← (⟦Self::LONG⟧).entry; ⌜ result ≡ eqb self.number number ⌝ }
+        ensures { result ≡ eqb self.number Self.LONG }
     {
         self.number == Self::LONG
     }
 
     // The loop is left open, since it has no allowed cover.
     pub fn is_open(self) -> bool
-        ensures* { do number ← (⟦Self::OPEN⟧).entry; ⌜ result ≡ eqb self.number number ⌝ }
+        ensures { result ≡ eqb self.number Self.OPEN }
     {
         self.number == Self::OPEN
     }
 
     // The loop is the rim of its piece.
     pub fn is_rim(self) -> bool
-        ensures* { do number ← (⟦Self::RIM⟧).entry; ⌜ result ≡ eqb self.number number ⌝ }
+        ensures { result ≡ eqb self.number Self.RIM }
     {
         self.number == Self::RIM
     }

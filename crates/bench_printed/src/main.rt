@@ -1,5 +1,7 @@
 // Runs the bench's examples and prints what is answered; the file `stdout` has what is due. Those that are starred are
 // proved in `bench_proved` besides.
+#![tactic(auto)]
+
 ghost use Rattle.std.specs.Prelude.{◌≤◌, length};
 
 use libc::STDOUT_FILENO;

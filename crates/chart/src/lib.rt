@@ -1,4 +1,6 @@
 // Charts a surface: all checks, the grid, the loops as the patcher leaves them, and the report of tide pools and lakes.
+#![tactic(auto)]
+
 ghost use Rattle.std.specs.Prelude.{◌≡◌, ◌*◌, ◌≤◌, length};
 ghost use Rattle.base_types.specs.Pitches.{pitch_of};
 ghost use Rattle.base_answers.specs.declared.Answer.TheVariants.{Done};

@@ -1,5 +1,7 @@
 // Lays the report: the loops of each piece are chained, the vertices of its rim stamped, and each of its other loops told by whether it has a
 // stamped vertex.
+#![tactic(auto)]
+
 ghost use Rattle.std.specs.Prelude.{◌≡◌, map, ◌+◌, ◌*◌, ◌≤◌, length};
 ghost use Rattle.chart_rules.specs.Report.{entry};
 ghost use Rattle.chart_lay.specs.Workings.Chaining.{ChainRoom, Chains};

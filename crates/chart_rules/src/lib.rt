@@ -1,4 +1,6 @@
 // The entries of a report: a kind and a number each, which stand one after the other in a lent buffer.
+#![tactic(auto)]
+
 ghost use Rattle.std.specs.Prelude.{◌≡◌, ◌+◌, ◌*◌, ◌≤◌, length};
 ghost use Rattle.surface_rules.specs.Buffers.{laid};
 ghost use Rattle.chart_rules.specs.Report.{numbers, entry_in};

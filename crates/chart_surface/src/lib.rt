@@ -1,5 +1,7 @@
 // Charts a surface whose counts fit, with lent scratch: the other checks and the grid; then the loops with their rims, the report, and what the
 // patcher keeps of each loop.
+#![tactic(auto)]
+
 ghost use Rattle.std.specs.Prelude.{◌≡◌, ◌/◌, length};
 ghost use Rattle.base_types.specs.Pitches.{pitch_of};
 ghost use Rattle.check_surface.specs.Workings.Checks.{Fitted};

@@ -1,4 +1,6 @@
 // Reads a sheet text from standard input and prints its report of tide pools and lakes, or an answer line.
+#![tactic(auto)]
+
 use base_types::Surface;
 use libc::{STDIN_FILENO, STDOUT_FILENO};
 

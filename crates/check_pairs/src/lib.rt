@@ -1,5 +1,7 @@
 // Pairs every half-edge with its twin, and finds the first that repeats an earlier one on the way, or the first triangle that
 // names a point twice.
+#![tactic(auto)]
+
 ghost use Rattle.std.specs.Prelude.{◌≡◌, ◌%◌, ◌≤◌, length};
 ghost use Rattle.surface_rules.specs.Edges.{following};
 ghost use Rattle.surface_twins.specs.Workings.Turns.{Room};

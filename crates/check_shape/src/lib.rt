@@ -1,5 +1,7 @@
 // Checks what a surface is given by: the counts of words and corners, the lengths of the lent buffers, the points that corners
 // name. Each search answers the smallest index.
+#![tactic(auto)]
+
 ghost use Rattle.std.specs.Prelude.{◌≡◌, not, ◌+◌, ◌*◌, ◌/◌, ◌<◌, length};
 ghost use Rattle.surface_rules.specs.Smallest.{least, any};
 ghost use Rattle.surface_rules.specs.Edges.{twice};

@@ -1,4 +1,6 @@
 // The checks of a surface whose counts fit: the lent buffers, the corners and the words, in the scope's order.
+#![tactic(auto)]
+
 ghost use Rattle.base_types.specs.Pitches.{pitch_of};
 ghost use Rattle.surface_twins.specs.Workings.Turns.{Room};
 ghost use Rattle.check_surface.specs.Workings.Checks.{Fitted, Checked, CornersChecked};

@@ -1,4 +1,6 @@
 // Checks a surface's words: whether each is a finite number, and near enough for the grid. Each search answers the smallest index.
+#![tactic(auto)]
+
 ghost use Rattle.std.specs.Prelude.{◌≡◌, not, ◌<◌, length};
 ghost use Rattle.base_types.specs.Pitches.{pitch_of};
 ghost use Rattle.base_types.specs.declared.Pitch.{Pitch};

@@ -1,5 +1,7 @@
 // Finds the bars of a loop. Edges are chained by the point they leave, and the loop's vertices are stamped with their positions,
 // so that the edges between two of them are met on the way along the chains of all.
+#![tactic(auto)]
+
 ghost use Rattle.std.specs.Prelude.{◌≡◌, [], ℕ, ◌<◌, ◌≤◌, length, get_or};
 ghost use Rattle.std.proofs.Math.Seq.{slice};
 ghost use Rattle.base_limits.specs.Limits.{longest};

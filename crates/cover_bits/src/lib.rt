@@ -1,4 +1,6 @@
 // Rows of yes and no for the positions of a loop, a word each.
+#![tactic(auto)]
+
 ghost use Rattle.std.specs.Prelude.{◌≡◌, ◌||◌, ℕ, ◌<◌, eqb};
 ghost use Rattle.base_limits.specs.Limits.{longest};
 ghost use Rattle.cover_bits.specs.Workings.Masks.{bit};

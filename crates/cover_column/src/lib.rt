@@ -1,6 +1,8 @@
 // The steps by which the table of the least weights is made, column by column: products of points, and the ways by one apex.
 //
 // The weights are binary64 floats: each is a whole number below 2^53, so every sum is exact, and the machine adds two at a time.
+#![tactic(auto)]
+
 ghost use Rattle.std.specs.Prelude.{◌≡◌, ◌≤◌};
 ghost use Rattle.base_limits.specs.Limits.{longest};
 ghost use Rattle.cover_column.specs.Workings.Columns.{lesser_of, row, ProductsRoom, Multiplied, Copied, by_way, WayRoom, RelaxRoom, Relaxed};

@@ -1,4 +1,6 @@
 // Loops of four edges: they need no table, for each has only two covers.
+#![tactic(auto)]
+
 ghost use Rattle.std.specs.Prelude.{◌≡◌, ◌^◌, ◌<◌, length};
 ghost use Rattle.cover_weight.specs.Edition.{tri_of, along};
 ghost use Rattle.cover_table.specs.Workings.Loops.{OnGrid};

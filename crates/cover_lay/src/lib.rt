@@ -1,4 +1,6 @@
 // Finds the patch of a loop and lays it, or only its least weight.
+#![tactic(auto)]
+
 ghost use Rattle.cover_table.specs.Workings.Loops.{LoopRoom};
 ghost use Rattle.cover_trace.specs.Workings.Patches.{LaysPatch, FindsLeast};
 ghost use Rattle.cover_lay.specs.Workings.Patches.{PatchRoom, ThreeRoom, LaysThree};

@@ -1,1 +1,3 @@
 // Covers of a loop, over any weight. It has no code of its own.
+#![tactic(auto)]
+

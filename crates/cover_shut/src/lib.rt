@@ -1,4 +1,6 @@
 // Tells by its bars alone that a loop has no allowed cover, a word for all stretches that begin at one position.
+#![tactic(auto)]
+
 ghost use Rattle.std.specs.Prelude.{◌≡◌, false, suc, ◌-◌, ◌<◌, ◌≤◌, length};
 ghost use Rattle.base_limits.specs.Limits.{longest};
 ghost use Rattle.cover_rules.specs.Covers.{NoCover};

@@ -1,4 +1,6 @@
 // Weighs a list of triangles: their weights added, as whole numbers.
+#![tactic(auto)]
+
 ghost use Rattle.std.specs.Prelude.{◌≡◌};
 ghost use Rattle.surface_rules.specs.Threes.{threes};
 ghost use Rattle.cover_sum.specs.Workings.Weighing.{set_weight, WeighRoom};

@@ -1,6 +1,8 @@
 // The least weights of all stretches of a loop.
 //
 // The weights are binary64 floats: each is a whole number below 2^53, so every sum is exact, and the machine adds two at a time.
+#![tactic(auto)]
+
 ghost use Rattle.std.specs.Prelude.{◌≡◌, suc, ◌<◌, ◌≤◌, length};
 ghost use Rattle.base_limits.specs.Limits.{longest};
 ghost use Rattle.cover_weight.specs.Edition.{along};

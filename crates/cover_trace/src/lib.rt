@@ -1,5 +1,7 @@
 // Lists the patch of a stretch of a loop from the table of least weights. The table keeps weights only, so the apexes are found again
 // along the way.
+#![tactic(auto)]
+
 ghost use Rattle.std.specs.Prelude.{◌≡◌, [], ◌∷◌, suc, ◌+◌, ◌<◌, ◌≤◌, length};
 ghost use Rattle.surface_rules.specs.Buffers.{laid};
 ghost use Rattle.cover_rules.specs.Covers.{vertex_of};

@@ -1,4 +1,6 @@
 // What a triangle weighs: the sum of the absolute values of its cross product's three components, in whole numbers.
+#![tactic(auto)]
+
 ghost use Rattle.std.specs.Prelude.{◌≡◌, ◌^◌, ◌<◌, nat_abs, ◌-ℤ◌, ◌*ℤ◌};
 ghost use Rattle.cover_weight.specs.Weight.{less, cross, size, stride_of, weight_of, point_of, Coordinate, OnGrid, Difference, Short, Coordinates, Names};
 

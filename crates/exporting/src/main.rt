@@ -1,4 +1,6 @@
 // Reads a sheet text from standard input, and prints the surface with its patches as a file of facets, or an answer line.
+#![tactic(auto)]
+
 use libc::{STDIN_FILENO, STDOUT_FILENO};
 use program_export::CLOSED;
 

@@ -1,4 +1,6 @@
 // What going from loop to loop takes, for the patcher and for the checker alike.
+#![tactic(auto)]
+
 ghost use Rattle.std.specs.Prelude.{◌≤◌, length};
 ghost use Rattle.fill_scratch.specs.Workings.Rings.{Within};
 

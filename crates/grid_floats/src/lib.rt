@@ -1,4 +1,6 @@
 // Binary64 floats that hold whole numbers: up to 2^53 their sums and products are exact. The laws are in proofs/Laws.
+#![tactic(auto)]
+
 ghost use Rattle.std.specs.Prelude.{◌≡◌, ℤ};
 ghost use Rattle.grid_floats.specs.Workings.Whole.{Whole, size_of};
 

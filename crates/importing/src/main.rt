@@ -1,4 +1,6 @@
 // Reads a file of facets from standard input and prints the text of its sheet, or an answer line.
+#![tactic(auto)]
+
 ghost use Rattle.std.specs.Prelude.{◌<◌, ◌≤◌, length};
 ghost use Rattle.base_limits.specs.Limits as limits;
 

@@ -1,4 +1,6 @@
 // Judges a patch set: all checks, the grid, the loops, and the verdict on the set.
+#![tactic(auto)]
+
 ghost use Rattle.std.specs.Prelude.{◌≡◌, ◌/◌, ◌≤◌, length};
 ghost use Rattle.base_types.specs.Pitches.{pitch_of};
 ghost use Rattle.base_answers.specs.declared.Answer.TheVariants.{Done};

@@ -1,4 +1,6 @@
 // The verdict over all loops, in listed order: the tray is taken only where a loop needs it.
+#![tactic(auto)]
+
 ghost use Rattle.fill_scratch.specs.Workings.Rings.{Within};
 ghost use Rattle.fill_scratch.specs.Workings.Tray.{EdgeRoom};
 ghost use Rattle.judge_all_sight.specs.Workings.Gives.{VerdictRoom, Gives};

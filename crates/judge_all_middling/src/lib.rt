@@ -1,4 +1,6 @@
 // The verdict over all loops, with one tray for those that need bars and a table.
+#![tactic(auto)]
+
 ghost use Rattle.fill_scratch.specs.Workings.Tray.{EdgeRoom, Serves};
 ghost use Rattle.judge_all_sight.specs.Workings.Gives.{VerdictRoom, Gives};
 

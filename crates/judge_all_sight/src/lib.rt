@@ -1,4 +1,6 @@
 // The verdict over loops that are all judged at sight: rims, triangles and long ones.
+#![tactic(auto)]
+
 ghost use Rattle.std.specs.Prelude.{◌≡◌, ◌≤◌, length, drop};
 ghost use Rattle.judge_rules.specs.Verdicts.{left_over};
 ghost use Rattle.judge_all_sight.specs.Workings.Gives.{SightVerdictRoom, GivesAtSight};

@@ -1,4 +1,6 @@
 // What the checker answers and leaves: a refusal, and in a lent buffer the front of what was listed.
+#![tactic(auto)]
+
 ghost use Rattle.std.specs.Prelude.{◌≡◌, ◌≤◌, length, take};
 ghost use Rattle.surface_rules.specs.Buffers.{over};
 

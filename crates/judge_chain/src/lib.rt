@@ -1,4 +1,6 @@
 // Chains the diagonals of a cover that a part of a patch set is.
+#![tactic(auto)]
+
 ghost use Rattle.judge_chain.specs.Workings.Chaining.{CoverRoom, CoverChained};
 
 use base_types::Surface;

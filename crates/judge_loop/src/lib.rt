@@ -1,4 +1,6 @@
 // One loop judged, whichever it is.
+#![tactic(auto)]
+
 ghost use Rattle.std.specs.Prelude.{◌≡◌, ◌≤◌, length};
 ghost use Rattle.judge_rules.specs.Faults.{share};
 ghost use Rattle.fill_scratch.specs.Workings.Tray.{tray};

@@ -1,6 +1,8 @@
 // Matches a part of a patch set with a loop: n - 2 triangles in any order, each begun at any corner. The stretches that have a
 // triangle are kept as rows of digits; the set is a cover exactly if the whole loop has one, and both parts of each have one or are
 // sides.
+#![tactic(auto)]
+
 ghost use Rattle.std.specs.Prelude.{◌≡◌, Bool, ◌&&◌, ◌||◌, [], ℕ, ◌^◌, ◌<◌, ◌≤◌, length, get_or};
 ghost use Rattle.base_limits.specs.Limits.{points, longest};
 ghost use Rattle.surface_rules.specs.Threes.{threes};

@@ -1,5 +1,7 @@
 // Judges the part of a set that a loop takes: whether it is no cover of the loop, one with a barred diagonal, or one that is not the
 // lightest.
+#![tactic(auto)]
+
 ghost use Rattle.judge_part.specs.Workings.Parts.{PartRoom, FindsCover, WeightRoom, FindsWeight};
 
 use base_answers::Answer;

@@ -1,4 +1,6 @@
 // The seat of a triangle of a patch set: the positions of its corners on a loop, turned so that the third lies between the other two.
+#![tactic(auto)]
+
 ghost use Rattle.std.specs.Prelude.{◌≡◌, List, ℕ, ◌+◌, ◌-◌, ◌≤◌, length};
 ghost use Rattle.base_limits.specs.Limits.{points};
 ghost use Rattle.cover_rules.specs.Covers.{on};

@@ -1,4 +1,6 @@
 // Loops that are judged at sight, with neither bars nor the table: long ones and triangles.
+#![tactic(auto)]
+
 ghost use Rattle.std.specs.Prelude.{◌≡◌, List, ℕ, ◌<◌, ◌≤◌, length};
 ghost use Rattle.base_limits.specs.Limits.{corners, longest};
 ghost use Rattle.cover_rules.specs.Covers.{on};

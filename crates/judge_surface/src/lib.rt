@@ -1,5 +1,7 @@
 // Judges a patch set of a surface whose counts fit, with lent scratch: the other checks, the grid, the loops, the rims, and the
 // verdict on the set.
+#![tactic(auto)]
+
 ghost use Rattle.std.specs.Prelude.{ℕ};
 ghost use Rattle.base_types.specs.Pitches.{pitch_of};
 ghost use Rattle.survey_rules.specs.Outcome.{Buffers, buffers};

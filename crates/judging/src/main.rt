@@ -1,4 +1,6 @@
 // Reads a sheet text from standard input and a patch set from the file `patches`, judges the set, and prints the answer line.
+#![tactic(auto)]
+
 ghost use Rattle.program_judge.specs.Workings.Taken.{Full, Before, TookText};
 
 use base_answers::Answer;

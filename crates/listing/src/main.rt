@@ -1,4 +1,6 @@
 // Reads a sheet text from standard input and prints its loops and their patches, or an answer line.
+#![tactic(auto)]
+
 ghost use Rattle.std.specs.Prelude.{◌<◌, length};
 ghost use Rattle.base_limits.specs.Limits.{sheet_text};
 ghost use Rattle.patch_surface.specs.Outcome.{buffers};

@@ -1,4 +1,6 @@
 // A path that grows edge by edge: where it comes back to a vertex, the loop that closes there is cut off and listed.
+#![tactic(auto)]
+
 ghost use Rattle.std.specs.Prelude.{◌≡◌, take};
 ghost use Rattle.surface_rules.specs.Buffers.{laid};
 ghost use Rattle.loop_rules.specs.Loops.{ring, starts_at};

@@ -1,5 +1,7 @@
 // Finds the loops of a surface: open edges are walked by next, cycle by cycle, and each cycle is split where the walk comes
 // back to a vertex.
+#![tactic(auto)]
+
 ghost use Rattle.loop_rules.specs.Loops.{loops};
 ghost use Rattle.loop_cut.specs.Listing.{ListsLoops};
 ghost use Rattle.loop_cut.specs.Workings.Growing.{ledger};

@@ -1,4 +1,6 @@
 // Goes along the table of turns: to the next half-edge that leads a cycle, and by turns to the next open edge.
+#![tactic(auto)]
+
 ghost use Rattle.std.specs.Prelude.{◌≡◌, true, ◌+◌, ◌<◌, ◌≤◌, length, get_or};
 ghost use Rattle.surface_twins.specs.Workings.Turns.{open_mark};
 ghost use Rattle.loop_leaders.specs.Workings.Leading.{Quiet, Landing, Landed};

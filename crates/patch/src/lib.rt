@@ -1,4 +1,6 @@
 // Patches a surface: all checks, the grid, the loops, and what becomes of each.
+#![tactic(auto)]
+
 ghost use Rattle.std.specs.Prelude.{◌≡◌, ◌*◌, ◌/◌, ◌≤◌, length};
 ghost use Rattle.base_types.specs.Pitches.{pitch_of};
 ghost use Rattle.base_answers.specs.declared.Answer.TheVariants.{Done};

@@ -1,4 +1,6 @@
 // The course over all loops, in listed order.
+#![tactic(auto)]
+
 ghost use Rattle.fill_scratch.specs.Workings.Rings.{AtSight, Within};
 ghost use Rattle.fill_scratch.specs.Workings.Tray.{EdgeRoom, Serves};
 ghost use Rattle.patch_all.specs.Workings.Courses.{docket, CourseRoom, CourseDone};

@@ -1,4 +1,6 @@
 // One loop patched, by how long it is.
+#![tactic(auto)]
+
 ghost use Rattle.fill_scratch.specs.Workings.Tray.{tray};
 ghost use Rattle.patch_middling.specs.Workings.Takes.{TakeRoom, Takes};
 

@@ -1,4 +1,6 @@
 // Patches a middling loop: one of more than three edges that is not long.
+#![tactic(auto)]
+
 ghost use Rattle.std.specs.Prelude.{◌<◌, ◌≤◌, length};
 ghost use Rattle.base_limits.specs.Limits.{longest};
 ghost use Rattle.fill_scratch.specs.Workings.Tray.{tray};

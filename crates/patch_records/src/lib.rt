@@ -1,4 +1,6 @@
 // The record of a loop: seven numbers, which stand one after the other in a lent buffer, and those of all loops in listed order.
+#![tactic(auto)]
+
 ghost use Rattle.std.specs.Prelude.{◌≡◌, [], ◌∷◌, ◌+◌, ◌≤◌, length};
 ghost use Rattle.surface_rules.specs.Buffers.{over, laid};
 ghost use Rattle.patch_records.specs.Records.{numbers, record_in};

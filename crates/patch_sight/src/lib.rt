@@ -1,4 +1,6 @@
 // What becomes of a loop that needs neither bars nor the table: a triangle, and one that lays nothing.
+#![tactic(auto)]
+
 ghost use Rattle.std.specs.Prelude.{◌≡◌};
 ghost use Rattle.patch_sight.specs.Workings.Threes.{ThreeRoom, ThreeTook};
 

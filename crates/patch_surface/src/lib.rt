@@ -1,5 +1,7 @@
 // Patches a surface whose counts fit, with lent scratch: the other checks and the grid; then the loops, what becomes of each, and their
 // records.
+#![tactic(auto)]
+
 ghost use Rattle.std.specs.Prelude.{◌≡◌, ◌/◌, length};
 ghost use Rattle.base_types.specs.Pitches.{pitch_of};
 ghost use Rattle.check_surface.specs.Workings.Checks.{Fitted};

@@ -1,4 +1,6 @@
 // Reads a sheet's text, charts what it says, and prints the report.
+#![tactic(auto)]
+
 ghost use Rattle.std.specs.Prelude.{◌≡◌, false, ◌*◌, ◌<◌, ◌≤◌, length};
 ghost use Rattle.base_answers.specs.Numbers.{refusing};
 ghost use Rattle.base_limits.specs.Limits as limits;

@@ -1,4 +1,6 @@
 // Reads a sheet's text, patches what it says, and writes the surface with its patches as a file of facets, or the line of an answer.
+#![tactic(auto)]
+
 ghost use Rattle.std.specs.Prelude.{◌≤◌, length};
 ghost use Rattle.program_lines.specs.Printout.{print_outcome, PrintsOver};
 ghost use Rattle.program_export.specs.Exporting.{Exports, ExportsIn};

@@ -1,4 +1,6 @@
 // Reads a file of facets and prints the text of its sheet, or the line of an answer.
+#![tactic(auto)]
+
 ghost use Rattle.std.specs.Prelude.{◌<◌, ◌≤◌, length};
 ghost use Rattle.base_limits.specs.Limits as limits;
 ghost use Rattle.program_lines.specs.Printout.{print_outcome, PrintsOver};

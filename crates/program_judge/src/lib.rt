@@ -1,4 +1,6 @@
 // Hears a patch set: a wrong line of the sheet's text, a wrong line of the set's, or what the checker answers.
+#![tactic(auto)]
+
 ghost use Rattle.std.specs.Prelude.{◌≡◌, ◌+◌, ◌<◌, ◌≤◌, length};
 ghost use Rattle.base_limits.specs.Limits as limits;
 ghost use Rattle.text_sheet.specs.Sheet.{head};

@@ -1,4 +1,6 @@
 // The lines that the programs print, put into a buffer.
+#![tactic(auto)]
+
 ghost use Rattle.std.specs.Prelude.{◌≡◌, cond, [], ◌∷◌, ◌++◌, ◌+◌, ◌-◌, ◌*◌, ◌^◌, ◌<◌, ◌≤◌, eqb, length};
 ghost use Rattle.base_limits.specs.States as stated;
 ghost use Rattle.surface_rules.specs.Buffers.{over, laid};

@@ -1,4 +1,6 @@
 // Reads a sheet's text and patches what it says.
+#![tactic(auto)]
+
 ghost use Rattle.std.specs.Prelude.{List, ℕ, ◌<◌, ◌≤◌, ℤ, length};
 ghost use Rattle.base_limits.specs.Limits.{sheet_text};
 ghost use Rattle.text_rules.specs.Room.{ReadInto};

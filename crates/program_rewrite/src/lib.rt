@@ -1,4 +1,6 @@
 // Reads a sheet text and writes it again, or the line of an answer.
+#![tactic(auto)]
+
 ghost use Rattle.std.specs.Prelude.{◌≡◌, ◌<◌, ◌≤◌, length};
 ghost use Rattle.base_limits.specs.Limits.{sheet_text};
 ghost use Rattle.surface_rules.specs.Buffers.{over};

@@ -1,4 +1,6 @@
 // The lines of a listing, put section by section into a buffer.
+#![tactic(auto)]
+
 ghost use Rattle.std.specs.Prelude.{◌≡◌, ◌≤◌, length};
 ghost use Rattle.program_lines.specs.Workings.Telling.{inventory};
 ghost use Rattle.program_roll.specs.Workings.Listed.{Listed};

@@ -1,4 +1,6 @@
 // Reads a sheet text from standard input and prints it written again, or an answer line.
+#![tactic(auto)]
+
 use base_types::Surface;
 use libc::{STDIN_FILENO, STDOUT_FILENO};
 

@@ -1,4 +1,6 @@
 // Marks the rims: in each piece the loop with the greatest run, among equals the first listed.
+#![tactic(auto)]
+
 ghost use Rattle.std.specs.Prelude.{◌≡◌, ◌≤◌, length};
 ghost use Rattle.surface_rules.specs.Buffers.{over};
 ghost use Rattle.rim_pieces.specs.Computed.{piece_count};

@@ -1,4 +1,6 @@
 // Numbers the pieces of a surface: each is flooded from its smallest triangle across the edges that its triangles share.
+#![tactic(auto)]
+
 ghost use Rattle.std.specs.Prelude.{◌≤◌, length};
 ghost use Rattle.rim_pieces.specs.Workings.Flooding.{flooded, Cleared, VisitRoom, Visits, AroundRoom, Arounds, SpreadRoom, Spreads, NumberRoom, Numbers};
 

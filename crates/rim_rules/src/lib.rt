@@ -1,1 +1,3 @@
 // Definitions and theorems only: which loop of a piece is its rim.
+#![tactic(auto)]
+

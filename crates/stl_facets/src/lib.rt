@@ -1,6 +1,8 @@
 // The facets of a binary STL, one at a time as records of floats.
 //
 // What stands at a place is read by functions of the bytes and the place; the reader holds both, and hands out what they read.
+#![tactic(auto)]
+
 ghost use Rattle.std.specs.Prelude.{◌≡◌, ◌+◌, ◌≤◌, ◌<◌, length};
 ghost use Rattle.std.specs.Float.{binary32};
 ghost use Rattle.std.specs.Float.Ieee.{of_bits};

@@ -1,6 +1,8 @@
 // The points of a file of facets, met corner after corner and numbered by first use. Points are chained in buckets by their words.
 // A caller lends the chains: by bucket the last point, and for each point the one before it in its bucket, numbered from 1, where
 // 0 ends a chain. There are as many buckets as there are heads, and at most as many points as there are links.
+#![tactic(auto)]
+
 ghost use Rattle.std.specs.Prelude.{◌≡◌, ◌+◌, ◌*◌, ◌<◌, length};
 ghost use Rattle.stl_gather.specs.Gathering.{GatherRoom, Gathers};
 ghost use Rattle.surface_rules.specs.Threes.{three};

@@ -1,4 +1,6 @@
 // Reading a file of facets into lent buffers.
+#![tactic(auto)]
+
 ghost use Rattle.std.specs.Prelude.{◌≡◌, ◌≤◌};
 ghost use Rattle.text_read.specs.Outcome.{read_outcome};
 ghost use Rattle.stl_rules.specs.Reading.{size_refusal, reads_file};

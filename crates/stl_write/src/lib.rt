@@ -1,4 +1,6 @@
 // Writing a surface and its patches as binary STL into a lent buffer.
+#![tactic(auto)]
+
 ghost use Rattle.std.specs.Prelude.{◌≡◌, ◌∷◌, [], ◌+◌, ◌*◌, ◌<◌, ◌≤◌, length, get_or, replicate};
 ghost use Rattle.surface_rules.specs.Smallest.{least};
 ghost use Rattle.surface_rules.specs.Buffers.{laid, over};

@@ -1,4 +1,6 @@
 // A surface's edges, the table of refusals, and what a search finds: the smallest index, or nothing. It has no function.
+#![tactic(auto)]
+
 #[derive(Drop)]
 pub enum Found {
     At(usize),

@@ -1,6 +1,8 @@
 // Pairs one half-edge with its twin, or finds that it repeats an earlier one. Half-edges are chained in buckets by their two ends,
 // whichever comes first, so that a half-edge meets its twin and its like in one chain. A caller lends the chains: by bucket the
 // last half-edge, and for each its end and the one before it in its bucket, numbered from 1, where 0 ends a chain.
+#![tactic(auto)]
+
 ghost use Rattle.std.specs.Prelude.{◌≡◌, ◌<◌};
 ghost use Rattle.surface_twins.specs.Workings.Chains.{bucket_of, MeetRoom, Meets, TurnRoom, TurnDone, PairRoom, PairDone};
 

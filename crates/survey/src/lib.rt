@@ -1,4 +1,6 @@
 // Surveys a surface: all checks, the grid, and the loops.
+#![tactic(auto)]
+
 ghost use Rattle.std.specs.Prelude.{◌≡◌};
 ghost use Rattle.base_types.specs.Pitches.{pitch_of};
 ghost use Rattle.survey_rules.specs.Outcome.{outcome, buffers, survey_of};

@@ -1,4 +1,6 @@
 // The grid of a surface: the multiple of the pitch to which every word goes.
+#![tactic(auto)]
+
 ghost use Rattle.std.specs.Prelude.{◌≡◌, ◌<◌, ◌≤◌, length, get_or};
 ghost use Rattle.base_types.specs.Pitches.{pitch_of};
 ghost use Rattle.surface_rules.specs.Buffers.{over};

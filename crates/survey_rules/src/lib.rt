@@ -1,4 +1,6 @@
 // What a survey answers.
+#![tactic(auto)]
+
 ghost use Rattle.std.specs.Prelude.{◌≡◌};
 
 use base_answers::Answer;

@@ -1,4 +1,6 @@
 // Decimal numbers of a text read, up to a limit and with the byte that ends each.
+#![tactic(auto)]
+
 ghost use Rattle.std.specs.Prelude.{◌≡◌, ◌+◌, ◌<◌, ◌≤◌, ltb, length, drop};
 ghost use Rattle.text_digits.specs.Workings.Reading.{value_of, until, read_decimal, seen, UpTo};
 

@@ -1,5 +1,7 @@
 // What reading and writing a number of a text have in common: the byte of a digit, how many digits a number has, and what reading
 // answers. A key is read here too.
+#![tactic(auto)]
+
 ghost use Rattle.std.specs.Prelude.{◌≡◌, ◌<◌, length, drop};
 ghost use Rattle.text_digits.specs.Numeral.{byte_of, size};
 ghost use Rattle.text_digits.specs.Workings.Reading.{read_key, met};

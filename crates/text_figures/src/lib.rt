@@ -1,4 +1,6 @@
 // Numbers of a text written: a word by a table of all bytes in two digits, a decimal number by its four digits, and plain bytes.
+#![tactic(auto)]
+
 ghost use Rattle.std.specs.Prelude.{◌≡◌, ◌++◌, ◌∷◌, [], ◌+◌, ◌*◌, ◌/◌, ◌%◌, ◌<◌, ◌≤◌, length};
 ghost use Rattle.surface_rules.specs.Buffers.{laid};
 ghost use Rattle.text_digits.specs.Numeral.{size, hex, decimal};

@@ -1,4 +1,6 @@
 // Words of eight hexadecimal digits read, by a table of what each byte stands for that a caller makes once and lends.
+#![tactic(auto)]
+
 ghost use Rattle.std.specs.Prelude.{◌≡◌, ◌+◌, ◌≤◌, length, get_or, drop};
 ghost use Rattle.text_digits.specs.Workings.Reading.{read_hex, seen, UpTo};
 ghost use Rattle.text_hex.specs.Workings.Tables.{Marked, half};

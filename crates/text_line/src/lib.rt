@@ -1,4 +1,6 @@
 // The lines of a sheet text, written one by one, and how many bytes a whole text takes.
+#![tactic(auto)]
+
 ghost use Rattle.std.specs.Prelude.{◌≡◌, true, ◌+◌, ◌<◌, ◌≤◌, leb, length};
 ghost use mathlib.Core.List.{map, flatten};
 ghost use Rattle.base_types.specs.Pitches.{is_pitch};

@@ -1,4 +1,6 @@
 // Reading a sheet text into lent buffers.
+#![tactic(auto)]
+
 ghost use Rattle.std.specs.Prelude.{◌≡◌, ◌*◌, ◌<◌, ◌≤◌, length};
 ghost use Rattle.base_limits.specs.Limits as limits;
 ghost use Rattle.surface_rules.specs.Threes.{flat};

@@ -1,4 +1,6 @@
 // Reading the text of a patch set.
+#![tactic(auto)]
+
 ghost use Rattle.std.specs.Prelude.{◌≡◌, ◌≤◌, length, drop};
 ghost use Rattle.base_limits.specs.Limits as limits;
 ghost use Rattle.surface_rules.specs.Buffers.{over};

@@ -1,4 +1,6 @@
 // The lines of a sheet text, read one by one or all of a kind.
+#![tactic(auto)]
+
 ghost use Rattle.std.specs.Prelude.{◌≡◌, ◌<◌, ◌≤◌, length, drop};
 ghost use Rattle.surface_rules.specs.Buffers.{over};
 ghost use Rattle.surface_rules.specs.Threes.{flat};

@@ -1,4 +1,6 @@
 // Writing the text of a sheet into a lent buffer.
+#![tactic(auto)]
+
 ghost use Rattle.std.specs.Prelude.{◌≡◌, ◌+◌, ◌*◌, ◌/◌, ◌<◌, ◌≤◌, length};
 ghost use Rattle.surface_rules.specs.Buffers.{laid, over};
 ghost use Rattle.text_sheet.specs.Sheet.{text};

@@ -1,4 +1,6 @@
 // What other languages link: exported functions over numbers and slices, which answer as the library does.
+#![tactic(auto)]
+
 ghost use Rattle.std.specs.Prelude.{◌≡◌};
 ghost use Rattle.std.specs.Float.{binary32};
 ghost use Rattle.std.specs.Float.Ieee.{of_bits};
