@@ -5,7 +5,7 @@ ghost use Rattle.std.specs.Prelude.{◌≡◌};
 ghost use Rattle.base_answers.specs.Numbers.{number_of, place_of, refusing};
 
 // What an entry point says: done or passed, one of the refusals 1 to 10, 16 and 17, or one of the verdicts 11 to 15.
-#[derive(Drop)]
+#[derive(Clone, Copy)]
 pub enum Answer {
     Done,
     Words,

@@ -6,7 +6,7 @@ ghost use Rattle.base_types.specs.Counts.{threes};
 ghost use Rattle.base_types.specs.Pitches.{pitch_of, Names};
 
 // A surface's counts. Each point has three words and each triangle three corners.
-#[derive(Drop)]
+#[derive(Clone, Copy)]
 pub struct Surface {
     pub points: usize,
     pub triangles: usize,
@@ -88,7 +88,7 @@ fn is_threes(n: usize, most: usize) -> bool
 
 // A patch set's counts: a state for each loop, and the triangles of all its patches. A surface has at most a loop for each triangle,
 // and the loops together have at most an open edge for each corner, which is more than their patches have triangles.
-#[derive(Drop)]
+#[derive(Clone, Copy)]
 pub struct PatchSet {
     pub states: usize,
     pub triangles: usize,
@@ -134,7 +134,7 @@ impl PatchSet {
 }
 
 // How far apart the lines of the grid are, in plate units: one of four.
-#[derive(Drop)]
+#[derive(Clone, Copy)]
 pub enum Pitch {
     One,
     Two,
@@ -143,7 +143,7 @@ pub enum Pitch {
 }
 
 // The pitch that a number names, or that it names none.
-#[derive(Drop)]
+#[derive(Clone, Copy)]
 pub enum Named {
     Is(Pitch),
     Nothing,
@@ -183,7 +183,7 @@ impl Pitch {
 }
 
 // The grid, on which every multiple of its pitch lies.
-#[derive(Drop)]
+#[derive(Clone, Copy)]
 pub struct Grid {
     pub pitch: Pitch,
 }
@@ -208,7 +208,7 @@ impl Grid {
 }
 
 // A loop by its length, which counts its edges.
-#[derive(Drop)]
+#[derive(Clone, Copy)]
 pub struct Loop {
     pub length: usize,
 }
@@ -243,7 +243,7 @@ impl Loop {
 }
 
 // What became of a loop, by its number.
-#[derive(Drop)]
+#[derive(Clone, Copy)]
 pub struct State {
     pub number: u16,
 }

@@ -4,15 +4,15 @@
 
 ghost use Rattle.std.specs.Prelude.{◌≤◌, length};
 
-use libc::STDOUT_FILENO;
+use std::io;
 
-fn main() {
-    coordinates(1);
-    coordinates(2);
-    coordinates(5);
-    coordinates(10);
-    coordinate(0x3f00_0000, 3);
-    surfaces();
+fn main(rt: HostRuntime) -> io::Result<()> {
+    coordinates(&rt, 1)?;
+    coordinates(&rt, 2)?;
+    coordinates(&rt, 5)?;
+    coordinates(&rt, 10)?;
+    coordinate(&rt, 0x3f00_0000, 3)?;
+    surfaces(&rt)
 }
 
 // Halves and ties, both ends of the grid from either side, the limits of what is exact, and what is no number.
@@ -43,48 +43,19 @@ const WORDS: [u32; 24] = [
     0xff80_0001,
 ];
 
-fn coordinates(pitch: u32) {
-    let words = WORDS;
-    let mut i = 0;
-    while i < 24 {
-        coordinate(words[i], pitch);
-        i += 1;
+fn coordinates(rt: &impl Print, pitch: u32) -> io::Result<()> {
+    for word in WORDS {
+        coordinate(rt, word, pitch)?;
     }
+    Ok(())
 }
 
 // The line of one coordinate: its word and the pitch, the number of its answer, the whole number, and the bits of the float beside it.
-fn coordinate(word: u32, pitch: u32) {
+fn coordinate(rt: &impl Print, word: u32, pitch: u32) -> io::Result<()> {
     let mut whole: i32 = 0;
     let mut float: u32 = 0;
     let number = wazelpunt::wazelpunt_coordinate(word, &mut whole, &mut float, pitch);
-    print_word(word);
-    print_after(b" at ", pitch as u64);
-    io::write_all(STDOUT_FILENO, b": ");
-    io::print_decimal(STDOUT_FILENO, number as u64);
-    io::write_all(STDOUT_FILENO, b", ");
-    print_whole(whole);
-    io::write_all(STDOUT_FILENO, b", ");
-    print_word(float);
-    io::write_all(STDOUT_FILENO, b"\n");
-}
-
-fn print_word(word: u32) {
-    io::print_hex(STDOUT_FILENO, word as u64, 8);
-}
-
-fn print_whole(k: i32) {
-    if k < 0 {
-        io::write_all(STDOUT_FILENO, b"-");
-    }
-    io::print_decimal(STDOUT_FILENO, size_of(k));
-}
-
-fn size_of(k: i32) -> u64 {
-    if k < 0 {
-        (-(k as i64)) as u64
-    } else {
-        k as u64
-    }
+    println!(rt; "{word:08x} at {pitch}: {number}, {whole}, {float:08x}")
 }
 
 // (0,0,0),(10,0,0),(10,10,0),(0,10,4),(4,4,9)
@@ -107,37 +78,34 @@ const POINTS: [u32; 15] = [
 ];
 
 // A point named twice, a cone whose two covers weigh the same, and rims of 64 and of 65 edges.
-fn surfaces() {
+fn surfaces(rt: &impl Print) -> io::Result<()> {
     let points = POINTS;
     let twice: [u16; 3] = [0, 0, 1];
     let cone: [u16; 12] = [0, 1, 4, 1, 2, 4, 2, 3, 4, 3, 0, 4];
-    surface(&points, &twice);
-    surface(&points, &cone);
+    surface(rt, &points, &twice)?;
+    surface(rt, &points, &cone)?;
     let flat = [0u32; 195];
     let mut most = [0u16; 186];
     fan(&mut most);
-    surface(&flat, &most);
+    surface(rt, &flat, &most)?;
     let mut long = [0u16; 189];
     fan(&mut long);
-    surface(&flat, &long);
+    surface(rt, &flat, &long)
 }
 
 // Makes corners of zeros a fan about point 0; its rim has two edges more than the fan has triangles.
 fn fan(corners: &mut [u16])
     requires { length corners.old ≤ 189 }
 {
-    let n = corners.len() / 3;
-    let mut i = 0;
-    while i < n {
+    for i in 0..corners.len() / 3 {
         corners[3 * i + 1] = (i + 1) as u16;
         corners[3 * i + 2] = (i + 2) as u16;
-        i += 1;
     }
 }
 
 // The line of one surface: the answer's number and place, how many loops, ring vertices and patch corners there are, the first
 // loop's state, weight, first half-edge, piece and run, and the corners of its first two triangles.
-fn surface(words: &[u32], corners: &[u16]) {
+fn surface(rt: &impl Print, words: &[u32], corners: &[u16]) -> io::Result<()> {
     let mut grid = [0i32; 195];
     let mut rings = [0u16; 189];
     let mut records = [0u64; 441];
@@ -159,36 +127,37 @@ fn surface(words: &[u32], corners: &[u16]) {
         &mut laid,
         1,
     );
-    print_answer(number, place, loops, vertices, laid);
-    print_loop(records[1], records[2], records[4], records[5], records[6]);
-    print_triangle(patches[0], patches[1], patches[2]);
-    print_triangle(patches[3], patches[4], patches[5]);
-    io::write_all(STDOUT_FILENO, b"\n");
+    print_answer(rt, number, place, loops, vertices, laid)?;
+    print_loop(
+        rt, records[1], records[2], records[4], records[5], records[6],
+    )?;
+    print_triangle(rt, patches[0], patches[1], patches[2])?;
+    print_triangle(rt, patches[3], patches[4], patches[5])?;
+    println!(rt; "")
 }
 
-fn print_answer(number: u32, place: usize, loops: usize, vertices: usize, laid: usize) {
-    print_after(b"", number as u64);
-    print_after(b", ", place as u64);
-    print_after(b"; ", loops as u64);
-    print_after(b", ", vertices as u64);
-    print_after(b", ", laid as u64);
+fn print_answer(
+    rt: &impl Print,
+    number: u32,
+    place: usize,
+    loops: usize,
+    vertices: usize,
+    laid: usize,
+) -> io::Result<()> {
+    print!(rt; "{number}, {place}; {loops}, {vertices}, {laid}")
 }
 
-fn print_loop(state: u64, weight: u64, first: u64, piece: u64, run: u64) {
-    print_after(b"; ", state);
-    print_after(b", ", weight);
-    print_after(b", ", first);
-    print_after(b", ", piece);
-    print_after(b", ", run);
+fn print_loop(
+    rt: &impl Print,
+    state: u64,
+    weight: u64,
+    first: u64,
+    piece: u64,
+    run: u64,
+) -> io::Result<()> {
+    print!(rt; "; {state}, {weight}, {first}, {piece}, {run}")
 }
 
-fn print_triangle(a: u16, b: u16, c: u16) {
-    print_after(b"; ", a as u64);
-    print_after(b", ", b as u64);
-    print_after(b", ", c as u64);
-}
-
-fn print_after(mark: &[u8], n: u64) {
-    io::write_all(STDOUT_FILENO, mark);
-    io::print_decimal(STDOUT_FILENO, n);
+fn print_triangle(rt: &impl Print, a: u16, b: u16, c: u16) -> io::Result<()> {
+    print!(rt; "; {a}, {b}, {c}")
 }

@@ -6,7 +6,7 @@ ghost use Rattle.surface_rules.specs.Buffers.{laid};
 ghost use Rattle.chart_rules.specs.Report.{numbers, entry_in};
 
 // What the report tells: a piece, or a loop of it by what it is there, and the number of the piece or of the loop.
-#[derive(Drop)]
+#[derive(Clone, Copy)]
 pub struct Entry {
     pub kind: u16,
     pub number: u16,

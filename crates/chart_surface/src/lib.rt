@@ -14,7 +14,7 @@ use base_types::{Loop, Pitch};
 use chart_rules::Entry;
 
 // What charting answers: done or a refusal, how many loops there are, how many vertices their rings have, and how many entries the report has.
-#[derive(Drop)]
+#[derive(Clone, Copy)]
 pub struct Charted {
     pub answer: Answer,
     pub loops: usize,

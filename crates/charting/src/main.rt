@@ -2,14 +2,14 @@
 #![tactic(auto)]
 
 use base_types::Surface;
-use libc::{STDIN_FILENO, STDOUT_FILENO};
 
 // A byte more than the longest text has, so that a longer one is seen to be longer. What is printed takes less.
 const ROOM: usize = Surface::TEXT + 1;
 
-fn main() {
+// Nothing is said of a write that fails.
+fn main(rt: HostRuntime) {
     let mut room = [0u8; ROOM];
-    let n = io::read_full(STDIN_FILENO, &mut room);
+    let n = program_input::read_full(&mut rt.stdin(), &mut room);
     let bytes = program_chart::print_room(&mut room, n);
-    io::write_all(STDOUT_FILENO, &room[..bytes]);
+    let _ = rt.write_all(&room[..bytes]);
 }

@@ -86,7 +86,7 @@ fn gather(grid: &[i32], ring: &[u16], px: &mut [f64], py: &mut [f64], pz: &mut [
 }
 
 // The least weight of the allowed covers of a loop, or that it has none.
-#[derive(Drop)]
+#[derive(Clone, Copy)]
 pub enum Least {
     Weight(u64),
     Nothing,

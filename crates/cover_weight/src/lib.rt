@@ -5,7 +5,7 @@ ghost use Rattle.std.specs.Prelude.{◌≡◌, ◌^◌, ◌<◌, nat_abs, ◌-�
 ghost use Rattle.cover_weight.specs.Weight.{less, cross, size, stride_of, weight_of, point_of, Coordinate, OnGrid, Difference, Short, Coordinates, Names};
 
 // A point of the grid.
-#[derive(Drop)]
+#[derive(Clone, Copy)]
 pub struct Point {
     pub x: i32,
     pub y: i32,
@@ -13,7 +13,7 @@ pub struct Point {
 }
 
 // The difference of two points.
-#[derive(Drop)]
+#[derive(Clone, Copy)]
 struct Vector {
     x: i64,
     y: i64,

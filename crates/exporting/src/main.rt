@@ -1,13 +1,13 @@
 // Reads a sheet text from standard input, and prints the surface with its patches as a file of facets, or an answer line.
 #![tactic(auto)]
 
-use libc::{STDIN_FILENO, STDOUT_FILENO};
 use program_export::CLOSED;
 
-fn main() {
+// Nothing is said of a write that fails.
+fn main(rt: HostRuntime) {
     // The longest file is longer than the longest text, so that a longer one is seen to be longer.
     let mut room = [0u8; CLOSED];
-    let n = io::read_full(STDIN_FILENO, &mut room);
+    let n = program_input::read_full(&mut rt.stdin(), &mut room);
     let bytes = program_export::export(&mut room, n);
-    io::write_all(STDOUT_FILENO, &room[..bytes]);
+    let _ = rt.write_all(&room[..bytes]);
 }

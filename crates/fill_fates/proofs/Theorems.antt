@@ -11,7 +11,7 @@ use Rattle.cover_rules.proofs.Laws.Best.{patch_unique}
 use Rattle.cover_weight.specs.Edition.{naturals, tri_of, along}
 use Rattle.cover_weight.proofs.Laws.Naturals.{naturals_lawful}
 use Rattle.cover_bars.specs.Bars.{barred}
-use Rattle.fill_fates.specs.Fates.{Fate, patched, long, uncovered, lays, Meets, Becomes}
+use Rattle.fill_fates.specs.Fates.{Fate, patched, long, uncovered, lays, Meets, Becomes, rim}
 use Rattle.fill_fates.specs.Course.{Course}
 
 -- no ring is longer than the longest that is patched, and not longer
@@ -29,6 +29,10 @@ meets_once grid input laid ring long uncovered p q = absurd (no_longer ring q.0 
 meets_once grid input laid ring uncovered (patched d) p q = absurd (p.1 d q.1.among)
 meets_once grid input laid ring uncovered long p q = absurd (no_longer ring p.0 q)
 meets_once grid input laid ring uncovered uncovered p q = refl
+meets_once grid input laid ring (patched c) rim p q = elim q [ ]
+meets_once grid input laid ring long rim p q = elim q [ ]
+meets_once grid input laid ring uncovered rim p q = elim q [ ]
+meets_once grid input laid ring rim g p q = elim p [ ]
 
 pub becomes_once : (grid : List ℤ) (input laid : List ℕ) (k : Bool) (ring : List ℕ) (f g : Fate) → Becomes grid input laid k ring f → Becomes grid input laid k ring g → f ≡ g
 becomes_once grid input laid true ring f g p q = p ∙ sym q

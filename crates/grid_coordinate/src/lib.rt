@@ -10,7 +10,7 @@ ghost use Rattle.grid_coordinate.specs.Places.{whole, answer_of};
 use base_answers::Answer;
 
 // The answer for one coordinate. The float beside a whole number is what is left of the value.
-#[derive(Drop)]
+#[derive(Clone, Copy)]
 pub enum Coordinate {
     Exact(i32),
     Shifted(i32, f32),

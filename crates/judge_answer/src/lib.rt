@@ -7,7 +7,7 @@ ghost use Rattle.surface_rules.specs.Buffers.{over};
 use base_answers::Answer;
 
 // What the checker answers: passed, a refusal or a verdict, how many loops there are, and how many vertices their rings have.
-#[derive(Drop)]
+#[derive(Clone, Copy)]
 pub struct Judged {
     pub answer: Answer,
     pub loops: usize,

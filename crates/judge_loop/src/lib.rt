@@ -12,7 +12,7 @@ use cover_table::Least;
 
 // The loop in hand: which one it is, how it is declared, how much of the set is taken before it, how many edges are chained, and what
 // its stamps begin at.
-#[derive(Drop)]
+#[derive(Clone, Copy)]
 pub struct InHand {
     pub l: usize,
     pub state: u16,
@@ -22,7 +22,7 @@ pub struct InHand {
 }
 
 // What the loop was found to be, and how many edges are chained after it.
-#[derive(Drop)]
+#[derive(Clone, Copy)]
 pub struct LoopJudged {
     pub answer: Answer,
     pub edges: usize,

@@ -16,7 +16,7 @@ use cover_bits::{is_set, with};
 use judge_seat::Seat;
 
 // What a patch set is of a loop.
-#[derive(Drop)]
+#[derive(Clone, Copy)]
 pub enum Match {
     NoCover,
     Barred,

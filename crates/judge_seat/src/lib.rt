@@ -9,7 +9,7 @@ ghost use Rattle.judge_seat.specs.Workings.Seats.{Ringed, Lies, SeatedAs, SeatFo
 use base_types::{Loop, Surface};
 
 // The positions i, k and m of a triangle's corners, turned so that i < m < k; or that it has no such positions.
-#[derive(Drop)]
+#[derive(Clone, Copy)]
 pub enum Seat {
     Of(usize, usize, usize),
     Not,

@@ -11,21 +11,22 @@ ghost use Rattle.listing.specs.Tasks.{Asks, Gives};
 
 use base_answers::Answer;
 use base_types::{Loop, PatchSet, Surface};
-use libc::{STDIN_FILENO, STDOUT_FILENO};
 use patch_surface::Patched;
 use program_list::Taken;
+use std::io::Read;
 
 // A byte more than the longest text has, so that a longer one is seen to be longer. What is printed takes as much room.
 const ROOM: usize = Surface::TEXT + 1;
 
 // What is done with a room: the input is taken up, or what was left of it printed.
-#[derive(Drop)]
+#[derive(Clone, Copy)]
 enum Task {
     TakeUp,
     Print(Patched),
 }
 
-fn main() {
+fn main(rt: HostRuntime) {
+    let mut input = rt.stdin();
     let mut corners = [0u16; Surface::CORNERS];
     let mut turns = [0u16; 2 * Surface::CORNERS];
     let mut grid = [0i32; Surface::WORDS];
@@ -33,6 +34,8 @@ fn main() {
     let mut records = [0u64; Loop::RECORD * Surface::TRIANGLES];
     let mut patches = [0u16; PatchSet::CORNERS];
     let taken: Taken = work(
+        &mut input,
+        &rt,
         &mut corners,
         &mut turns,
         &mut grid,
@@ -51,6 +54,8 @@ fn main() {
         &mut patches,
     );
     work(
+        &mut input,
+        &rt,
         &mut corners,
         &mut turns,
         &mut grid,
@@ -63,7 +68,9 @@ fn main() {
 
 // Does what a room is needed for. The room is gone from the stack when this returns: both calls are of the same function, which the compiler
 // so keeps apart from `main`, and the patching begins where the room was.
-fn work(
+fn work<R: Read, P: Print>(
+    input: &mut R,
+    output: &P,
     corners: &mut [u16],
     turns: &mut [u16],
     grid: &mut [i32],
@@ -78,12 +85,13 @@ fn work(
     let mut room = [0u8; ROOM];
     match task {
         Task::TakeUp => {
-            let n = io::read_full(STDIN_FILENO, &mut room);
+            let n = program_input::read_full(input, &mut room);
             program_list::take_up_room(&room, corners, turns, grid, rings, records, patches, n)
         }
         Task::Print(listed) => {
             let answer = listed.answer;
             print(
+                output,
                 &mut room,
                 answer,
                 listed.loops,
@@ -100,8 +108,9 @@ fn work(
     }
 }
 
-// Prints the answer and the loops, section by section.
-fn print(
+// Prints the answer and the loops, section by section. A write that fails is the last, and nothing is said of it.
+fn print<P: Print>(
+    output: &P,
     room: &mut [u8],
     answer: Answer,
     loops: usize,
@@ -117,7 +126,7 @@ fn print(
     while going {
         progress = program_roll::fill(room, progress, loops, rings, records, patches);
         let n = progress.bytes;
-        going = io::write_all(STDOUT_FILENO, &room[..n]) && progress.loops < loops;
+        going = output.write_all(&room[..n]).is_ok() && progress.loops < loops;
         progress.bytes = 0;
     }
 }

@@ -9,7 +9,7 @@ ghost use Rattle.loop_cut.specs.Workings.Growing.{Sought, part, RingRoom, ledger
 use surface_rules::Found;
 
 // How many loops were listed, how many vertices their rings have in all, and how many edges the path has.
-#[derive(Drop)]
+#[derive(Clone, Copy)]
 pub struct Listed {
     pub loops: usize,
     pub vertices: usize,

@@ -10,7 +10,7 @@ use base_types::Loop;
 
 // What is kept of a loop: how many edges it has, its state, what its patch weighs, a count that is 0, the half-edge that it is listed from, the
 // number of its piece, and its run.
-#[derive(Drop)]
+#[derive(Clone, Copy)]
 pub struct Record {
     pub length: u64,
     pub state: u64,
@@ -65,7 +65,7 @@ fn row(length: u16, state: u16, weight: u64, first: u16, piece: u16, run: u32) -
 
 // Lays one record from a place on.
 fn lay_one(kept: Record, records: &mut [u64], at: usize)
-    requires* { do width ← ⟦Loop::RECORD⟧; ⌜ at + width ≤ length records.old ⌝ }
+    requires { at + Loop.RECORD ≤ length records.old }
     ensures { records.new ≡ laid at (numbers kept) records.old }
 {
     records[at] = kept.length;

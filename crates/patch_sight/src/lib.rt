@@ -7,7 +7,7 @@ ghost use Rattle.patch_sight.specs.Workings.Threes.{ThreeRoom, ThreeTook};
 use base_types::State;
 
 // Where a loop's turn begins: how many corners are laid, how many edges are chained, and what its stamps begin at.
-#[derive(Drop)]
+#[derive(Clone, Copy)]
 pub struct Spot {
     pub corners: usize,
     pub edges: usize,
@@ -15,7 +15,7 @@ pub struct Spot {
 }
 
 // What became of the loop: its state and weight, how many corners are laid and how many edges chained after it.
-#[derive(Drop)]
+#[derive(Clone, Copy)]
 pub struct Became {
     pub state: u16,
     pub weight: u64,

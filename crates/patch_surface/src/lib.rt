@@ -17,7 +17,7 @@ use base_types::{Loop, Pitch};
 
 // What the patcher answers: done or a refusal, how many loops there are, how many vertices their rings have, and how many corners
 // were laid.
-#[derive(Drop)]
+#[derive(Clone, Copy)]
 pub struct Patched {
     pub answer: Answer,
     pub loops: usize,

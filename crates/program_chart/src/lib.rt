@@ -26,7 +26,7 @@ pub const REPORT: usize = 2 * LINE + ENTRY_LINE * 2 * Surface::TRIANGLES;
 // Prints the report of the sheet that a text says, or the answer's line, from the start of a buffer; or refuses a buffer that is too short for
 // some report.
 pub fn print(text: &[u8], out: &mut [u8]) -> Printout
-    ensures* { do most ← (⟦REPORT⟧).entry; ⌜ PrintsOver most (Prints text.now) out.old (print_outcome result out.new) ⌝ }
+    ensures { PrintsOver REPORT (Prints text.now) out.old (print_outcome result out.new) }
 {
     if out.len() < REPORT {
         return Printout {

@@ -16,7 +16,7 @@ use text_read::Intake;
 pub const CLOSED: usize = FRONT + FACET * (Surface::TRIANGLES + PatchSet::TRIANGLES);
 
 // A sheet that was taken up and patched: the answer, and how many words, corners and patch corners there are.
-#[derive(Drop)]
+#[derive(Clone, Copy)]
 struct Closed {
     answer: Answer,
     words: usize,

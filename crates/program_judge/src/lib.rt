@@ -16,14 +16,14 @@ use text_read::Intake;
 use text_read_set::ReadSet;
 
 // Which text is taken in: the sheet's, or the set's, behind a sheet that was taken in.
-#[derive(Drop)]
+#[derive(Clone, Copy)]
 pub enum Text {
     OfSheet,
     OfSet(Intake),
 }
 
 // What was taken in: the sheet, and what reading the set answered.
-#[derive(Drop)]
+#[derive(Clone, Copy)]
 pub struct Hearing {
     pub sheet: Intake,
     pub set: ReadSet,

@@ -20,7 +20,7 @@ pub const LINE: usize = 48;
 pub const WIDEST: usize = LINE + 6 * Surface::CORNERS + 24 * Loop::LONGEST;
 
 // How far a listing is: the loops told, the ring vertices and patch corners that those have, and the bytes that are in the buffer.
-#[derive(Drop)]
+#[derive(Clone, Copy)]
 pub struct Progress {
     pub loops: usize,
     pub vertices: usize,
@@ -29,7 +29,7 @@ pub struct Progress {
 }
 
 // What a call answers that prints into a lent buffer, with the count of the bytes that it printed.
-#[derive(Drop)]
+#[derive(Clone, Copy)]
 pub struct Printout {
     pub answer: Answer,
     pub bytes: usize,
@@ -129,9 +129,9 @@ fn put_six(
 
 // Puts the line `answer=`, and answers how many bytes it has.
 pub fn put_answer(out: &mut [u8], answer: Answer) -> usize
-    requires* { do most ← ⟦LINE⟧; ⌜ most ≤ length out.old ⌝ }
+    requires { LINE ≤ length out.old }
     ensures out_value { (out.new ≡ over (answer_line answer) out.old) × (result ≡ length (answer_line answer)) }
-    ensures* result_bound { do most ← (⟦LINE⟧).entry; ⌜ result ≤ most ⌝ }
+    ensures result_bound { result ≤ LINE }
 {
     let number = answer.number() as u64;
     let place = answer.place() as u64;
@@ -224,10 +224,10 @@ pub fn put_next(
     records: &[u64],
     patches: &[u16],
 ) -> Progress
-    requires* most_in_bounds { do most ← ⟦WIDEST⟧; ⌜ progress.bytes + most ≤ length out.old ⌝ }
+    requires most_in_bounds { progress.bytes + WIDEST ≤ length out.old }
     requires next_room { NextRoom (inventory rings.now records.now patches.now) progress }
     ensures tells_next { TellsNext (inventory rings.now records.now patches.now) progress result out.old out.new }
-    ensures* bytes_bound { do most ← (⟦WIDEST⟧).entry; ⌜ result.bytes ≤ progress.bytes + most ⌝ }
+    ensures bytes_bound { result.bytes ≤ progress.bytes + WIDEST }
 {
     let l = progress.loops;
     let kept = patch_records::record_at(records, l);

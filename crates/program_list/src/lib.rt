@@ -18,7 +18,7 @@ use text_read::Intake;
 
 // The sheet that a text says, as it was taken up: the patcher's answer so far, or that of a wrong line, and how many words and corners the
 // sheet has.
-#[derive(Drop)]
+#[derive(Clone, Copy)]
 pub struct Taken {
     pub answer: Answer,
     pub words: usize,

@@ -36,9 +36,9 @@ fn start(bytes: usize) -> Progress
 
 // Puts the lines that come before the first loop.
 pub fn begin(out: &mut [u8], answer: Answer, loops: usize) -> Progress
-    requires* { do most ← ⟦HEAD⟧; ⌜ most ≤ length out.old ⌝ }
+    requires { HEAD ≤ length out.old }
     ensures begins { Begins answer loops result out.old out.new }
-    ensures* bytes_bound { do most ← (⟦HEAD⟧).entry; ⌜ result.bytes ≤ most ⌝ }
+    ensures bytes_bound { result.bytes ≤ HEAD }
 {
     let i = program_lines::put_answer(out, answer);
     if answer.refuses() {
@@ -80,7 +80,7 @@ pub fn put_all(
     records: &[u64],
     patches: &[u16],
 ) -> usize
-    requires* most_in_bounds { do most ← ⟦LISTING⟧; ⌜ most ≤ length out.old ⌝ }
+    requires most_in_bounds { LISTING ≤ length out.old }
     requires listed { Listed (inventory rings.now records.now patches.now) loops }
     requires few { Few rings.now patches.now loops }
     ensures { PutsAll (inventory rings.now records.now patches.now) answer loops result out.old out.new }

@@ -18,7 +18,7 @@ pub const FRONT: usize = HEADER + 4;
 pub const FACET: usize = 50;
 
 // A point of a facet, as the floats that the file has of it.
-#[derive(Drop)]
+#[derive(Clone, Copy)]
 pub struct Corner {
     pub x: f32,
     pub y: f32,
@@ -26,7 +26,7 @@ pub struct Corner {
 }
 
 // A facet by its three corners: the normal and the attribute are not kept.
-#[derive(Drop)]
+#[derive(Clone, Copy)]
 pub struct Facet {
     pub a: Corner,
     pub b: Corner,
@@ -34,7 +34,7 @@ pub struct Facet {
 }
 
 // What is handed out: one facet, or that there is none left.
-#[derive(Drop)]
+#[derive(Clone, Copy)]
 pub enum Step {
     Given(Facet),
     End,

@@ -12,7 +12,7 @@ ghost use Rattle.stl_gather.specs.Workings.Racks.{bucket_of, point_in, SeekRoom,
 use surface_rules::Found;
 
 // How many points were met, or that there are more than there are links.
-#[derive(Drop)]
+#[derive(Clone, Copy)]
 pub enum Met {
     Points(usize),
     TooMany,

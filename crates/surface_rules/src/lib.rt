@@ -1,7 +1,7 @@
 // A surface's edges, the table of refusals, and what a search finds: the smallest index, or nothing. It has no function.
 #![tactic(auto)]
 
-#[derive(Drop)]
+#[derive(Clone, Copy)]
 pub enum Found {
     At(usize),
     Nothing,

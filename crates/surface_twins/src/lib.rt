@@ -11,7 +11,7 @@ ghost use Rattle.surface_twins.specs.Workings.Chains.{bucket_of, MeetRoom, Meets
 pub const OPEN: u16 = 4096;
 
 // What a chain holds between two points: a half-edge that runs the other way, or one that runs the same way.
-#[derive(Drop)]
+#[derive(Clone, Copy)]
 enum Met {
     Twin(usize),
     Like,

@@ -6,7 +6,7 @@ ghost use Rattle.std.specs.Prelude.{◌≡◌};
 use base_answers::Answer;
 
 // What a survey answers: done or a refusal, how many loops there are, and how many vertices their rings have in all.
-#[derive(Drop)]
+#[derive(Clone, Copy)]
 pub struct Surveyed {
     pub answer: Answer,
     pub loops: usize,

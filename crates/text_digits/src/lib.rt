@@ -7,14 +7,14 @@ ghost use Rattle.text_digits.specs.Numeral.{byte_of, size};
 ghost use Rattle.text_digits.specs.Workings.Reading.{read_key, met};
 
 // A number that was read and the place after it, or a wrong line.
-#[derive(Drop)]
+#[derive(Clone, Copy)]
 pub enum Number {
     Is(u32, usize),
     Wrong,
 }
 
 // The place after what was read, or that it is not there.
-#[derive(Drop)]
+#[derive(Clone, Copy)]
 pub enum Place {
     Past(usize),
     Not,

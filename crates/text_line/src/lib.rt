@@ -93,7 +93,7 @@ fn corner_size(c: u16) -> u16
 
 // How many digits the corners have in all.
 fn corner_digits(corners: &[u16]) -> usize
-    requires* { do most ← ⟦Surface::CORNERS⟧; ⌜ length corners.now ≤ most ⌝ }
+    requires { length corners.now ≤ Surface.CORNERS }
     ensures { result ≡ length (flatten (map decimal corners.now)) }
 {
     let mut sum: u16 = 0;

@@ -20,14 +20,14 @@ use text_sheet::Pass;
 const SHORT: usize = 256;
 
 // What a whole text says, by its pitch and its counts of points and triangles; or the line of its fault.
-#[derive(Drop)]
+#[derive(Clone, Copy)]
 pub enum Intake {
     Whole(u32, usize, usize),
     Wrong(usize),
 }
 
 // What reading answers, with the pitch and the counts of words and corners.
-#[derive(Drop)]
+#[derive(Clone, Copy)]
 pub struct ReadSheet {
     pub answer: Answer,
     pub pitch: u32,

@@ -19,7 +19,7 @@ use text_rules::Scan;
 use text_sheet::Pass;
 
 // What reading answers, with the counts of states and corners.
-#[derive(Drop)]
+#[derive(Clone, Copy)]
 pub struct ReadSet {
     pub answer: Answer,
     pub states: usize,

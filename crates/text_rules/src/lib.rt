@@ -3,7 +3,7 @@
 
 
 // The counts of a whole text, or the line of its fault.
-#[derive(Drop)]
+#[derive(Clone, Copy)]
 pub enum Scan {
     Whole(usize, usize),
     Wrong(usize),

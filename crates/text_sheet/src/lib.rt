@@ -14,21 +14,21 @@ use base_types::{Named, Pitch, Surface};
 use text_digits::{Number, Place};
 
 // The three numbers of a line and the place after it, or a wrong line.
-#[derive(Drop)]
+#[derive(Clone, Copy)]
 pub enum Line {
     Row(u32, u32, u32, usize),
     Bad,
 }
 
 // The place after some lines, or how many were right before a wrong one.
-#[derive(Drop)]
+#[derive(Clone, Copy)]
 pub enum Pass {
     Through(usize),
     Stuck(usize),
 }
 
 // The pitch of a text, and the place after its head: 1 and 0 where it has none.
-#[derive(Drop)]
+#[derive(Clone, Copy)]
 pub struct Head {
     pub pitch: u32,
     pub at: usize,

@@ -15,7 +15,7 @@ use surface_rules::Found;
 const FEW: usize = 16;
 
 // What writing answers, with the count of bytes.
-#[derive(Drop)]
+#[derive(Clone, Copy)]
 pub struct Written {
     pub answer: Answer,
     pub bytes: usize,

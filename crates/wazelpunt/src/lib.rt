@@ -36,13 +36,7 @@ const FLOATS: usize = 9;
 // The answer for the coordinate with these bits at that pitch: its number is returned, 0 or refusal 7 or 8, or 17 for a number that is no
 // pitch; the multiple of the pitch, or 0, is left in `whole`, and in `rest` are left the bits of the rest, or of the value itself where it
 // is too far, or 0.
-#[unsafe(no_mangle)]
-pub extern "C" fn wazelpunt_coordinate(
-    word: u32,
-    whole: &mut i32,
-    rest: &mut u32,
-    pitch: u32,
-) -> u32
+pub fn wazelpunt_coordinate(word: u32, whole: &mut i32, rest: &mut u32, pitch: u32) -> u32
     ensures { Tells pitch (of_bits binary32 word) result whole.new rest.new }
 {
     match Pitch::of(pitch) {
@@ -87,8 +81,7 @@ fn tell(word: u32, whole: &mut i32, rest: &mut u32, pitch: Pitch) -> u32
 
 // Surveys a surface at that pitch, as `survey` does: the grid, the ring vertices and the ring lengths are left in the lent buffers; the
 // number of the answer is returned, and its place, how many loops there are and how many vertices their rings have are left too.
-#[unsafe(no_mangle)]
-pub extern "C" fn wazelpunt_survey(
+pub fn wazelpunt_survey(
     words: &[u32],
     corners: &[u16],
     grid: &mut [i32],
@@ -112,8 +105,7 @@ pub extern "C" fn wazelpunt_survey(
 
 // Patches a surface at that pitch, as `patch` does: the grid, the ring vertices, the records of the loops and the patch corners are left
 // in the lent buffers; the number of the answer is returned, and its place and the three counts are left too.
-#[unsafe(no_mangle)]
-pub extern "C" fn wazelpunt_patch(
+pub fn wazelpunt_patch(
     words: &[u32],
     corners: &[u16],
     grid: &mut [i32],
@@ -141,8 +133,7 @@ pub extern "C" fn wazelpunt_patch(
 
 // Charts a surface at that pitch, as `chart` does: the grid, the ring vertices, the records of the loops and the entries of the report are left
 // in the lent buffers; the number of the answer is returned, and its place and the three counts are left too.
-#[unsafe(no_mangle)]
-pub extern "C" fn wazelpunt_chart(
+pub fn wazelpunt_chart(
     words: &[u32],
     corners: &[u16],
     grid: &mut [i32],
@@ -171,8 +162,7 @@ pub extern "C" fn wazelpunt_chart(
 // Judges a patch set for a surface at that pitch, as `judge` does: the grid, the ring vertices and the ring lengths are left in the lent
 // buffers; the number of the answer is returned, and its place, how many loops there are and how many vertices their rings have are left
 // too.
-#[unsafe(no_mangle)]
-pub extern "C" fn wazelpunt_judge(
+pub fn wazelpunt_judge(
     words: &[u32],
     corners: &[u16],
     states: &[u16],
@@ -198,8 +188,7 @@ pub extern "C" fn wazelpunt_judge(
 
 // Reads a sheet text, as `read` does: words and corners are left in the lent buffers; the number of the answer is returned, and its place
 // and how many words and corners there are are left too, and its pitch.
-#[unsafe(no_mangle)]
-pub extern "C" fn wazelpunt_read(
+pub fn wazelpunt_read(
     text: &[u8],
     words: &mut [u32],
     corners: &mut [u16],
@@ -222,8 +211,7 @@ pub extern "C" fn wazelpunt_read(
 
 // Writes the text of a sheet of that pitch, as `write` does: it is left in the lent buffer; the number of the answer is returned, and its
 // place and how many bytes the text has are left too.
-#[unsafe(no_mangle)]
-pub extern "C" fn wazelpunt_write(
+pub fn wazelpunt_write(
     words: &[u32],
     corners: &[u16],
     text: &mut [u8],
@@ -242,8 +230,7 @@ pub extern "C" fn wazelpunt_write(
 
 // Reads the text of a patch set that comes after so many lines, as `read_set` does: states and corners are left in the lent buffers; the
 // number of the answer is returned, and its place and how many states and corners there are are left too.
-#[unsafe(no_mangle)]
-pub extern "C" fn wazelpunt_read_set(
+pub fn wazelpunt_read_set(
     text: &[u8],
     before: u16,
     states: &mut [u16],
@@ -265,13 +252,7 @@ pub extern "C" fn wazelpunt_read_set(
 
 // Prints the listing of a sheet's text, or an answer's line, as the listing program does, into the lent buffer; the number of the call's own
 // answer is returned, and its place and how many bytes were printed are left too.
-#[unsafe(no_mangle)]
-pub extern "C" fn wazelpunt_list_text(
-    text: &[u8],
-    out: &mut [u8],
-    place: &mut usize,
-    bytes: &mut usize,
-) -> u32
+pub fn wazelpunt_list_text(text: &[u8], out: &mut [u8], place: &mut usize, bytes: &mut usize) -> u32
     ensures { PrintsTold LISTING (Prints text.now) out.old (write_told result place.new bytes.new out.new) }
 {
     let listed = program_list::print(text, out);
@@ -283,8 +264,7 @@ pub extern "C" fn wazelpunt_list_text(
 
 // Prints the report of a sheet's text, or an answer's line, as the charting program does, into the lent buffer; the number of the call's own
 // answer is returned, and its place and how many bytes were printed are left too.
-#[unsafe(no_mangle)]
-pub extern "C" fn wazelpunt_chart_text(
+pub fn wazelpunt_chart_text(
     text: &[u8],
     out: &mut [u8],
     place: &mut usize,
@@ -301,8 +281,7 @@ pub extern "C" fn wazelpunt_chart_text(
 
 // Prints the line of the answer on a sheet's text and a patch set's, as the judging program does, into the lent buffer; the number of the
 // call's own answer is returned, and its place and how many bytes were printed are left too.
-#[unsafe(no_mangle)]
-pub extern "C" fn wazelpunt_judge_texts(
+pub fn wazelpunt_judge_texts(
     sheet: &[u8],
     set: &[u8],
     out: &mut [u8],
@@ -320,8 +299,7 @@ pub extern "C" fn wazelpunt_judge_texts(
 
 // Prints a sheet's text written again, or an answer's line, as the rewriting program does, into the lent buffer; the number of the call's
 // own answer is returned, and its place and how many bytes were printed are left too.
-#[unsafe(no_mangle)]
-pub extern "C" fn wazelpunt_rewrite_text(
+pub fn wazelpunt_rewrite_text(
     text: &[u8],
     out: &mut [u8],
     place: &mut usize,
@@ -338,8 +316,7 @@ pub extern "C" fn wazelpunt_rewrite_text(
 
 // Reads a file of facets, as `read` of `stl_read` does: words and corners are left in the lent buffers; the number of the answer is
 // returned, and its place and how many words and corners there are are left too.
-#[unsafe(no_mangle)]
-pub extern "C" fn wazelpunt_read_stl(
+pub fn wazelpunt_read_stl(
     file: &[u8],
     words: &mut [u32],
     corners: &mut [u16],
@@ -359,8 +336,7 @@ pub extern "C" fn wazelpunt_read_stl(
 }
 
 // The number of the answer that a file of so many bytes with such a count of facets gets by its size alone.
-#[unsafe(no_mangle)]
-pub extern "C" fn wazelpunt_size_stl(length: usize, count: u32) -> u32
+pub fn wazelpunt_size_stl(length: usize, count: u32) -> u32
     ensures { result ≡ number_of (size_refusal length count) }
 {
     stl_read::sized(length, count).number()
@@ -368,8 +344,7 @@ pub extern "C" fn wazelpunt_size_stl(length: usize, count: u32) -> u32
 
 // Prints the text of a file's sheet, or an answer's line, as the importing program does, into the lent buffer; the number of the call's own
 // answer is returned, and its place and how many bytes were printed are left too.
-#[unsafe(no_mangle)]
-pub extern "C" fn wazelpunt_import_stl(
+pub fn wazelpunt_import_stl(
     file: &[u8],
     out: &mut [u8],
     place: &mut usize,
@@ -386,8 +361,7 @@ pub extern "C" fn wazelpunt_import_stl(
 
 // Hands out the facet that begins at a place of a file: its nine floats are left at the start of the lent buffer, the place behind it is left in
 // `at`, and how many floats there are is returned. At the end, and for a buffer that is too short, that is 0, and nothing changes.
-#[unsafe(no_mangle)]
-pub extern "C" fn wazelpunt_facet(file: &[u8], at: &mut usize, floats: &mut [f32]) -> usize
+pub fn wazelpunt_facet(file: &[u8], at: &mut usize, floats: &mut [f32]) -> usize
     ensures { handed result at.new floats.new ≡ hands_out file.now at.old floats.old }
 {
     if floats.len() < FLOATS {

@@ -63,6 +63,7 @@ in_named vertex (x ∷ l) t (inl e) = (x, inl refl, e)
 in_named vertex (x ∷ l) t (inr g) = let r = in_named vertex l t g in (r.0, inr r.1, r.2)
 
 pub named_in : (vertex : ℕ → ℕ) (l : List Triangle) (u : Triangle) → In u l → In (named vertex u) (map (named vertex) l)
+named_in vertex [] u g = absurd g
 named_in vertex (x ∷ l) u (inl e) = inl (ap (named vertex) e)
 named_in vertex (x ∷ l) u (inr g) = inr (named_in vertex l u g)
 

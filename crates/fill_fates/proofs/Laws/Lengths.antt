@@ -8,7 +8,7 @@ use lib.IntN.{ℤ}
 use lib.ListN.{length, length-append}
 use Rattle.cover_rules.specs.Covers.{patch_of}
 use Rattle.cover_rules.proofs.Laws.Corners.{patch_length}
-use Rattle.fill_fates.specs.Fates.{Fate, patched, long, uncovered, lays, Meets, Becomes}
+use Rattle.fill_fates.specs.Fates.{Fate, patched, long, uncovered, lays, Meets, Becomes, rim}
 use Rattle.fill_fates.specs.Course.{Course, weights_of, laid_by, states_of}
 
 -- ---- one loop
@@ -18,11 +18,13 @@ module _ (grid : List ℤ) (input laid ring : List ℕ) where
   lays_length (patched c) m = let e : length (patch_of ring c) ≡ 3 * (length ring - 2) = patch_length ring c m.1.among.covers in omega arith
   lays_length long m = zero-le
   lays_length uncovered m = zero-le
+  lays_length rim m = elim m [ ]
 
   pub lays_whole : (f : Fate) → Meets grid input laid ring f → length (lays ring f) % 3 ≡ 0
   lays_whole (patched c) m = let e : length (patch_of ring c) ≡ 3 * (length ring - 2) = patch_length ring c m.1.among.covers in omega arith
   lays_whole long m = refl
   lays_whole uncovered m = refl
+  lays_whole rim m = elim m [ ]
 
   pub kept_length : (k : Bool) (f : Fate) → Becomes grid input laid k ring f → length (lays ring f) ≤ 3 * (length ring - 2)
   kept_length true f e = rw e zero-le

@@ -7,7 +7,7 @@ use lib.IntN.{ℤ}
 use lib.ListN.{length, take, drop}
 use lib.Seq.{take_at, drop_at}
 use Rattle.cover_rules.proofs.Laws.Corners.{patch_length}
-use Rattle.fill_fates.specs.Fates.{Fate, patched, long, uncovered, state_of, lays, Meets, Becomes}
+use Rattle.fill_fates.specs.Fates.{Fate, patched, long, uncovered, state_of, lays, Meets, Becomes, rim}
 use Rattle.fill_fates.specs.Course.{Course, laid_by, states_of}
 use Rattle.judge_rules.specs.Faults as faults
 use Rattle.judge_rules.specs.Verdicts.{taken, AllRight}
@@ -19,6 +19,7 @@ module _ (grid : List ℤ) (input laid ring : List ℕ) where
   lays_taken (patched c) m = patch_length ring c m.1.among.covers
   lays_taken long m = refl
   lays_taken uncovered m = refl
+  lays_taken rim m = elim m [ ]
 
   -- and a loop that meets its fate is right, whatever comes behind what it lays
   pub meets_right : (f : Fate) (rest : List ℕ) → Meets grid input laid ring f
@@ -28,6 +29,7 @@ module _ (grid : List ℤ) (input laid ring : List ℕ) where
       (λ x. m.1.least x.other x.allowed x.lighter)
   meets_right long rest m = faults.long refl m
   meets_right uncovered rest m = faults.open_left refl m.0 m.1
+  meets_right rim rest m = elim m [ ]
 
   -- a rim lays nothing, takes nothing and is declared a rim
   kept_taken : (k : Bool) (f : Fate) → Becomes grid input laid k ring f → length (lays ring f) ≡ taken ring (state_of f)

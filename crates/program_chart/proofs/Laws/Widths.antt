@@ -24,12 +24,12 @@ use Rattle.chart_rules.proofs.Theorems.{each_tells, entries_few}
 use Rattle.text_digits.proofs.Laws.Sizes.{size_below}
 use Rattle.program_lines.specs.Lines.{line, answer=, answer_line, entries=, entry=}
 use Rattle.program_lines.proofs.Laws.Lines.{one_length, two_length}
+use Rattle.program_chart.specs.declared.TheConstants.{REPORT}
 use Rattle.program_chart.specs.Charting.{entry_line, report_text}
-use Rattle.program_chart.proofs.print.⟦REPORT⟧-asked.Lts as for_report
 
 -- how long the code says that a report can be
 abbrev pub report_most : ℕ
-report_most = for_report.answer tt tt
+report_most = REPORT
 
 line_narrow : (e : Entry) → e.kind < 10 → e.number < 10000 → length (entry_line e) ≤ 13
 line_narrow e k n = omega (arith, two_length entry= e.kind e.number, size_below 0 e.kind (omega arith), size_below 3 e.number (omega arith))

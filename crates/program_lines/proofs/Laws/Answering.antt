@@ -11,14 +11,14 @@ use Rattle.base_answers.specs.declared.Answer.{Answer}
 use Rattle.surface_rules.specs.Buffers.{over}
 use Rattle.text_digits.proofs.Laws.Sizes.{size_below}
 use Rattle.text_sheet.proofs.Laws.Going.{over_laid}
+use Rattle.program_lines.specs.declared.TheConstants.{LINE}
 use Rattle.program_lines.specs.Lines.{line, answer=, loops=, PutAt, answer_line}
 use Rattle.program_lines.proofs.Laws.Digits.{size_word}
 use Rattle.program_lines.proofs.Laws.Lines.{one_length, two_length}
-use Rattle.program_lines.proofs.put_answer.⟦LINE⟧-asked.Lts as for_line
 
 -- how long the code says that they can be
 abbrev pub line_most : ℕ
-line_most = for_line.answer tt tt
+line_most = LINE
 
 two_short : (n p : ℕ) → Fits w32 n → Fits w64 p → length (line answer= (n ∷ p ∷ [])) ≤ line_most
 two_short n p h l = omega (arith, two_length answer= n p, size_below 9 n (omega arith), size_word p l)

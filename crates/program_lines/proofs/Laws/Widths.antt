@@ -14,12 +14,12 @@ use Rattle.base_limits.specs.Limits as limits
 use Rattle.base_limits.specs.States as stated
 use Rattle.text_digits.specs.Numeral.{size}
 use Rattle.text_digits.proofs.Laws.Sizes.{size_below}
+use Rattle.program_lines.specs.declared.TheConstants.{WIDEST}
 use Rattle.program_lines.specs.Lines.{line, joined, loop=, ring=, patch=}
 use Rattle.program_lines.specs.Listing.{Shown, told, patch_lines, loop_lines}
 use Rattle.program_lines.specs.Workings.Telling.{Fits}
 use Rattle.program_lines.proofs.Laws.Answering.{line_most}
 use Rattle.program_lines.proofs.Laws.Digits.{size_short}
-use Rattle.program_lines.proofs.put_next.⟦WIDEST⟧-asked.Lts as for_widest
 use Rattle.program_lines.proofs.Laws.Lines.{joined_none, line_length, next_length, last_length, three_length, six_length}
 
 -- every number is one of 16 bits
@@ -80,7 +80,7 @@ told_wide s f =
 
 -- how wide the code says that they can be
 abbrev pub widest : ℕ
-widest = for_widest.answer tt tt
+widest = WIDEST
 
 -- how wide they are at most, by the vertices of the ring and the corners of the patch
 abbrev pub width : Shown → ℕ

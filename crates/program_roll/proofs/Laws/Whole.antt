@@ -20,20 +20,19 @@ use Rattle.program_lines.proofs.Laws.Answering.{line_most}
 use Rattle.program_lines.proofs.Laws.Nexts.{Typed, next_width}
 use Rattle.program_lines.proofs.Laws.Parts.{part_within, part_next}
 use Rattle.program_lines.proofs.Laws.Widths.{widest, width_share}
+use Rattle.program_roll.specs.declared.TheConstants.{HEAD, LISTING}
 use Rattle.program_roll.specs.Sections.{head, between}
 use Rattle.program_roll.specs.Workings.Listed.{Listed}
 use Rattle.program_roll.specs.Workings.Roll.{Begins, Going, Fills, FillsOn, Few, whole, PutsAll}
 use Rattle.program_roll.proofs.Laws.Between.{between_none, between_more}
 use Rattle.program_roll.proofs.Laws.Going.{going_begins}
-use Rattle.program_roll.proofs.begin.⟦HEAD⟧-asked.Lts as for_head
-use Rattle.program_roll.proofs.put_all.⟦LISTING⟧-asked.Lts as for_listing
 
 -- how many bytes the code says that the lines before the loops have at most, and that every listing has room in
 abbrev pub head_most : ℕ
-head_most = for_head.answer tt tt
+head_most = HEAD
 
 abbrev pub listing_most : ℕ
-listing_most = for_listing.answer tt tt
+listing_most = LISTING
 
 -- the vertices of the first loops
 abbrev vertices : ℕ → List Shown → ℕ

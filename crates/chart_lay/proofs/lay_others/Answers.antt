@@ -1,0 +1,102 @@
+-- `lay_others` walks along the loops of a piece that are no rims: it lays the tide pools on the way, and the lakes at the end.
+use mathlib.Core.Logic.{⊎_elim}
+use Prim.Native.Nat.{◌-◌}
+use lib.ListN.{get_or}
+use native.Mathlib.Omega.{arith}
+use Rattle.surface_rules.proofs.Laws.Lists.{as_long}
+use Rattle.fill_scratch.specs.Workings.Rings.{RingPlace}
+use Rattle.chart_lay.proofs.Laws.Walking as laws
+use Rattle.chart_lay.proofs.lay_others.Goals as goal
+
+pub loop-l-init : goal.loop-l-init
+loop-l-init c = laws.walking_begins c.requires
+
+pub overflow_cast-r : goal.overflow_cast-r
+overflow_cast-r c = omega (arith, (let it : RingPlace c.args.rings.now c.args.lengths.now c.loop-l.l (get_or c.args.starts.now c.loop-l.l 0) = laws.place c.requires c.loop-l.invariant c.loop-l-test.true in it))
+
+pub offset_bounds-starts-l : goal.offset_bounds-starts-l
+offset_bounds-starts-l c = omega (arith, (let it : RingPlace c.args.rings.now c.args.lengths.now c.loop-l.l (get_or c.args.starts.now c.loop-l.l 0) = laws.place c.requires c.loop-l.invariant c.loop-l-test.true in it))
+
+pub bounds-starts-l : goal.bounds-starts-l
+bounds-starts-l c = laws.start_there c.requires c.loop-l.invariant c.loop-l-test.true
+
+pub overflow_cast-r-in-loop-l : goal.overflow_cast-r-in-loop-l
+overflow_cast-r-in-loop-l c = omega (arith, (let it : RingPlace c.args.rings.now c.args.lengths.now c.loop-l.l (get_or c.args.starts.now c.loop-l.l 0) = laws.place c.requires c.loop-l.invariant c.loop-l-test.true in it))
+
+pub overflow_cast-l : goal.overflow_cast-l
+overflow_cast-l c = omega (arith, (let it : RingPlace c.args.rings.now c.args.lengths.now c.loop-l.l (get_or c.args.starts.now c.loop-l.l 0) = laws.place c.requires c.loop-l.invariant c.loop-l-test.true in it))
+
+pub offset_bounds-lengths-l : goal.offset_bounds-lengths-l
+offset_bounds-lengths-l c = omega (arith, (let it : RingPlace c.args.rings.now c.args.lengths.now c.loop-l.l (get_or c.args.starts.now c.loop-l.l 0) = laws.place c.requires c.loop-l.invariant c.loop-l-test.true in it))
+
+pub bounds-lengths-l : goal.bounds-lengths-l
+bounds-lengths-l c = laws.length_there c.requires c.loop-l.invariant c.loop-l-test.true
+
+pub overflow_cast-lengths : goal.overflow_cast-lengths
+overflow_cast-lengths c = omega (arith, (let it : RingPlace c.args.rings.now c.args.lengths.now c.loop-l.l (get_or c.args.starts.now c.loop-l.l 0) = laws.place c.requires c.loop-l.invariant c.loop-l-test.true in it))
+
+pub overflow_add-r : goal.overflow_add-r
+overflow_add-r c = omega (arith, (let it : RingPlace c.args.rings.now c.args.lengths.now c.loop-l.l (get_or c.args.starts.now c.loop-l.l 0) = laws.place c.requires c.loop-l.invariant c.loop-l-test.true in it))
+
+pub offset_bounds-rings-r : goal.offset_bounds-rings-r
+offset_bounds-rings-r c = omega (arith, (let it : RingPlace c.args.rings.now c.args.lengths.now c.loop-l.l (get_or c.args.starts.now c.loop-l.l 0) = laws.place c.requires c.loop-l.invariant c.loop-l-test.true in it))
+
+pub slice_bounds-is_stamped-count : goal.slice_bounds-is_stamped-count
+slice_bounds-is_stamped-count c = omega (arith, (let it : RingPlace c.args.rings.now c.args.lengths.now c.loop-l.l (get_or c.args.starts.now c.loop-l.l 0) = laws.place c.requires c.loop-l.invariant c.loop-l-test.true in it))
+
+pub slice_bounds-is_stamped-start : goal.slice_bounds-is_stamped-start
+slice_bounds-is_stamped-start c = omega (arith, (let it : RingPlace c.args.rings.now c.args.lengths.now c.loop-l.l (get_or c.args.starts.now c.loop-l.l 0) = laws.place c.requires c.loop-l.invariant c.loop-l-test.true in it))
+
+pub slice_bounds-is_stamped-end : goal.slice_bounds-is_stamped-end
+slice_bounds-is_stamped-end c = ((let it : RingPlace c.args.rings.now c.args.lengths.now c.loop-l.l (get_or c.args.starts.now c.loop-l.l 0) = laws.place c.requires c.loop-l.invariant c.loop-l-test.true in it)).ring_in
+
+pub is_stamped-requires : goal.is_stamped-requires
+is_stamped-requires c = laws.part_there c.requires c.loop-l.invariant c.loop-l-test.true
+
+pub lay_entry-requires : goal.lay_entry-requires
+lay_entry-requires c = laws.entry_there c.requires c.loop-l.invariant c.loop-l-test.true c.is_stamped.ensures c.if-is_stamped.true
+
+pub overflow_add-at : goal.overflow_add-at
+overflow_add-at c =
+    let a = c.well_formed in
+    omega (arith, laws.entry_there c.requires c.loop-l.invariant c.loop-l-test.true c.is_stamped.ensures c.if-is_stamped.true, c.loop-l.invariant.report_long)
+
+pub offset_bounds-lakes-kept : goal.offset_bounds-lakes-kept
+offset_bounds-lakes-kept c = omega (arith, laws.lake_there c.requires c.loop-l.invariant c.loop-l-test.true)
+
+pub bounds-lakes-kept : goal.bounds-lakes-kept
+bounds-lakes-kept c = laws.lake_there c.requires c.loop-l.invariant c.loop-l-test.true
+
+pub overflow_add-kept : goal.overflow_add-kept
+overflow_add-kept c = omega (arith, laws.lake_there c.requires c.loop-l.invariant c.loop-l-test.true)
+
+pub overflow_cast-l-in-loop-l : goal.overflow_cast-l-in-loop-l
+overflow_cast-l-in-loop-l c = omega (arith, (let it : RingPlace c.args.rings.now c.args.lengths.now c.loop-l.l (get_or c.args.starts.now c.loop-l.l 0) = laws.place c.requires c.loop-l.invariant c.loop-l-test.true in it))
+
+pub offset_bounds-links-l : goal.offset_bounds-links-l
+offset_bounds-links-l c = omega (arith, (let it : RingPlace c.args.rings.now c.args.lengths.now c.loop-l.l (get_or c.args.starts.now c.loop-l.l 0) = laws.place c.requires c.loop-l.invariant c.loop-l-test.true in it))
+
+pub bounds-links-l : goal.bounds-links-l
+bounds-links-l c = laws.link_there c.requires c.loop-l.invariant c.loop-l-test.true
+
+pub loop-l-smaller : goal.loop-l-smaller
+loop-l-smaller c = laws.going_on c.requires c.loop-l.invariant c.loop-l-test.true
+
+pub loop-l-preserved : goal.loop-l-preserved
+loop-l-preserved c =
+    ⊎_elim
+    (λ w. laws.walking_same w.5 w.6 w.7 w.8 (laws.walking_pool c.requires c.loop-l.invariant c.loop-l-test.true c.is_stamped.ensures w.0.taken w.2.ensures))
+    (λ w. laws.walking_same w.1 w.2 w.3 w.4 (laws.walking_lake c.requires c.loop-l.invariant c.loop-l-test.true c.is_stamped.ensures w.0.left))
+    c.if-is_stamped.branch-raw
+
+pub slice_bounds-lay_lakes-end : goal.slice_bounds-lay_lakes-end
+slice_bounds-lay_lakes-end c = laws.kept_in c.requires c.loop-l.invariant c.loop-l-test.false
+
+pub slice_bounds-lay_lakes-end-2 : goal.slice_bounds-lay_lakes-end-2
+slice_bounds-lay_lakes-end-2 c = as_long _ _ (laws.kept_in c.requires c.loop-l.invariant c.loop-l-test.false)
+
+pub lay_lakes-requires : goal.lay_lakes-requires
+lay_lakes-requires c = laws.lakes_room c.requires c.loop-l.invariant c.loop-l-test.false
+
+pub returns : goal.returns
+returns c = laws.walking_ends c.requires c.loop-l.invariant c.loop-l-test.false c.lay_lakes.ensures

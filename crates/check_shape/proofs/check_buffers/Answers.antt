@@ -1,0 +1,15 @@
+-- `check_buffers` numbers the buffers from 1.
+use mathlib.Core.Path.{sym, ◌∙◌}
+use native.Mathlib.Omega.{arith}
+use Rattle.surface_rules.proofs.Laws.Smallest.{least_sound}
+use Rattle.check_shape.proofs.Laws.Refusing.{buffer_refused, buffers_done}
+use Rattle.check_shape.proofs.check_buffers.Goals as goal
+
+pub overflow_add-result : goal.overflow_add-result
+overflow_add-result c = omega (arith, (least_sound _ _ _ (sym c.first_short-found.ensures ∙ c.in-At.is)).0)
+
+pub returns-in-At : goal.returns-in-At
+returns-in-At c = buffer_refused _ _ c.first_short-found.ensures c.in-At.is
+
+pub returns-in-Nothing : goal.returns-in-Nothing
+returns-in-Nothing c = buffers_done _ _ c.first_short-found.ensures c.in-Nothing.is

@@ -1,0 +1,19 @@
+-- `first_not_finite` looks from the start, and nothing is found before what it answers.
+use Prim.Native.Nat.{◌-◌}
+use mathlib.Core.Path.{sym, ap, ◌∙◌}
+use Rattle.surface_rules.specs.Smallest.{least}
+use Rattle.surface_rules.proofs.Laws.Smallest.{least_none, least_more, least_at}
+use borrow.Author.Rules.{rules}
+use Rattle.check_words.proofs.first_not_finite.Goals as goal
+
+pub loop-i-init : goal.loop-i-init
+loop-i-init c = (search rules, least_none _)
+
+pub returns-then-is_not_finite : goal.returns-then-is_not_finite
+returns-then-is_not_finite c = sym (least_at _ _ _ c.loop-i.invariant.1 (sym c.is_not_finite.ensures ∙ c.if-is_not_finite.true) (search rules))
+
+pub loop-i-preserved : goal.loop-i-preserved
+loop-i-preserved c = (search rules, least_more _ _ c.loop-i.invariant.1 (sym c.is_not_finite.ensures ∙ c.if-is_not_finite.false))
+
+pub returns : goal.returns
+returns c = sym (ap (least _) (search rules) ∙ c.loop-i.invariant.1)

@@ -1,0 +1,14 @@
+-- `first_not_finite` looks from the start, and nothing is found before what it answers.
+use Prim.Native.Nat.{◌≤◌, ◌-◌}
+use mathlib.Core.Path.{◌≡◌}
+use lib.ListN.{length}
+use Rattle.surface_rules.specs.declared.Found.TheVariants.{Nothing}
+use Rattle.surface_rules.specs.Smallest.{least}
+use Rattle.surface_rules.specs.Refusals.{not_finite}
+use Rattle.check_words.proofs.first_not_finite.Given as goal
+
+abbrev pub invariant-loop-i : goal.invariant-loop-i
+invariant-loop-i l = (l.i ≤ length l.words) × (least (not_finite l.words) l.i ≡ Nothing)
+
+abbrev pub decreases-loop-i : goal.decreases-loop-i
+decreases-loop-i l = length l.words - l.i

@@ -1,0 +1,31 @@
+-- The set is no cover where a triangle has no seat, the loop no triangle or a triangle a part without one; else its stretches meet bars or not.
+use mathlib.Core.Path.{refl}
+use lib.ListN.{get_or-replicate}
+use Rattle.base_limits.specs.Limits as limits
+use Rattle.judge_match.proofs.Laws.Matched.{threes_of, match_seatless, match_topless, match_open, match_barred, match_allowed}
+use Rattle.judge_match.proofs.match_cover.Goals as goal
+
+pub sides-requires : goal.sides-requires
+sides-requires c = (c.requires.ringed.few, refl, λ j l. get_or-replicate limits.longest j 0 0 l)
+
+pub collect-requires : goal.collect-requires
+collect-requires c = let p = c.requires in (threes_of p, p.ringed.stamped.long, (c.sides.ensures (λ j. 0)).long)
+
+pub returns-then-not-collect : goal.returns-then-not-collect
+returns-then-not-collect c = search match_seatless
+
+pub returns-then-not-is_set : goal.returns-then-not-is_set
+returns-then-not-is_set c = match_topless c.requires c.sides.ensures c.collect.ensures c.if-not-collect.false-raw c.is_set.ensures c.if-not-is_set.true-raw
+
+pub returns-then-not-closed : goal.returns-then-not-closed
+returns-then-not-closed c = match_open c.requires c.sides.ensures c.collect.ensures c.if-not-collect.false-raw c.closed.result c.closed.ensures c.if-not-closed.true-raw
+
+pub returns-then-clash : goal.returns-then-clash
+returns-then-clash c =
+    match_barred c.requires c.sides.ensures c.collect.ensures c.if-not-collect.false-raw c.is_set.ensures c.if-not-is_set.false-raw
+    c.closed.result c.closed.ensures c.if-not-closed.false-raw c.clash.result c.clash.ensures c.if-clash.true
+
+pub returns : goal.returns
+returns c =
+    match_allowed c.requires c.sides.ensures c.collect.ensures c.if-not-collect.false-raw c.is_set.ensures c.if-not-is_set.false-raw
+    c.closed.result c.closed.ensures c.if-not-closed.false-raw c.clash.result c.clash.ensures c.if-clash.false

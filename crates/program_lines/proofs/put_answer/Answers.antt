@@ -1,0 +1,10 @@
+-- `put_answer`: a line with two numbers, at the start of the buffer.
+use borrow.Author.Rules.{rules}
+use Rattle.program_lines.proofs.Laws.Answering.{answer_short, answer_put, answer_behind, answer_within}
+use Rattle.program_lines.proofs.put_answer.Goals as goal
+
+pub put_two-requires : goal.put_two-requires
+put_two-requires c = search answer_short
+
+pub returns : goal.returns
+returns c = ((search answer_put, search answer_behind), search (answer_within, rules))

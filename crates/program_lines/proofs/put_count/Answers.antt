@@ -1,0 +1,9 @@
+-- `put_count`: a line with one number.
+use Rattle.program_lines.proofs.Laws.Answering.{count_room, count_within}
+use Rattle.program_lines.proofs.put_count.Goals as goal
+
+pub put_one-requires : goal.put_one-requires
+put_one-requires c = search count_room
+
+pub returns : goal.returns
+returns c = (search, search count_within)

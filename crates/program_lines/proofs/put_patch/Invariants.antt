@@ -1,0 +1,12 @@
+-- `put_patch`: the lines left, laid over the present buffer, give the whole.
+use Prim.Native.Nat.{◌≤◌, ◌-◌, ◌*◌, ◌/◌}
+use lib.ListN.{length, drop}
+use Rattle.text_digits.proofs.Laws.Laying.{Laying}
+use Rattle.program_lines.specs.Listing.{patch_lines}
+use Rattle.program_lines.proofs.put_patch.Given as goal
+
+abbrev pub invariant-loop-i : goal.invariant-loop-i
+invariant-loop-i l = (i ≤ length l.patch / 3) × Laying (patch_lines l.patch) l.at l.initial.out (patch_lines (drop (3 * i) l.patch)) l.i l.place
+
+abbrev pub decreases-loop-i : goal.decreases-loop-i
+decreases-loop-i l = length l.patch / 3 - i
