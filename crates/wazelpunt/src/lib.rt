@@ -1,4 +1,4 @@
-// What other languages link: exported functions over numbers and slices, which answer as the library does.
+// The library over numbers and slices, as other languages call it: these functions answer as it does, and `wazelpunt_c` exports them to C.
 #![tactic(auto)]
 
 ghost use Rattle.std.specs.Prelude.{◌≡◌};

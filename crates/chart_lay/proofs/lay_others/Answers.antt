@@ -1,5 +1,4 @@
 -- `lay_others` walks along the loops of a piece that are no rims: it lays the tide pools on the way, and the lakes at the end.
-use mathlib.Core.Logic.{⊎_elim}
 use Prim.Native.Nat.{◌-◌}
 use lib.ListN.{get_or}
 use native.Mathlib.Omega.{arith}
@@ -7,6 +6,7 @@ use Rattle.surface_rules.proofs.Laws.Lists.{as_long}
 use Rattle.fill_scratch.specs.Workings.Rings.{RingPlace}
 use Rattle.chart_lay.proofs.Laws.Walking as laws
 use Rattle.chart_lay.proofs.lay_others.Goals as goal
+use Rattle.chart_lay.proofs.lay_others.Goals.{then-is_stamped, else-is_stamped}
 
 pub loop-l-init : goal.loop-l-init
 loop-l-init c = laws.walking_begins c.requires
@@ -84,10 +84,12 @@ loop-l-smaller c = laws.going_on c.requires c.loop-l.invariant c.loop-l-test.tru
 
 pub loop-l-preserved : goal.loop-l-preserved
 loop-l-preserved c =
-    ⊎_elim
-    (λ w. laws.walking_same w.5 w.6 w.7 w.8 (laws.walking_pool c.requires c.loop-l.invariant c.loop-l-test.true c.is_stamped.ensures w.0.taken w.2.ensures))
-    (λ w. laws.walking_same w.1 w.2 w.3 w.4 (laws.walking_lake c.requires c.loop-l.invariant c.loop-l-test.true c.is_stamped.ensures w.0.left))
-    c.if-is_stamped.branch-raw
+    elim c.if-is_stamped.branch [
+      then-is_stamped w ↦
+          laws.walking_same w.lakes-is w.report-is w.at-is w.kept-is (laws.walking_pool c.requires c.loop-l.invariant c.loop-l-test.true c.is_stamped.ensures w.if-is_stamped.true w.lay_entry.ensures)
+      | else-is_stamped w ↦
+          laws.walking_same w.lakes-is w.report-is w.at-is w.kept-is (laws.walking_lake c.requires c.loop-l.invariant c.loop-l-test.true c.is_stamped.ensures w.if-is_stamped.false)
+    ]
 
 pub slice_bounds-lay_lakes-end : goal.slice_bounds-lay_lakes-end
 slice_bounds-lay_lakes-end c = laws.kept_in c.requires c.loop-l.invariant c.loop-l-test.false

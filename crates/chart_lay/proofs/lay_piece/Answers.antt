@@ -73,14 +73,10 @@ pub stamp_all-requires : goal.stamp_all-requires
 stamp_all-requires c = laws.part_there c.requires c.if-rim-eq-NONE.false
 
 pub overflow_add-at-2 : goal.overflow_add-at-2
-overflow_add-at-2 c = let o : tie.Else2 = c in omega (arith, laws.rim_room (start o).pre (rim o).if1.left, (start o).good)
+overflow_add-at-2 c = omega (arith, laws.rim_room c.requires c.if-rim-eq-NONE.false, c.well_formed)
 
 pub lay_others-requires : goal.lay_others-requires
-lay_others-requires c =
-    let o : tie.Else2 = c in
-    laws.others_room (start o).pre (rim o).if1.left c.stamp_all.ensures c.stamps-1.given ((second o).report2.given ∙ (first (rim o)).report.given)
+lay_others-requires c = laws.others_room c.requires c.if-rim-eq-NONE.false c.stamp_all.ensures c.stamps-1.given (c.report-2-1.given ∙ c.report-1.given)
 
 pub returns : goal.returns
-returns c =
-    let o : tie.Else2 = c in
-    laws.laid_all (start o).pre (rim o).if1.left (own (rim o)).lay-entry.ensures (second o).before.lay-entry2.ensures c.stamp_all.ensures c.stamps-1.given c.lay_others.ensures
+returns c = laws.laid_all c.requires c.if-rim-eq-NONE.false c.lay_entry.ensures c.lay_entry-2.ensures c.stamp_all.ensures c.stamps-1.given c.lay_others.ensures

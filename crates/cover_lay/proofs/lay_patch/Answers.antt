@@ -1,6 +1,6 @@
 -- `lay_patch` lists the whole loop as one stretch, if a least weight was found, and weighs what it listed; of four it knows both covers.
 use native.Mathlib.Omega.{arith}
-use Rattle.cover_lay.proofs.Laws.Patches.{list_room, listed_in, lays_some, lays_none, four_room, shut_room, lays_shut, takes_table}
+use Rattle.cover_lay.proofs.Laws.Patches.{list_room, listed_in, weigh_room, lays_some, lays_none, four_room, shut_room, lays_shut, takes_table}
 use Rattle.cover_lay.proofs.lay_patch.Goals as goal
 
 pub lay_four-requires : goal.lay_four-requires
@@ -29,3 +29,7 @@ slice_bounds-weigh_set-end c = omega (arith, listed_in c.requires _ c.least_weig
 
 pub returns : goal.returns
 returns c = lays_some c.requires _ c.least_weight-least.ensures c.in-Weight.is c.list.ensures c.weigh_set.ensures
+
+-- what was listed is lent to be weighed
+pub weigh_set-requires : goal.weigh_set-requires
+weigh_set-requires c = weigh_room c.requires _ c.least_weight-least.ensures c.in-Weight.is c.list.ensures

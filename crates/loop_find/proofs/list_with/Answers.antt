@@ -16,13 +16,13 @@ pub loop-h-preserved : goal.loop-h-preserved
 loop-h-preserved c =
     through_on c.requires c.loop-h.invariant c.loop-h-test.true (search) c.list_cycle-at.ensures
     (record {
-      turns_same = search c.list_cycle-at.kept;
-      path_same = search c.list_cycle-at.kept;
-      places_same = search c.list_cycle-at.kept;
-      rings_same = search c.list_cycle-at.kept;
-      lengths_same = search c.list_cycle-at.kept;
-      firsts_same = search c.list_cycle-at.kept;
+      turns_same = search c.list_cycle-at.auto;
+      path_same = search c.list_cycle-at.auto;
+      places_same = search c.list_cycle-at.auto;
+      rings_same = search c.list_cycle-at.auto;
+      lengths_same = search c.list_cycle-at.auto;
+      firsts_same = search c.list_cycle-at.auto;
     })
 
 pub returns : goal.returns
-returns c = (through_ends c.requires c.loop-h.invariant c.loop-h-test.false, (_, c.loop-h.invariant.turned))
+returns c = record { lists_loops = through_ends c.requires c.loop-h.invariant c.loop-h-test.false; keeps_turns = (_, c.loop-h.invariant.turned) }

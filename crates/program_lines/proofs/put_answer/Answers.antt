@@ -7,4 +7,4 @@ pub put_two-requires : goal.put_two-requires
 put_two-requires c = search answer_short
 
 pub returns : goal.returns
-returns c = ((search answer_put, search answer_behind), search (answer_within, rules))
+returns c = record { out_value = (search answer_put, search answer_behind); result_bound = search (answer_within, rules) }

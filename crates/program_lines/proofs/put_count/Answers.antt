@@ -5,5 +5,5 @@ use Rattle.program_lines.proofs.put_count.Goals as goal
 pub put_one-requires : goal.put_one-requires
 put_one-requires c = search count_room
 
-pub returns : goal.returns
-returns c = (search, search count_within)
+pub returns-clause-upper_bound : goal.returns-clause-upper_bound
+returns-clause-upper_bound c = search count_within

@@ -6,7 +6,7 @@ use Rattle.program_lines.specs.Listing.{patch_lines}
 use Rattle.program_lines.proofs.put_patch.Given as goal
 
 abbrev pub invariant-loop-i : goal.invariant-loop-i
-invariant-loop-i l = (i ≤ length l.patch / 3) × Laying (patch_lines l.patch) l.at l.initial.out (patch_lines (drop (3 * i) l.patch)) l.i l.place
+invariant-loop-i l = (l.i ≤ length l.patch / 3) × Laying (patch_lines l.patch) l.at l.initial.out (patch_lines (drop (3 * l.i) l.patch)) l.place l.out
 
 abbrev pub decreases-loop-i : goal.decreases-loop-i
-decreases-loop-i l = length l.patch / 3 - i
+decreases-loop-i l = length l.patch / 3 - l.i

@@ -14,7 +14,7 @@ pub put_number-j-requires : goal.put_number-j-requires
 put_number-j-requires c = search second_room
 
 pub put_number-requires : goal.put_number-requires
-put_number-requires c = third_room ((let it : let s = c.args in Lining (line s.key.now (s.a ∷ s.b ∷ s.c ∷ [])) s.at s.out.now (s.b ∷ s.c ∷ []) c.put_number-i.result c.put_number-i.new.0 = search second in it)) c.put_number-j.ensures
+put_number-requires c = third_room ((let it : let s = c.args in Lining (line s.key.now (s.a ∷ s.b ∷ s.c ∷ [])) s.at s.out.now (s.b ∷ s.c ∷ []) c.put_number-i.result c.put_number-i.new.out = search second in it)) c.put_number-j.ensures
 
 pub returns : goal.returns
-returns c = three_put ((let it : let s = c.args in Lining (line s.key.now (s.a ∷ s.b ∷ s.c ∷ [])) s.at s.out.now (s.b ∷ s.c ∷ []) c.put_number-i.result c.put_number-i.new.0 = search second in it)) c.put_number-j.ensures c.put_number.ensures
+returns c = three_put ((let it : let s = c.args in Lining (line s.key.now (s.a ∷ s.b ∷ s.c ∷ [])) s.at s.out.now (s.b ∷ s.c ∷ []) c.put_number-i.result c.put_number-i.new.out = search second in it)) c.put_number-j.ensures c.put_number.ensures

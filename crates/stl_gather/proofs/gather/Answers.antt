@@ -1,9 +1,6 @@
 -- `gather` goes facet after facet as the reader does; what it leaves is the whole file's after the last.
-use mathlib.Core.Path.{◌≡◌, sym, ◌∙◌}
-use mathlib.Core.Bool.{true}
-use Prim.Native.Nat.{◌-◌}
+use mathlib.Core.Path.{sym, ◌∙◌}
 use native.Mathlib.Omega.{arith}
-use Rattle.stl_facets.specs.Facets.{holds_facet}
 use Rattle.stl_gather.proofs.Laws.Facets.{going_begins, going_few, going_facet, going_on, going_less, going_stops, going_ends}
 use Rattle.stl_gather.proofs.gather.Goals as goal
 
@@ -11,26 +8,26 @@ pub loop-ws-init : goal.loop-ws-init
 loop-ws-init c = going_begins c.requires
 
 pub overflow_add-at : goal.overflow_add-at
-overflow_add-at c = omega (arith, going_few c.loop-ws.invariant (let it : holds_facet c.args.file.now c.loop-ws.at ≡ true = sym c.holds_facet.ensures ∙ c.loop-ws-test.true in it))
+overflow_add-at c = omega (arith, going_few c.loop-ws.invariant (sym c.holds_facet.ensures ∙ c.loop-ws-test.true))
 
 pub settle_facet-requires : goal.settle_facet-requires
-settle_facet-requires c = going_facet c.loop-ws.invariant (let it : holds_facet c.args.file.now c.loop-ws.at ≡ true = sym c.holds_facet.ensures ∙ c.loop-ws-test.true in it)
+settle_facet-requires c = going_facet c.loop-ws.invariant (sym c.holds_facet.ensures ∙ c.loop-ws-test.true)
 
 pub returns-in_default : goal.returns-in_default
 returns-in_default c =
-    going_stops c.loop-ws.invariant (let it : holds_facet c.args.file.now c.loop-ws.at ≡ true = sym c.holds_facet.ensures ∙ c.loop-ws-test.true in it) _ _ c.settle_facet.ensures
+    going_stops c.loop-ws.invariant (sym c.holds_facet.ensures ∙ c.loop-ws-test.true) _ _ c.settle_facet.ensures
     (record { words_same = c.ws-1.given; corners_same = c.cs-1.given; heads_same = c.heads-1.given; links_same = c.links-1.given })
     c.in_default.is _ _
 
 pub overflow_add-i : goal.overflow_add-i
-overflow_add-i c = omega (arith, going_few c.loop-ws.invariant (let it : holds_facet c.args.file.now c.loop-ws.at ≡ true = sym c.holds_facet.ensures ∙ c.loop-ws-test.true in it))
+overflow_add-i c = omega (arith, going_few c.loop-ws.invariant (sym c.holds_facet.ensures ∙ c.loop-ws-test.true))
 
 pub loop-ws-smaller : goal.loop-ws-smaller
-loop-ws-smaller c = going_less c.loop-ws.invariant (let it : holds_facet c.args.file.now c.loop-ws.at ≡ true = sym c.holds_facet.ensures ∙ c.loop-ws-test.true in it) c.after-at.ensures
+loop-ws-smaller c = going_less c.loop-ws.invariant (sym c.holds_facet.ensures ∙ c.loop-ws-test.true) c.after-at.ensures
 
 pub loop-ws-preserved : goal.loop-ws-preserved
 loop-ws-preserved c =
-    going_on c.loop-ws.invariant (let it : holds_facet c.args.file.now c.loop-ws.at ≡ true = sym c.holds_facet.ensures ∙ c.loop-ws-test.true in it) _ _ c.settle_facet.ensures
+    going_on c.loop-ws.invariant (sym c.holds_facet.ensures ∙ c.loop-ws-test.true) _ _ c.settle_facet.ensures
     (record { words_same = c.ws-1.given; corners_same = c.cs-1.given; heads_same = c.heads-1.given; links_same = c.links-1.given })
     c.in-Points.is c.after-at.ensures
 
