@@ -39,18 +39,12 @@ static void put_member(const char *before, const char *name, const char *text)
 
 /* ---- Objects ---- */
 
-/* The name of a sheet, and of what goes with it, where there is something. */
-static void put_pair(const char *sheet, const char *key, const char *other)
-{
-    put_member("{", "file", sheet);
-    if (other != NULL) {
-        put_member(",", key, other);
-    }
-}
-
 static void put_names(const char *sheet, const char *set)
 {
-    put_pair(sheet, "patches", set);
+    put_member("{", "file", sheet);
+    if (set != NULL) {
+        put_member(",", "patches", set);
+    }
 }
 
 /* How many facets and points a binary STL file has, as far as that is known. */
@@ -138,11 +132,12 @@ static void put_loop(const struct loops *loops, size_t loop, const uint16_t *rin
     put_numbers(ring, loops->lengths[loop]);
 }
 
-/* The loops of a sheet; with `patches` each has its triangles. */
-static void put_loops(const struct loops *loops, bool patches)
+void json_listed(const struct text *sheet, const struct loops *loops, bool patches)
 {
     const uint16_t *ring = loops->rings;
     const uint16_t *laid = loops->patches;
+    begin(sheet, NULL, (struct answer){WAZELPUNT_DONE, 0});
+    put_sizes(sheet, loops);
     output(",\"loops\":[");
     for (size_t loop = 0; loop < loops->count; loop++) {
         size_t cover = cover_of(loops->lengths[loop], loops->states[loop]);
@@ -155,25 +150,7 @@ static void put_loops(const struct loops *loops, bool patches)
         ring += loops->lengths[loop];
         laid += 3 * cover;
     }
-    output("]");
-}
-
-void json_listed(const struct text *sheet, const struct loops *loops, bool patches)
-{
-    begin(sheet, NULL, (struct answer){WAZELPUNT_DONE, 0});
-    put_sizes(sheet, loops);
-    put_loops(loops, patches);
-    output("}\n");
-}
-
-void json_closed(const struct text *sheet, const struct loops *loops, const char *written, const char *form, size_t triangles, size_t bytes)
-{
-    put_pair(sheet->name, "output", written);
-    put_stl(sheet);
-    put_answer((struct answer){WAZELPUNT_DONE, 0});
-    put_sizes(sheet, loops);
-    put_loops(loops, false);
-    output(",\"written\":{\"form\":\"%s\",\"triangles\":%zu,\"bytes\":%zu}}\n", form, triangles, bytes);
+    output("]}\n");
 }
 
 /* How much there is in a report. */
@@ -280,13 +257,6 @@ void json_explained(const struct text *sheet, const struct text *set, struct ans
 void json_unread(const char *sheet, const char *set, const char *error)
 {
     put_names(sheet, set);
-    put_member(",", "error", error);
-    output("}\n");
-}
-
-void json_unwritten(const char *sheet, const char *written, const char *error)
-{
-    put_pair(sheet, "output", written);
     put_member(",", "error", error);
     output("}\n");
 }

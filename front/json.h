@@ -10,12 +10,6 @@
 /* A sheet that was listed; with `patches` each loop has its triangles. */
 void json_listed(const struct text *sheet, const struct loops *loops, bool patches);
 
-/* A sheet that was closed: its loops, and the name and the form of what was written, with how many triangles and bytes that has. */
-void json_closed(const struct text *sheet, const struct loops *loops, const char *written, const char *form, size_t triangles, size_t bytes);
-
-/* A sheet that was closed, but could not be written under that name. */
-void json_unwritten(const char *sheet, const char *written, const char *error);
-
 /* A sheet that was reported, by its pieces. */
 void json_reported(const struct text *sheet, const struct loops *loops, const struct report *report);
 

@@ -6,7 +6,6 @@
 #include <string.h>
 #include <unistd.h>
 
-#include "closing.h"
 #include "desk.h"
 #include "draw.h"
 #include "explain.h"
@@ -18,7 +17,6 @@
 #include "output.h"
 #include "report.h"
 #include "sample.h"
-#include "save.h"
 #include "stl.h"
 #include "wazelpunt.h"
 
@@ -26,15 +24,13 @@
 
 enum options {
     QUIET = 1, JSON = 2, PATCHES = 4, CLOSED = 8, BESIDE = 16, PLAN = 32, LOOPS = 64, HELP = 128, VERSION = 256, AT_PITCH = 512,
-    ENTRIES = 1024, OVERWRITE = 2048, INTO = 4096, AS = 8192
+    ENTRIES = 1024
 };
 
 struct call {
     const struct command *command;
     unsigned options;
     uint32_t pitch;         /* that of --pitch; 0 where that is not given */
-    const char *output;     /* that of --output, and the form of --as; NULL and AS_NOTHING where they are not given */
-    enum form form;
     char **names;
     size_t count;
 };
@@ -450,70 +446,6 @@ static enum status draw_one(const struct call *call, const char *name)
     return tell_loops(call, NULL, &desk.loops);
 }
 
-/* ---- close ---- */
-
-/* What was to be written could not be. */
-static enum status tell_unwritten(const struct call *call, const char *name, const char *error)
-{
-    if (has(call, JSON)) {
-        json_unwritten(name, call->output, error);
-    }
-    say("%s cannot be written: %s", shown_name(call->output), error);
-    return STATUS_FAILED;
-}
-
-/* The text of the sheet would have too many triangles. */
-static enum status tell_unmade(const struct call *call, struct answer answer, const struct closed *closed)
-{
-    closing_explain(closed, &explanation);
-    if (has(call, JSON)) {
-        json_explained(&sheet, NULL, answer, &explanation);
-    } else {
-        explanation_say(&sheet, NULL, answer, &explanation);
-    }
-    return STATUS_ANSWERED;
-}
-
-static enum status tell_closed(const struct call *call, const struct closed *closed)
-{
-    /* the name of the file is among it */
-    static char said[32768];
-    struct phrase phrase = {said, sizeof said, 0};
-    const struct loops *loops = &desk.loops;
-    if (has(call, JSON)) {
-        json_closed(&sheet, loops, call->output, closed->form == AS_STL ? "stl" : "sheet", closed->triangles, closed->length);
-    } else if (!has(call, QUIET)) {
-        closing_add(&phrase, loops, closed, count_triangles(&sheet) > 0, call->output);
-        say("%s: %s", said_name(sheet.name), said);
-        loops_say(loops, has(call, LOOPS), triangle_name());
-    }
-    return has(call, CLOSED) && loops_stay_open(loops) ? STATUS_OPEN : STATUS_DONE;
-}
-
-/* Nothing is written of a sheet that is refused, nor the answer's line: that would be taken for the part. */
-static enum status close_sheet(const struct call *call, const char *name)
-{
-    struct closed closed;
-    const char *error = input_read(SHEET, name, call->pitch, &sheet);
-    if (error != NULL) {
-        return tell_unread(call, name, NULL, error);
-    }
-    struct answer answer = is_refused() ? refusal() : desk_patch(&sheet, &desk);
-    if (answer.number != WAZELPUNT_DONE) {
-        return tell_answer(call, NULL, answer);
-    }
-    answer = closing_make(&desk, call->form, &closed);
-    if (answer.number != WAZELPUNT_DONE) {
-        return answer.number == WAZELPUNT_WRONG_CORNERS ? tell_unmade(call, answer, &closed) : tell_unknown(call, name);
-    }
-    if (strcmp(call->output, "-") == 0) {
-        output_bytes(closed.bytes, closed.length);
-    } else {
-        error = save(call->output, closed.bytes, closed.length, call->form == AS_STL);
-    }
-    return error != NULL ? tell_unwritten(call, name, error) : tell_closed(call, &closed);
-}
-
 /* ---- The commands ---- */
 
 static enum status each(const struct call *call, enum status (*one)(const struct call *call, const char *name))
@@ -588,49 +520,6 @@ static enum status draw(const struct call *call)
     return status;
 }
 
-/* The output of a call that closes a part is its own input. */
-static enum status tell_same(const struct call *call)
-{
-    static char said[32768];
-    struct phrase phrase = {said, sizeof said, 0};
-    if (strcmp(call->output, "-") == 0) {
-        phrase_add(&phrase, "standard output is the file that is read; name another with -o");
-    } else {
-        phrase_add(&phrase, "%s is the file that is read; name another with -o, or have it replaced with --overwrite",
-                   shown_name(call->output));
-    }
-    return wrong_use(call, said);
-}
-
-/* All that can be wrong with where the part goes is told before it is read. */
-static enum status close_part(const struct call *call)
-{
-    struct call part = *call;
-    if (call->count > 1) {
-        return wrong_use(call, "it takes one sheet");
-    }
-    if (has(call, OVERWRITE) && !has(call, INTO)) {
-        return wrong_use(call, "--overwrite goes with -o");
-    }
-    if (!take_names(&part, "sheet")) {
-        return STATUS_FAILED;
-    }
-    part.output = call->output == NULL ? "-" : call->output;
-    part.form = call->form == AS_NOTHING ? form_of_name(part.output) : call->form;
-    part.output = save_is_standard(part.output) ? "-" : part.output;
-    bool is_standard = strcmp(part.output, "-") == 0;
-    if (has(call, JSON) && is_standard) {
-        return wrong_use(call, "--json prints on standard output, so the part has to go to a file: -o FILE");
-    }
-    if (is_standard && part.form == AS_STL && isatty(STDOUT_FILENO)) {
-        return wrong_use(call, "binary STL is not put on a terminal; name a file with -o, or ask for a text with --as sheet");
-    }
-    if ((is_standard || !has(call, OVERWRITE)) && save_is_same(part.names[0], part.output)) {
-        return tell_same(&part);
-    }
-    return close_sheet(&part, part.names[0]);
-}
-
 static enum status check(const struct call *call)
 {
     if (call->count == 0) {
@@ -682,7 +571,6 @@ static enum status help(const struct call *call)
 
 static const struct command commands[] = {
     {"list", QUIET | JSON | PATCHES | CLOSED | LOOPS | AT_PITCH, list},
-    {"close", QUIET | JSON | CLOSED | LOOPS | AT_PITCH | INTO | AS | OVERWRITE, close_part},
     {"report", QUIET | JSON | ENTRIES | AT_PITCH, report},
     {"check", QUIET | JSON | CLOSED | BESIDE | AT_PITCH, check},
     {"rewrite", QUIET | AT_PITCH, rewrite},
@@ -693,6 +581,37 @@ static const struct command commands[] = {
 };
 
 /* ---- The command line ---- */
+
+struct option {
+    const char *name;
+    const char *brief;      /* "" where there is no short form */
+    enum options option;
+};
+
+static const struct option known[] = {
+    {"--quiet", "-q", QUIET},     {"--json", "", JSON},      {"--patches", "", PATCHES}, {"--closed", "", CLOSED},
+    {"--beside", "", BESIDE},     {"--plan", "", PLAN},      {"--loops", "", LOOPS},     {"--help", "-h", HELP},
+    {"--version", "-V", VERSION}, {"--pitch", "", AT_PITCH}, {"--entries", "", ENTRIES},
+};
+
+static const struct option *find_option(const char *word)
+{
+    for (size_t o = 0; o < sizeof known / sizeof known[0]; o++) {
+        if (strcmp(word, known[o].name) == 0 || strcmp(word, known[o].brief) == 0) {
+            return &known[o];
+        }
+    }
+    return NULL;
+}
+
+/* The one option that has a value: the word behind it, or what stands behind its equals sign. */
+static const char pitch_option[] = "--pitch";
+
+static bool is_pitch_option(const char *word)
+{
+    size_t length = sizeof pitch_option - 1;
+    return strncmp(word, pitch_option, length) == 0 && (word[length] == 0 || word[length] == '=');
+}
 
 /* Takes the value of --pitch; NULL where there is none. False if it is no pitch, or if another one was given before. */
 static bool take_pitch(struct call *call, const char *value)
@@ -717,74 +636,9 @@ static bool take_pitch(struct call *call, const char *value)
         say("--pitch is given twice, as %u and as %u; see wazelpunt --help", (unsigned)call->pitch, (unsigned)pitch);
         return false;
     }
+    call->options |= AT_PITCH;
     call->pitch = pitch;
     return true;
-}
-
-/* Takes the value of --output. A word that begins with a hyphen was meant for an option. */
-static bool take_output(struct call *call, const char *value)
-{
-    if (value == NULL || value[0] == 0) {
-        say("-o has no value: name a file, or - for standard output; see wazelpunt --help");
-        return false;
-    }
-    if (value[0] == '-' && value[1] != 0) {
-        const char *shown = shown_name(value);
-        say("-o %s: a file of that name is given as ./%s; see wazelpunt --help", shown, shown);
-        return false;
-    }
-    if (call->output != NULL && strcmp(call->output, value) != 0) {
-        const char *before = shown_name(call->output);
-        say("-o is given twice, as %s and as %s; see wazelpunt --help", before, shown_name(value));
-        return false;
-    }
-    call->output = value;
-    return true;
-}
-
-/* Takes the value of --as. */
-static bool take_form(struct call *call, const char *value)
-{
-    enum form form = value == NULL ? AS_NOTHING : form_of_word(value);
-    if (form == AS_NOTHING) {
-        say("--as %s: forms are stl and sheet; see wazelpunt --help", value == NULL ? "has no value" : shown_name(value));
-        return false;
-    }
-    if (call->form != AS_NOTHING && call->form != form) {
-        say("--as is given twice, as stl and as sheet; see wazelpunt --help");
-        return false;
-    }
-    call->form = form;
-    return true;
-}
-
-struct option {
-    const char *name;
-    const char *brief;                                      /* "" where there is no short form */
-    enum options option;
-    bool (*take)(struct call *call, const char *value);     /* takes its value, NULL if that is missing; NULL where it has none */
-};
-
-static const struct option known[] = {
-    {"--quiet", "-q", QUIET, NULL},     {"--json", "", JSON, NULL},           {"--patches", "", PATCHES, NULL},
-    {"--closed", "", CLOSED, NULL},     {"--beside", "", BESIDE, NULL},       {"--plan", "", PLAN, NULL},
-    {"--loops", "", LOOPS, NULL},       {"--help", "-h", HELP, NULL},         {"--version", "-V", VERSION, NULL},
-    {"--entries", "", ENTRIES, NULL},   {"--overwrite", "", OVERWRITE, NULL}, {"--pitch", "", AT_PITCH, take_pitch},
-    {"--output", "-o", INTO, take_output}, {"--as", "", AS, take_form},
-};
-
-/* The option that a word is. One that has a value may have it within the word, behind an equals sign. */
-static const struct option *find_option(const char *word)
-{
-    size_t length = strcspn(word, "=");
-    for (size_t o = 0; o < sizeof known / sizeof known[0]; o++) {
-        bool is_whole = strcmp(word, known[o].name) == 0 || strcmp(word, known[o].brief) == 0;
-        bool is_begun = known[o].take != NULL && strncmp(word, known[o].name, length) == 0 && known[o].name[length] == 0;
-        if (is_whole || is_begun) {
-            return &known[o];
-        }
-    }
-    return NULL;
 }
 
 /* Takes the options out of the words, so that names are left, the command's first; false if there is an unknown one. */
@@ -797,16 +651,17 @@ static bool take_words(struct call *call, int count, char **words)
             call->names[call->count++] = word;
         } else if (strcmp(word, "--") == 0) {
             only_names = true;
+        } else if (is_pitch_option(word)) {
+            const char *within = strchr(word, '=');
+            w += within == NULL;
+            if (!take_pitch(call, within != NULL ? within + 1 : w < count ? words[w] : NULL)) {
+                return false;
+            }
         } else {
             const struct option *option = find_option(word);
             if (option == NULL) {
                 const char *shown = shown_name(word);
                 say("unknown option %s; see wazelpunt --help. A file of that name is given as ./%s or after --", shown, shown);
-                return false;
-            }
-            const char *within = strchr(word, '=');
-            w += option->take != NULL && within == NULL;
-            if (option->take != NULL && !option->take(call, within != NULL ? within + 1 : w < count ? words[w] : NULL)) {
                 return false;
             }
             call->options |= (unsigned)option->option;

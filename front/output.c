@@ -36,7 +36,6 @@ void output_begin(void)
         }
     }
     signal(SIGPIPE, SIG_IGN);
-    signal(SIGXFSZ, SIG_IGN);
 }
 
 bool was_closed(int descriptor)
@@ -50,13 +49,12 @@ bool wait_for(int descriptor, short events)
     return poll(&waiting, 1, -1) >= 0 || errno == EINTR;
 }
 
-bool write_all(int descriptor, const void *bytes, size_t count)
+static bool write_all(int descriptor, const char *bytes, size_t count)
 {
-    const char *from = bytes;
     while (count > 0) {
-        ssize_t written = write(descriptor, from, count);
+        ssize_t written = write(descriptor, bytes, count);
         if (written > 0) {
-            from += written;
+            bytes += written;
             count -= (size_t)written;
         } else if (written < 0 && errno == EAGAIN) {
             if (!wait_for(descriptor, POLLOUT)) {

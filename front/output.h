@@ -9,8 +9,7 @@
 /* What the command ends with. */
 enum status { STATUS_DONE = 0, STATUS_ANSWERED = 1, STATUS_FAILED = 2, STATUS_OPEN = 3 };
 
-/* Fills the descriptors 0 to 2 that are closed with /dev/null, so that no file gets their numbers, and ignores SIGPIPE and SIGXFSZ, so that
-   a write that fails is told. Comes first. */
+/* Fills the descriptors 0 to 2 that are closed with /dev/null, so that no file gets their numbers, and ignores SIGPIPE. Comes first. */
 void output_begin(void);
 
 /* Whether the descriptor, 0 to 2, was closed at the start. */
@@ -18,9 +17,6 @@ bool was_closed(int descriptor);
 
 /* Waits until a descriptor that would block is ready for these events of poll; false if that cannot be waited for. */
 bool wait_for(int descriptor, short events);
-
-/* Writes all bytes to a descriptor; false, with errno, if that fails. */
-bool write_all(int descriptor, const void *bytes, size_t count);
 
 /* Prints bytes on standard output. It never fails to its caller: a failed write is said, and ends the program with status 2. */
 void output_bytes(const void *bytes, size_t count);

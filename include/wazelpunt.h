@@ -56,7 +56,7 @@ extern "C" {
 #endif
 
 /* The version of this header. */
-#define WAZELPUNT_VERSION "3.2.0"
+#define WAZELPUNT_VERSION "3.1.0"
 
 /* What a surface may have at most. */
 #define WAZELPUNT_POINTS 1024
@@ -85,24 +85,21 @@ extern "C" {
 #define WAZELPUNT_REPORT_BYTES 26720
 #define WAZELPUNT_ANSWER_BYTES 48
 
-/* The bytes of the longest file of facets (binary STL) that is read, where its facets begin, behind header and count, the bytes of a facet,
-   and those of the longest file that is written: of a full surface and a full patch set. */
+/* The bytes of the longest file of facets (binary STL) that is read, where its facets begin, behind header and count, and the bytes of a
+   facet. */
 #define WAZELPUNT_STL_BYTES 51284
 #define WAZELPUNT_STL_FRONT 84
 #define WAZELPUNT_STL_FACET_BYTES 50
-#define WAZELPUNT_CLOSED_BYTES 204884
 
 /* How many numbers each lent buffer needs for a surface of so many words and corners. As refusal 3 counts the buffers, grid is 1 and rings
    2; 3 is lengths where a surface is surveyed or judged and records where it is patched or charted, and 4 is patches where it is patched
-   and report where it is charted. Where a surface and its patches are written as a file of facets, the file is 1. */
+   and report where it is charted. */
 #define WAZELPUNT_GRID_FOR(words_count) (words_count)
 #define WAZELPUNT_RINGS_FOR(corners_count) (corners_count)
 #define WAZELPUNT_LENGTHS_FOR(corners_count) ((corners_count) / 3)
 #define WAZELPUNT_RECORDS_FOR(corners_count) (WAZELPUNT_RECORD * ((corners_count) / 3))
 #define WAZELPUNT_PATCHES_FOR(corners_count) (3 * (corners_count))
 #define WAZELPUNT_REPORT_FOR(corners_count) (2 * WAZELPUNT_ENTRY * ((corners_count) / 3))
-#define WAZELPUNT_FILE_FOR(corners_count, patches_count) \
-    (WAZELPUNT_STL_FRONT + WAZELPUNT_STL_FACET_BYTES * (((corners_count) + (patches_count)) / 3))
 
 /* The numbers of the answers, and what their places count: 1 to 10, 16 and 17 are refusals, 11 to 15 verdicts on a patch set. */
 enum wazelpunt_answer {
@@ -360,19 +357,6 @@ uint32_t wazelpunt_rewrite_text(const uint8_t *text, size_t text_length, uint8_t
 uint32_t wazelpunt_read_stl(const uint8_t *file, size_t file_length, uint32_t *words, size_t words_length, uint16_t *corners,
                             size_t corners_length, size_t *place, size_t *words_read, size_t *corners_read);
 
-/* Writes a surface with its patches after it as a file of facets: the triangles of corners, and then those of patches, each a facet with the
-   words of its points, bit for bit but for negative zero, which is written as zero. Header, normals and attributes are zeros. The patches
-   are such as wazelpunt_patch leaves, or none. Returns 0 or a refusal, tried in this order: 1, 2 (of corners, or of patches, of which there
-   may be WAZELPUNT_SET_CORNERS), 3 or 4 (a corner that names no point, counted on through the patches), with its place. Lent is file (1),
-   long enough for this file: WAZELPUNT_FILE_FOR. On 0 it holds the file from its start, and what lies behind is as it was; *bytes becomes
-   how long the file is. On a refusal all is as it was and the count is 0.
-   wazelpunt_read_stl reads such a file, of at most WAZELPUNT_TRIANGLES facets, as one surface, of which every triangle has the words that it
-   had. Where no two points have the same three words, negative zero read as zero, it is the same surface with its patches, its points
-   numbered by first use; points that no triangle uses are lost. */
-uint32_t wazelpunt_write_stl(const uint32_t *words, size_t words_count, const uint16_t *corners, size_t corners_count,
-                             const uint16_t *patches, size_t patches_count, uint8_t *file, size_t file_length, size_t *place,
-                             size_t *bytes);
-
 /* What a file of that length, whose count is that, is answered for its size alone: returns 0, or refusal 16 or 2. For one who has not the
    whole file at hand: a file longer than WAZELPUNT_STL_BYTES never gets 0. Of one shorter than 84 bytes the count may be anything. */
 uint32_t wazelpunt_size_stl(size_t length, uint32_t count);
@@ -380,11 +364,6 @@ uint32_t wazelpunt_size_stl(size_t length, uint32_t count);
 /* The importing program as a function, ruled as the four above: the text of the file's sheet at pitch 1, or the answer's line (answer=16,0
    for one). Lent are at least WAZELPUNT_SHEET_BYTES. For the text at another pitch read the file, and write it at that pitch. */
 uint32_t wazelpunt_import_stl(const uint8_t *file, size_t file_length, uint8_t *out, size_t out_length, size_t *place, size_t *bytes);
-
-/* The exporting program as a function, ruled as those above: the file of the sheet that a text says, patched at its own pitch, with its
-   patches after it; or the answer's line (answer=10,3 for one), which is told from a file by its first byte, no zero. Lent are at least
-   WAZELPUNT_CLOSED_BYTES. */
-uint32_t wazelpunt_export_text(const uint8_t *text, size_t text_length, uint8_t *out, size_t out_length, size_t *place, size_t *bytes);
 
 /* Hands out one facet at a time: that whose 50 bytes begin at *at, as nine floats, x, y and z of its three corners. Lays them from the
    start of floats, moves *at behind the facet and returns 9. Negative zero comes out as zero, and every NaN as one NaN; no proof tells

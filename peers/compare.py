@@ -8,7 +8,6 @@ import sys
 
 import judge
 from cases import cases, sheet_text
-from opened import ADMESH, MESHLAB, opened
 
 WAZELPUNT = os.environ['WAZELPUNT']
 FOLDER = pathlib.Path('target/peers')
@@ -142,7 +141,7 @@ def write_files(case):
 
 
 def tables():
-    told, ends, changes, files, left_out, own_twice = [], [], [], [], [], 0
+    told, ends, changes, left_out, own_twice = [], [], [], [], 0
     for case in cases(pathlib.Path('examples')):
         if any(case.name == row[0] for row in told):
             sys.exit(f'peers: two cases are called {case.name}')
@@ -158,8 +157,6 @@ def tables():
             own_twice += by_number
         ends += [[case.name] + [pair[0] for pair in cells]]
         changes += [[case.name] + [pair[1] for pair in cells]]
-        row = opened(WAZELPUNT, FOLDER / f'{case.name}.sheet', FOLDER / f'{case.name}.closed.stl')
-        files += [[case.name] + row] if row else []
         print(f'peers: {case.name}', flush=True)
     heads = ['case', 'ours', *CALLS]
     lines = ['## The cases', '']
@@ -169,9 +166,6 @@ def tables():
     lines += ['## Edges left open, and edges that occur twice', ''] + table(heads, ends)
     lines += [f'By the vertex numbers of the files that CGAL leaves, instead of coordinates, {own_twice or "no"} edges occur twice.', '']
     lines += ['## What was changed', ''] + table(heads, changes)
-    lines += ['## Our files in other tools', '']
-    lines += [f'Each case that is not refused, closed by `./wazelpunt close IN.sheet -o CLOSED.stl`, and opened by `{ADMESH}` and by `{MESHLAB}`.', '']
-    lines += table(['case', 'facets, and edges that stay open', 'admesh', 'MeshLab'], files)
     return lines + ['## Versions and commands', ''] + versions()
 
 

@@ -47,15 +47,6 @@ def read_stl(path):
     return list(zip(at[::3], at[1::3], at[2::3]))
 
 
-def read_binary_stl(path):
-    """Binary STL: a facet is twelve bytes of a normal, nine floats, and two bytes more."""
-    data = path.read_bytes()
-    count = struct.unpack_from('<I', data, 80)[0]
-    assert len(data) == 84 + 50 * count, path
-    numbers = [struct.unpack_from('<9f', data, 84 + 50 * k + 12) for k in range(count)]
-    return [(each[0:3], each[3:6], each[6:9]) for each in numbers]
-
-
 def smallest_first(triangle):
     """The same triangle begun at its smallest corner, so that where it begins does not matter."""
     return min(triangle[k:] + triangle[:k] for k in range(3))

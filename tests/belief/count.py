@@ -9,17 +9,16 @@ import sys
 
 # The groups of promises, each with its roots: crate/File.name, or crate/File for all of a file.
 GROUPS = {
-    'entry-points': ['base_types/Lent', 'grid_coordinate/Places.Places', 'survey_rules/Outcome.surveyOf', 'patch_surface/Outcome.Patches',
+    'entry-points': ['grid_coordinate/Places.Places', 'survey_rules/Outcome.survey_of', 'patch_surface/Outcome.Patches',
                      'chart_surface/Outcome.Charts', 'chart_rules/Report', 'judge_surface/Outcome.Judges', 'text_read/Outcome.Reads',
                      'text_write/Outcome.writes', 'text_read_set/Outcome.ReadsSet',
-                     'stl_rules/Reading.readsFile', 'stl_rules/Reading.sizeRefusal', 'stl_facets/Facets', 'stl_file/Writing.writesFile'],
+                     'stl_rules/Reading.reads_file', 'stl_rules/Reading.size_refusal', 'stl_facets/Facets'],
     'programs': ['program_list/Lists.Prints', 'program_judge/Hears', 'program_rewrite/Rewriting', 'program_import/Importing',
-                 'program_chart/Charting', 'program_export/Exporting', 'program_roll/Sections', 'program_lines/Printout'],
-    'demands': ['demands/Answers', 'demands/Grid', 'demands/Loops', 'demands/Records', 'demands/Pieces', 'demands/Report', 'demands/Sets', 'demands/Closing', 'demands/Texts',
-                'demands/Files'],
+                 'program_chart/Charting', 'program_roll/Sections', 'program_lines/Printout'],
+    'demands': ['demands/Answers', 'demands/Grid', 'demands/Loops', 'demands/Records', 'demands/Pieces', 'demands/Report', 'demands/Sets', 'demands/Closing', 'demands/Texts'],
 }
 
-IMPORT = re.compile(r'\s*(?:pub )?use Rattle·(\w+)(?:·specs)?\.specs\.(?:specs\.)?([\w.]+?)(?:\.\{(.*)\}| as (\S+))$')
+IMPORT = re.compile(r'\s*(?:pub )?use Rattle\.(\w+)\.specs\.([\w.]+?)(?:\.\{(.*)\}| as (\S+))$')
 HEAD = re.compile(r'( *)(?:unfoldable |abbrev )?(?:pub )?(record |data )?([^\s(:]+) (?:: |\()')
 
 

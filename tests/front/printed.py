@@ -99,11 +99,8 @@ def try_alone(front, tally, case):
 
 
 def programs():
-    """How the programs are run here: by the kit's own loader and, on another processor than x86-64, its emulator."""
-    kit = os.environ.get('RATTLE_HOME') or os.path.dirname(os.path.dirname(os.path.realpath(shutil.which('rt'))))
-    tools = f'{kit}/on/{os.uname().machine}/toolchain'
-    emulator = [f'{tools}/bin/qemu-x86_64'] if os.access(f'{tools}/bin/qemu-x86_64', os.X_OK) else []
-    return emulator + [f'{tools}/lib/ld-linux-x86-64.so.2', '--library-path', f'{tools}/lib']
+    """How the programs are run here: on another processor than x86-64 by an emulator, which tests/native names."""
+    return shlex.split(os.environ['PROGRAM'])
 
 
 def try_programs(front, tally, case, room):

@@ -1,7 +1,8 @@
 #!/usr/bin/env python3
 """Each function that docs/PROMISES.md has a row of is there, and each wrong program that it names: those in the last column of its tables in a
 crate of their row, or in the one that is said; and every other word of docs/PROMISES.md and docs/TESTING.md that looks like the name of an edit
-is one, or stands in the code. Each test that the two pages name is there, and docs/TESTING.md names each and tells how many edits there are."""
+is one, or stands in the code, or within code quotes in definitions or laws. Each test that the two pages name is there, and docs/TESTING.md
+names each and tells how many edits there are."""
 import os
 import pathlib
 import re
@@ -23,8 +24,12 @@ crates = {path.name for path in pathlib.Path('crates').iterdir()}
 edits = {}
 for path in [*pathlib.Path('crates').glob('*/must-fail/*.edit'), *pathlib.Path('slips').glob('*/*.edit')]:
     edits.setdefault(path.parts[1], set()).add(path.stem)
-# The crates that have a public function, by its name and by that with its type; and all words of the code, and of what C includes.
-functions, words = {}, set(crates).union(*edits.values())
+# The crates that have a public function, by its name and by that with its type; and all words of the code, of what C includes, and of
+# definitions and laws.
+functions, words, laws = {}, set(crates).union(*edits.values()), set()
+for part in ('specs', 'proofs'):
+    for path in pathlib.Path('crates').glob(f'*/{part}/**/*.antt'):
+        laws.update(re.findall(r'\b[a-z]\w*', re.sub(r'--.*', '', path.read_text())))
 for path in pathlib.Path('include').glob('*.h'):
     words.update(re.findall(r'\b[a-z]\w*', path.read_text()))
 for path in pathlib.Path('crates').glob('*/src/*.rt'):
@@ -92,8 +97,10 @@ for _, last in tables(page, 'is refused as'):
                 say(f'wrong programs: no edit {name} of {each or "any crate"}')
 
 for where, text in (('docs/PROMISES.md', page), ('docs/TESTING.md', testing)):
-    for name in sorted(set(re.findall(r'(?<![\w/.-])[a-z0-9]+(?:_[a-z0-9]+)+(?![\w/-]|\.\w)', text)) - words):
-        say(f'{where} names {name}, which is neither an edit nor in the code')
+    quoted = ' '.join(re.findall(r'`[^`\n]*`', text))
+    for part, there in ((quoted, words | laws), (re.sub(r'`[^`\n]*`', '``', text), words)):
+        for name in sorted(set(re.findall(r'(?<![\w/.-])[a-z0-9]+(?:_[a-z0-9]+)+(?![\w/-]|\.\w)', part)) - there):
+            say(f'{where} names {name}, which is neither an edit nor in the code')
     for name in sorted(set(re.findall(r'\btests/(\w+)(?:/run)?\b(?!/)', text)) - {'NAME'}):
         if not pathlib.Path('tests', name, 'run').exists():
             say(f'{where} names tests/{name}, which is not there or has no `run`')

@@ -1,8 +1,8 @@
 #!/usr/bin/env python3
 """The two lists of docs/PROMISES.md, section "Exceptions", held against the sources: the public functions that ask for something (`requires`),
 and the lent storage whose final contents a contract leaves open. Whether a contract names what a `&mut` parameter holds in the end is read off:
-it says `left x` or it does not. Whether it says all of it cannot be; so the page has a table of scratch, by the parameters' names, and each
-public function that is lent a parameter of such a name stands there; any other has to be named under `left`.
+it says `x.new` or it does not. Whether it says all of it cannot be; so the page has a table of scratch, by the parameters' names, and each
+public function that is lent a parameter of such a name stands there; of any other the contract has to say `.new`.
   lists.py            tells what the page has that is not so, and what it has not
   lists.py --print    prints both lists as the page shall have them; the words, and what is said in whole, are taken from the page
   lists.py --write    puts them there; a name that is new gets a row with a question mark for its words"""
@@ -13,7 +13,8 @@ import sys
 
 PAGE = pathlib.Path('docs/PROMISES.md')
 CLOSING = {'(': ')', '{': '}'}
-CLAUSE = re.compile(r'[^{]*?\b(?:(requires|ensures|ghost)\s*)?\{')
+# A clause may have a star and a name; what begins with none of the words is the body.
+CLAUSE = re.compile(r'[^{]*?\b(?:(requires|ensures|ghost)\b[\s*]*(?:\w+\s*)?)?\{')
 
 
 def behind(text, at):
@@ -27,7 +28,7 @@ def behind(text, at):
 
 
 def functions_of(crate):
-    """Of each public function of a crate: its name, whether it asks for something, and of each `&mut` parameter whether `left` names it."""
+    """Of each public function of a crate: its name, whether it asks for something, and of each `&mut` parameter whether `.new` says it."""
     for path in sorted(pathlib.Path('crates', crate, 'src').rglob('*.rt')):
         text = re.sub(r'//.*', '', path.read_text())
         blocks = [(found[1], found.start(), behind(text, found.end() - 1)) for found in re.finditer(r'^impl (\w+) \{', text, re.M)]
@@ -41,7 +42,7 @@ def functions_of(crate):
                 if not clause[1]:
                     break
                 said[clause[1]] += text[clause.end():ends]
-            left = {each: bool(re.search(rf'\bleft «?{each}\b', said['ensures'])) for each in lent}
+            left = {each: bool(re.search(rf'(?<![\w.])«?{each}»?\.new\b', said['ensures'])) for each in lent}
             yield f'{crate}::{owner}{found[1]}', bool(said['requires']), left
 
 

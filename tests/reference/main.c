@@ -62,7 +62,6 @@ struct desk {
     uint16_t patches[REFERENCE_MOST_PATCH_CORNERS];
     uint16_t report[REFERENCE_MOST_REPORT];
     uint8_t text[REFERENCE_LONGEST_TEXT];
-    uint8_t closed[REFERENCE_LONGEST_CLOSED];
 };
 
 static struct desk desk;
@@ -260,19 +259,6 @@ static void import_program(FILE *out, const struct file *file)
     print_sheet(out, &read);
 }
 
-/* A sheet's text in, its patched surface as a file of facets out, or the
-   answer's line. */
-static void export_program(FILE *out, const struct file *sheet)
-{
-    struct reference_write_answer written;
-    reference_export(sheet->bytes, sheet->length, desk.closed, REFERENCE_LONGEST_CLOSED, &written);
-    if (written.number != 0) {
-        print_answer(out, written.number, written.place);
-        return;
-    }
-    fwrite(desk.closed, 1, written.bytes, out);
-}
-
 /* ---- `reference cases DIR` ---- */
 
 static struct file case_sheet;
@@ -280,9 +266,9 @@ static struct file case_patches;
 static struct file case_expected;
 
 /* What each program's outputs are named after. */
-enum { LIST, CHECK, REWRITE, CHART, EXPORT, PROGRAMS };
+enum { LIST, CHECK, REWRITE, CHART, PROGRAMS };
 
-static const char *const kinds[PROGRAMS] = {"listing", "verdict", "rewritten", "report", "exported"};
+static const char *const kinds[PROGRAMS] = {"listing", "verdict", "rewritten", "report"};
 
 static int open_case(const char *directory, unsigned number, const char *kind, struct file *file)
 {
@@ -300,10 +286,8 @@ static void run_program(int program, FILE *out)
         check_program(out, &case_sheet, &case_patches);
     } else if (program == REWRITE) {
         rewrite_program(out, &case_sheet);
-    } else if (program == CHART) {
-        chart_program(out, &case_sheet);
     } else {
-        export_program(out, &case_sheet);
+        chart_program(out, &case_sheet);
     }
 }
 
@@ -344,8 +328,8 @@ static int run_cases(const char *directory)
         }
         open_case(directory, number, "patches", &case_patches);
         for (int program = 0; program < PROGRAMS; program++) {
-            /* cases from before there were reports, or files that are written, have none */
-            if (program < CHART || open_case(directory, number, kinds[program], &case_expected)) {
+            /* cases from before there were reports have none */
+            if (program != CHART || open_case(directory, number, kinds[CHART], &case_expected)) {
                 same += (size_t)agrees(directory, number, program);
                 tried += 1;
             }
@@ -579,8 +563,7 @@ static int run_examples(void)
 
 static int explain(void)
 {
-    fputs("reference cases DIR | make DIR N SEED | list FILE | check SHEET PATCHES | rewrite FILE | chart FILE | import FILE | export FILE | "
-          "self N SEED\n"
+    fputs("reference cases DIR | make DIR N SEED | list FILE | check SHEET PATCHES | rewrite FILE | chart FILE | import FILE | self N SEED\n"
           "(a FILE or SHEET of - is standard input)\n", stderr);
     return 2;
 }
@@ -608,8 +591,6 @@ int main(int count, char **given)
         chart_program(stdout, &case_sheet);
     } else if (count == 3 && strcmp(given[1], "import") == 0) {
         import_program(stdout, &case_sheet);
-    } else if (count == 3 && strcmp(given[1], "export") == 0) {
-        export_program(stdout, &case_sheet);
     } else if (count == 4 && strcmp(given[1], "check") == 0) {
         read_file(given[3], &case_patches);
         check_program(stdout, &case_sheet, &case_patches);

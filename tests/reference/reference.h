@@ -19,8 +19,6 @@
 #define REFERENCE_LONGEST_STL 51284
 #define REFERENCE_STL_FRONT 84
 #define REFERENCE_STL_FACET 50
-#define REFERENCE_MOST_FACETS (REFERENCE_MOST_TRIANGLES + REFERENCE_MOST_SET_TRIANGLES)
-#define REFERENCE_LONGEST_CLOSED (REFERENCE_STL_FRONT + REFERENCE_STL_FACET * REFERENCE_MOST_FACETS)
 
 /* What the record of a loop has, in this order, and how many numbers these are. */
 enum {
@@ -88,7 +86,7 @@ struct reference_read_answer {
     size_t pitch;
 };
 
-/* The answer of the writers of sheet texts and of files of facets. */
+/* The answer of the writer of sheet texts. */
 struct reference_write_answer {
     size_t number;
     size_t place;
@@ -190,19 +188,6 @@ void reference_read_stl(const uint8_t *file, size_t file_length,
                         uint32_t *words, size_t words_length,
                         uint16_t *corners, size_t corners_length,
                         struct reference_read_answer *answer);
-
-/* Writes a surface with its patches after it as a file of facets; refusals 1, 2, 3 (file 1) and 4. */
-void reference_write_stl(const uint32_t *words, size_t word_count,
-                         const uint16_t *corners, size_t corner_count,
-                         const uint16_t *patches, size_t patch_count,
-                         uint8_t *file, size_t file_length,
-                         struct reference_write_answer *answer);
-
-/* Patches the sheet that a text says and writes it with its patches as a file
-   of facets, or gives the number and place for its answer line. */
-void reference_export(const uint8_t *text, size_t text_length,
-                      uint8_t *file, size_t file_length,
-                      struct reference_write_answer *answer);
 
 /* The count of a file of facets, which has at least 84 bytes. */
 uint32_t reference_count_stl(const uint8_t *file);

@@ -119,17 +119,6 @@ uint32_t wazelpunt_write(const uint32_t *words, size_t words_count, const uint16
     return (uint32_t)answer.number;
 }
 
-uint32_t wazelpunt_write_stl(const uint32_t *words, size_t words_count, const uint16_t *corners, size_t corners_count,
-                             const uint16_t *patches, size_t patches_count, uint8_t *file, size_t file_length, size_t *place,
-                             size_t *bytes)
-{
-    struct reference_write_answer answer;
-    reference_write_stl(words, words_count, corners, corners_count, patches, patches_count, file, file_length, &answer);
-    *place = answer.place;
-    *bytes = answer.bytes;
-    return (uint32_t)answer.number;
-}
-
 uint32_t wazelpunt_read_set(const uint8_t *text, size_t text_length, uint16_t before, uint16_t *states, size_t states_length,
                             uint16_t *corners, size_t corners_length, size_t *place, size_t *states_read, size_t *corners_read)
 {
@@ -342,20 +331,4 @@ uint32_t wazelpunt_import_stl(const uint8_t *file, size_t file_length, uint8_t *
     struct reference_read_answer sheet;
     reference_read_stl(file, file_length, desk.words, REFERENCE_MOST_WORDS, desk.corners, REFERENCE_MOST_CORNERS, &sheet);
     return print_sheet(&sheet, out, out_length, bytes);
-}
-
-/* The file of the sheet that was read, with its patches, or the answer's line. */
-uint32_t wazelpunt_export_text(const uint8_t *text, size_t text_length, uint8_t *out, size_t out_length, size_t *place, size_t *bytes)
-{
-    if (begin(out_length, WAZELPUNT_CLOSED_BYTES, place, bytes) != 0) {
-        return WAZELPUNT_BUFFER;
-    }
-    struct reference_write_answer written;
-    reference_export(text, text_length, out, out_length, &written);
-    if (written.number != 0) {
-        print_answer(written.number, written.place);
-        return end(out, bytes);
-    }
-    *bytes = written.bytes;
-    return 0;
 }

@@ -1,64 +1,63 @@
 -- `put_next`: the parts of the buffers that are handed on are the next loop's.
-use Prim.Native.Nat.{◌+◌, ◌≤◌}
 use native.Mathlib.Omega.{arith}
-use lib.ListN.{length}
-use Rattle.program_lines.specs.Listing.{loop_lines}
-use Rattle.program_lines.specs.Workings.Telling.{Inventory, inventory}
-use Rattle.program_lines.proofs.Laws.Widths.{widest}
-use Rattle.program_lines.proofs.Laws.Nexts.{Typed, NextPlace, handed, next_place, patch_in, next_wide, next_tells}
+use Rattle.program_lines.specs.Workings.Telling.{inventory}
+use Rattle.program_lines.proofs.Laws.Nexts.{Typed, next_place, patch_in, next_wide, next_tells}
 use Rattle.program_lines.proofs.put_next.Goals as goal
 
 pub record_at-kept-requires : goal.record_at-kept-requires
 record_at-kept-requires c = tt
 
 pub corners_of-k-requires : goal.corners_of-k-requires
-corners_of-k-requires c = let h = (let it : NextPlace (let it : tie.Start → Inventory = inventory c.args.rings.now c.args.records.now c.args.patches.now in it) c.args.progress c.record_at-kept.result = next_place c.requires.next_room c.record_at-kept.ensures in it) in (omega (arith, h), omega (arith, h))
+corners_of-k-requires c = let h = next_place c.requires.next_room c.record_at-kept.ensures in (omega (arith, h), omega (arith, h))
 
 pub overflow_add-r : goal.overflow_add-r
-overflow_add-r c = omega (arith, (let it : NextPlace (let it : tie.Start → Inventory = inventory c.args.rings.now c.args.records.now c.args.patches.now in it) c.args.progress c.record_at-kept.result = next_place c.requires.next_room c.record_at-kept.ensures in it))
+overflow_add-r c = omega (arith, next_place c.requires.next_room c.record_at-kept.ensures)
 
 pub offset_bounds-rings-r : goal.offset_bounds-rings-r
-offset_bounds-rings-r c = omega (arith, (let it : NextPlace (let it : tie.Start → Inventory = inventory c.args.rings.now c.args.records.now c.args.patches.now in it) c.args.progress c.record_at-kept.result = next_place c.requires.next_room c.record_at-kept.ensures in it))
+offset_bounds-rings-r c = omega (arith, next_place c.requires.next_room c.record_at-kept.ensures)
 
 pub slice_bounds-put_loop-count : goal.slice_bounds-put_loop-count
 slice_bounds-put_loop-count c = omega arith
 
 pub slice_bounds-put_loop-start : goal.slice_bounds-put_loop-start
-slice_bounds-put_loop-start c = omega (arith, (let it : NextPlace (let it : tie.Start → Inventory = inventory c.args.rings.now c.args.records.now c.args.patches.now in it) c.args.progress c.record_at-kept.result = next_place c.requires.next_room c.record_at-kept.ensures in it))
+slice_bounds-put_loop-start c = omega (arith, next_place c.requires.next_room c.record_at-kept.ensures)
 
 pub slice_bounds-put_loop-end : goal.slice_bounds-put_loop-end
-slice_bounds-put_loop-end c = omega (arith, (let it : NextPlace (let it : tie.Start → Inventory = inventory c.args.rings.now c.args.records.now c.args.patches.now in it) c.args.progress c.record_at-kept.result = next_place c.requires.next_room c.record_at-kept.ensures in it))
+slice_bounds-put_loop-end c = omega (arith, next_place c.requires.next_room c.record_at-kept.ensures)
 
 pub overflow_add-p : goal.overflow_add-p
-overflow_add-p c = omega (arith, (let it : c.args.progress.corners + c.corners_of-k.result ≤ length c.args.patches.now = patch_in c.requires.next_room c.record_at-kept.ensures c.corners_of-k.ensures in it))
+overflow_add-p c = omega (arith, patch_in c.requires.next_room c.record_at-kept.ensures c.corners_of-k.ensures)
 
 pub offset_bounds-patches-p : goal.offset_bounds-patches-p
-offset_bounds-patches-p c = omega (arith, (let it : c.args.progress.corners + c.corners_of-k.result ≤ length c.args.patches.now = patch_in c.requires.next_room c.record_at-kept.ensures c.corners_of-k.ensures in it))
+offset_bounds-patches-p c = omega (arith, patch_in c.requires.next_room c.record_at-kept.ensures c.corners_of-k.ensures)
 
 pub slice_bounds-put_loop-count-2 : goal.slice_bounds-put_loop-count-2
 slice_bounds-put_loop-count-2 c = omega arith
 
 pub slice_bounds-put_loop-start-2 : goal.slice_bounds-put_loop-start-2
-slice_bounds-put_loop-start-2 c = omega (arith, (let it : c.args.progress.corners + c.corners_of-k.result ≤ length c.args.patches.now = patch_in c.requires.next_room c.record_at-kept.ensures c.corners_of-k.ensures in it))
+slice_bounds-put_loop-start-2 c = omega (arith, patch_in c.requires.next_room c.record_at-kept.ensures c.corners_of-k.ensures)
 
 pub slice_bounds-put_loop-end-2 : goal.slice_bounds-put_loop-end-2
-slice_bounds-put_loop-end-2 c = omega (arith, (let it : c.args.progress.corners + c.corners_of-k.result ≤ length c.args.patches.now = patch_in c.requires.next_room c.record_at-kept.ensures c.corners_of-k.ensures in it))
+slice_bounds-put_loop-end-2 c = omega (arith, patch_in c.requires.next_room c.record_at-kept.ensures c.corners_of-k.ensures)
 
 pub put_loop-bytes-requires : goal.put_loop-bytes-requires
 put_loop-bytes-requires c =
-    omega (arith, (let it : length (loop_lines (handed (let it : tie.Start → Inventory = inventory c.args.rings.now c.args.records.now c.args.patches.now in it) c.args.progress c.record_at-kept.result c.corners_of-k.result)) ≤ widest = let typed : Typed (let it : tie.Start → Inventory = inventory c.args.rings.now c.args.records.now c.args.patches.now in it) = record { rings_short = search; patches_short = search } in
-    next_wide c.requires.next_room c.record_at-kept.ensures c.corners_of-k.ensures typed in it), c.requires.most_in_bounds)
+    let typed : Typed (inventory c.args.rings.now c.args.records.now c.args.patches.now) = record { rings_short = c.type_inv.rings; patches_short = c.type_inv.patches } in
+    omega (arith, next_wide c.requires.next_room c.record_at-kept.ensures c.corners_of-k.ensures typed, c.requires.most_in_bounds)
 
 pub overflow_add-result : goal.overflow_add-result
-overflow_add-result c = omega (arith, (let it : NextPlace (let it : tie.Start → Inventory = inventory c.args.rings.now c.args.records.now c.args.patches.now in it) c.args.progress c.record_at-kept.result = next_place c.requires.next_room c.record_at-kept.ensures in it), c.well_formed)
+overflow_add-result c = omega (arith, next_place c.requires.next_room c.record_at-kept.ensures, c.well_formed)
 
 pub overflow_add-result-2 : goal.overflow_add-result-2
-overflow_add-result-2 c = omega (arith, (let it : NextPlace (let it : tie.Start → Inventory = inventory c.args.rings.now c.args.records.now c.args.patches.now in it) c.args.progress c.record_at-kept.result = next_place c.requires.next_room c.record_at-kept.ensures in it), c.well_formed)
+overflow_add-result-2 c = omega (arith, next_place c.requires.next_room c.record_at-kept.ensures, c.well_formed)
 
 pub overflow_add-result-3 : goal.overflow_add-result-3
-overflow_add-result-3 c = omega (arith, (let it : c.args.progress.corners + c.corners_of-k.result ≤ length c.args.patches.now = patch_in c.requires.next_room c.record_at-kept.ensures c.corners_of-k.ensures in it), c.well_formed)
+overflow_add-result-3 c = omega (arith, patch_in c.requires.next_room c.record_at-kept.ensures c.corners_of-k.ensures, c.well_formed)
 
 pub returns : goal.returns
 returns c =
-    (next_tells c.record_at-kept.ensures c.corners_of-k.ensures c.put_loop-bytes.ensures, omega (arith, (let it : length (loop_lines (handed (let it : tie.Start → Inventory = inventory c.args.rings.now c.args.records.now c.args.patches.now in it) c.args.progress c.record_at-kept.result c.corners_of-k.result)) ≤ widest = let typed : Typed (let it : tie.Start → Inventory = inventory c.args.rings.now c.args.records.now c.args.patches.now in it) = record { rings_short = search; patches_short = search } in
-    next_wide c.requires.next_room c.record_at-kept.ensures c.corners_of-k.ensures typed in it), c.put_loop-bytes.ensures))
+    let typed : Typed (inventory c.args.rings.now c.args.records.now c.args.patches.now) = record { rings_short = c.type_inv.rings; patches_short = c.type_inv.patches } in
+    record {
+      tells_next = next_tells c.record_at-kept.ensures c.corners_of-k.ensures c.put_loop-bytes.ensures;
+      bytes_bound = omega (arith, next_wide c.requires.next_room c.record_at-kept.ensures c.corners_of-k.ensures typed, c.put_loop-bytes.ensures);
+    }

@@ -16,7 +16,7 @@ settle_facet-requires c = going_facet c.loop-ws.invariant (sym c.holds_facet.ens
 pub returns-in_default : goal.returns-in_default
 returns-in_default c =
     going_stops c.loop-ws.invariant (sym c.holds_facet.ensures ∙ c.loop-ws-test.true) _ _ c.settle_facet.ensures
-    (record { words_same = c.ws-1.given; corners_same = c.cs-1.given; heads_same = c.heads-1.given; links_same = c.links-1.given })
+    (record { words_same = c.settle_facet.auto.ws; corners_same = c.settle_facet.auto.cs; heads_same = c.settle_facet.auto.heads; links_same = c.settle_facet.auto.links })
     c.in_default.is _ _
 
 pub overflow_add-i : goal.overflow_add-i
@@ -28,7 +28,7 @@ loop-ws-smaller c = going_less c.loop-ws.invariant (sym c.holds_facet.ensures �
 pub loop-ws-preserved : goal.loop-ws-preserved
 loop-ws-preserved c =
     going_on c.loop-ws.invariant (sym c.holds_facet.ensures ∙ c.loop-ws-test.true) _ _ c.settle_facet.ensures
-    (record { words_same = c.ws-1.given; corners_same = c.cs-1.given; heads_same = c.heads-1.given; links_same = c.links-1.given })
+    (record { words_same = c.settle_facet.auto.ws; corners_same = c.settle_facet.auto.cs; heads_same = c.settle_facet.auto.heads; links_same = c.settle_facet.auto.links })
     c.in-Points.is c.after-at.ensures
 
 pub returns : goal.returns

@@ -1,5 +1,4 @@
 -- `seek` walks the chain of these words from its head, and what it passed has other words. The measure is the place itself, since a chain only goes back.
-use Prim.Native.Nat.{◌-◌}
 use Rattle.stl_gather.proofs.Laws.Walks.{Walking}
 use Rattle.stl_gather.proofs.seek.Given as goal
 

@@ -1,5 +1,4 @@
 -- `settle_facet` settles three corners, twelve bytes from one to the next.
-use Prim.Native.Nat.{◌-◌}
 use native.Mathlib.Omega.{arith}
 use Rattle.stl_gather.proofs.Laws.Facets.{settled_stops, facet_begins, facet_few, facet_corner, facet_goes_on, facet_ends}
 use Rattle.stl_gather.proofs.settle_facet.Goals as goal
@@ -28,7 +27,7 @@ loop-corner-smaller c = omega (arith, c.loop-corner-test.true)
 pub loop-corner-preserved : goal.loop-corner-preserved
 loop-corner-preserved c =
     facet_goes_on c.loop-corner.invariant c.loop-corner-test.true c.settle.ensures c.in-Points.is
-    (record { words_same = c.ws-1.given; corners_same = c.cs-1.given; heads_same = c.heads-1.given; links_same = c.links-1.given })
+    (record { words_same = c.settle.auto.ws; corners_same = c.settle.auto.cs; heads_same = c.settle.auto.heads; links_same = c.settle.auto.links })
 
 pub returns : goal.returns
 returns c = facet_ends c.loop-corner.invariant c.loop-corner-test.false

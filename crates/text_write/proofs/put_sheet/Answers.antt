@@ -28,10 +28,10 @@ put_count-second-requires c =
 
 pub put_triangles-requires : goal.put_triangles-requires
 put_triangles-requires c =
-    (
-      (corners_whole c.requires.0 c.of-sheet.ensures, corners_served c.requires.0 c.of-sheet.ensures _ c.number_points.ensures),
-      omega (arith, parts_room c.requires.0 c.of-sheet.ensures, c.put_head-start.ensures.1, c.put_count-first.ensures.1, c.put_points-middle.ensures.1, c.put_count-second.ensures.1),
-    )
+    record {
+      corners_len = (corners_whole c.requires.0 c.of-sheet.ensures, corners_served c.requires.0 c.of-sheet.ensures _ c.number_points.ensures);
+      corners_in_bounds = omega (arith, parts_room c.requires.0 c.of-sheet.ensures, c.put_head-start.ensures.1, c.put_count-first.ensures.1, c.put_points-middle.ensures.1, c.put_count-second.ensures.1);
+    }
 
 pub returns : goal.returns
 returns c = sheet_laid c.requires.0 c.of-sheet.ensures c.put_head-start.ensures c.put_count-first.ensures c.put_points-middle.ensures c.put_count-second.ensures c.put_triangles.ensures

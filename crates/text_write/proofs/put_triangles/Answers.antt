@@ -12,15 +12,14 @@ loop-k-init c = search laying_begins
 
 pub put_triangle-place-requires : goal.put_triangle-place-requires
 put_triangle-place-requires c =
-    (
-      (
+    record {
+      has = (
         served _ _ c.requires.corners_len.1 (3 * c.loop-k.k) (omega arith),
         served _ _ c.requires.corners_len.1 (3 * c.loop-k.k + 1) (omega arith),
-        served _ _
-            c.requires.corners_len.1 (3 * c.loop-k.k + 2) (omega arith),
-      ),
-      putting_room triangles.show _ c.loop-k.k c.loop-k.invariant (omega arith),
-    )
+        served _ _ c.requires.corners_len.1 (3 * c.loop-k.k + 2) (omega arith),
+      );
+      c_in_bounds = putting_room triangles.show _ c.loop-k.k c.loop-k.invariant (omega arith);
+    }
 
 pub loop-k-preserved : goal.loop-k-preserved
 loop-k-preserved c =
