@@ -1,3 +1,2 @@
 // Definitions and theorems only: which loop of a piece is its rim.
 #![tactic(auto)]
-

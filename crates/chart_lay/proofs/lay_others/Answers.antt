@@ -85,7 +85,7 @@ loop-l-smaller c = laws.going_on c.requires c.loop-l.invariant c.loop-l-test.tru
 pub loop-l-preserved : goal.loop-l-preserved
 loop-l-preserved c =
     elim c.if-is_stamped.branch [
-      then-is_stamped w ↦
+      | then-is_stamped w ↦
           laws.walking_same w.lakes-is w.report-is w.at-is w.kept-is (laws.walking_pool c.requires c.loop-l.invariant c.loop-l-test.true c.is_stamped.ensures w.if-is_stamped.true w.lay_entry.ensures)
       | else-is_stamped w ↦
           laws.walking_same w.lakes-is w.report-is w.at-is w.kept-is (laws.walking_lake c.requires c.loop-l.invariant c.loop-l-test.true c.is_stamped.ensures w.if-is_stamped.false)

@@ -39,38 +39,59 @@ bounds-stamps-ends c = (walk_inside c.loop-e.invariant c.loop-e-test.true).2
 
 pub overflow_cast-p : goal.overflow_cast-p
 overflow_cast-p c =
-    omega (arith, (let it : (get_or c.args.stamps.now (get_or c.args.ends.now (c.loop-e.e - 1) 0) 0 - c.args.base < limits.longest) × (c.args.j < limits.longest) = let p = c.requires in
-    (omega (arith, walk_place c.loop-e.invariant c.loop-e-test.true c.if-base-s.true, p.0.short), omega (arith, p.1, p.0.short)) in it))
+    omega (
+      arith,
+      (let it : (get_or c.args.stamps.now (get_or c.args.ends.now (c.loop-e.e - 1) 0) 0 - c.args.base < limits.longest) × (c.args.j < limits.longest) = let p = c.requires in
+          (omega (arith, walk_place c.loop-e.invariant c.loop-e-test.true c.if-base-s.true, p.0.short), omega (arith, p.1, p.0.short)) in it),
+    )
 
 pub overflow_shl-rows : goal.overflow_shl-rows
 overflow_shl-rows c =
-    omega (arith, (let it : (get_or c.args.stamps.now (get_or c.args.ends.now (c.loop-e.e - 1) 0) 0 - c.args.base < limits.longest) × (c.args.j < limits.longest) = let p = c.requires in
-    (omega (arith, walk_place c.loop-e.invariant c.loop-e-test.true c.if-base-s.true, p.0.short), omega (arith, p.1, p.0.short)) in it))
+    omega (
+      arith,
+      (let it : (get_or c.args.stamps.now (get_or c.args.ends.now (c.loop-e.e - 1) 0) 0 - c.args.base < limits.longest) × (c.args.j < limits.longest) = let p = c.requires in
+          (omega (arith, walk_place c.loop-e.invariant c.loop-e-test.true c.if-base-s.true, p.0.short), omega (arith, p.1, p.0.short)) in it),
+    )
 
 pub offset_bounds-rows-p : goal.offset_bounds-rows-p
 offset_bounds-rows-p c =
-    omega (arith, (let it : (get_or c.args.stamps.now (get_or c.args.ends.now (c.loop-e.e - 1) 0) 0 - c.args.base < limits.longest) × (c.args.j < limits.longest) = let p = c.requires in
-    (omega (arith, walk_place c.loop-e.invariant c.loop-e-test.true c.if-base-s.true, p.0.short), omega (arith, p.1, p.0.short)) in it))
+    omega (
+      arith,
+      (let it : (get_or c.args.stamps.now (get_or c.args.ends.now (c.loop-e.e - 1) 0) 0 - c.args.base < limits.longest) × (c.args.j < limits.longest) = let p = c.requires in
+          (omega (arith, walk_place c.loop-e.invariant c.loop-e-test.true c.if-base-s.true, p.0.short), omega (arith, p.1, p.0.short)) in it),
+    )
 
 pub bounds-rows-p : goal.bounds-rows-p
 bounds-rows-p c =
-    omega (arith, (let it : (get_or c.args.stamps.now (get_or c.args.ends.now (c.loop-e.e - 1) 0) 0 - c.args.base < limits.longest) × (c.args.j < limits.longest) = let p = c.requires in
-    (omega (arith, walk_place c.loop-e.invariant c.loop-e-test.true c.if-base-s.true, p.0.short), omega (arith, p.1, p.0.short)) in it))
+    omega (
+      arith,
+      (let it : (get_or c.args.stamps.now (get_or c.args.ends.now (c.loop-e.e - 1) 0) 0 - c.args.base < limits.longest) × (c.args.j < limits.longest) = let p = c.requires in
+          (omega (arith, walk_place c.loop-e.invariant c.loop-e-test.true c.if-base-s.true, p.0.short), omega (arith, p.1, p.0.short)) in it),
+    )
 
 pub overflow_shl-rows-then-base-s : goal.overflow_shl-rows-then-base-s
 overflow_shl-rows-then-base-s c =
-    omega (arith, (let it : (get_or c.args.stamps.now (get_or c.args.ends.now (c.loop-e.e - 1) 0) 0 - c.args.base < limits.longest) × (c.args.j < limits.longest) = let p = c.requires in
-    (omega (arith, walk_place c.loop-e.invariant c.loop-e-test.true c.if-base-s.true, p.0.short), omega (arith, p.1, p.0.short)) in it))
+    omega (
+      arith,
+      (let it : (get_or c.args.stamps.now (get_or c.args.ends.now (c.loop-e.e - 1) 0) 0 - c.args.base < limits.longest) × (c.args.j < limits.longest) = let p = c.requires in
+          (omega (arith, walk_place c.loop-e.invariant c.loop-e-test.true c.if-base-s.true, p.0.short), omega (arith, p.1, p.0.short)) in it),
+    )
 
 pub offset_bounds-rows-p-then-base-s : goal.offset_bounds-rows-p-then-base-s
 offset_bounds-rows-p-then-base-s c =
-    omega (arith, (let it : (get_or c.args.stamps.now (get_or c.args.ends.now (c.loop-e.e - 1) 0) 0 - c.args.base < limits.longest) × (c.args.j < limits.longest) = let p = c.requires in
-    (omega (arith, walk_place c.loop-e.invariant c.loop-e-test.true c.if-base-s.true, p.0.short), omega (arith, p.1, p.0.short)) in it))
+    omega (
+      arith,
+      (let it : (get_or c.args.stamps.now (get_or c.args.ends.now (c.loop-e.e - 1) 0) 0 - c.args.base < limits.longest) × (c.args.j < limits.longest) = let p = c.requires in
+          (omega (arith, walk_place c.loop-e.invariant c.loop-e-test.true c.if-base-s.true, p.0.short), omega (arith, p.1, p.0.short)) in it),
+    )
 
 pub bounds-rows-p-then-base-s : goal.bounds-rows-p-then-base-s
 bounds-rows-p-then-base-s c =
-    omega (arith, (let it : (get_or c.args.stamps.now (get_or c.args.ends.now (c.loop-e.e - 1) 0) 0 - c.args.base < limits.longest) × (c.args.j < limits.longest) = let p = c.requires in
-    (omega (arith, walk_place c.loop-e.invariant c.loop-e-test.true c.if-base-s.true, p.0.short), omega (arith, p.1, p.0.short)) in it))
+    omega (
+      arith,
+      (let it : (get_or c.args.stamps.now (get_or c.args.ends.now (c.loop-e.e - 1) 0) 0 - c.args.base < limits.longest) × (c.args.j < limits.longest) = let p = c.requires in
+          (omega (arith, walk_place c.loop-e.invariant c.loop-e-test.true c.if-base-s.true, p.0.short), omega (arith, p.1, p.0.short)) in it),
+    )
 
 pub offset_bounds-links-e : goal.offset_bounds-links-e
 offset_bounds-links-e c = omega (arith, walk_inside c.loop-e.invariant c.loop-e-test.true)

@@ -10,13 +10,12 @@ pub loop-k-init : goal.loop-k-init
 loop-k-init c = (omega arith, c.requires.1, refl, refl)
 
 pub loop-k-preserved : goal.loop-k-preserved
-loop-k-preserved c =
-    (
-      search rules,
-      digits_small _ _ c.loop-k-test.true c.loop-k.invariant.1,
-      rw length-set c.loop-k.invariant.2,
-      digits_more _ _ _ _ _ c.loop-k-test.true c.loop-k.invariant.1 (omega arith) c.loop-k.invariant.3,
-    )
+loop-k-preserved c = (
+  search rules,
+  digits_small _ _ c.loop-k-test.true c.loop-k.invariant.1,
+  rw length-set c.loop-k.invariant.2,
+  digits_more _ _ _ _ _ c.loop-k-test.true c.loop-k.invariant.1 (omega arith) c.loop-k.invariant.3,
+)
 
 pub returns : goal.returns
 returns c = search digits_end

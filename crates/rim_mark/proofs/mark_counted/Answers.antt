@@ -16,7 +16,7 @@ pub house-requires : goal.house-requires
 house-requires c = house_room c.requires.found c.number-count.ensures (still_long c.requires.path_long c.number-count.auto.pieces) (still_long (homes_long c.requires.found c.requires.pieces_long) c.number-count.auto.queue)
 
 pub clear-requires : goal.clear-requires
-clear-requires c = clear_room c.requires.found c.number-count.ensures (still_long c.requires.path_long c.number-count.auto.pieces) (still_long c.requires.path_long c.number-count.auto.queue)
+clear-requires c = clear_room c.requires.found c.number-count.ensures (still_long c.requires.path_long c.number-count.auto.pieces) (still_long c.requires.path_long c.number-count.auto.pieces)
 
 pub rank-requires : goal.rank-requires
 rank-requires c =

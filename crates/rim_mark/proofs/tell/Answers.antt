@@ -32,8 +32,8 @@ bounds-marks-l-else-best-homes c = mark_in c.requires c.loop-l.invariant c.loop-
 pub loop-l-preserved : goal.loop-l-preserved
 loop-l-preserved c =
     elim c.if-best-homes.branch [
-      then-best-homes w ↦ told_rim c.requires c.loop-l.invariant c.loop-l-test.true w.if-best-homes.true w.marks-is
-    | else-best-homes w ↦ told_other c.requires c.loop-l.invariant c.loop-l-test.true w.if-best-homes.false w.marks-is
+      | then-best-homes w ↦ told_rim c.requires c.loop-l.invariant c.loop-l-test.true w.if-best-homes.true w.marks-is
+      | else-best-homes w ↦ told_other c.requires c.loop-l.invariant c.loop-l-test.true w.if-best-homes.false w.marks-is
     ]
 
 pub returns : goal.returns

@@ -31,7 +31,7 @@ pub lay_grid-requires : goal.lay_grid-requires
 lay_grid-requires c =
     let e : count_refusal (length c.args.words.now) (length c.args.corners.now) ≡ Done = counts_pass _ _ _ c.check_counts-counted.ensures (sym c.refuses.ensures ∙ c.if-refuses.false) in
     let k : Suited (pitch_of c.args.pitch) c.args.words.now c.args.corners.now c.check-checked.new.turns c.args.grid.now c.args.rings.now c.args.lengths.now =
-        passed_known c.args.pitch e c.check-checked.ensures c.refuses-2.ensures c.if-refuses-2.false
+    passed_known c.args.pitch e c.check-checked.ensures c.refuses-2.ensures c.if-refuses-2.false
     in
     (k.known.on_grid, k.grid_long)
 
@@ -39,7 +39,7 @@ pub list_loops-listed-requires : goal.list_loops-listed-requires
 list_loops-listed-requires c =
     let e : count_refusal (length c.args.words.now) (length c.args.corners.now) ≡ Done = counts_pass _ _ _ c.check_counts-counted.ensures (sym c.refuses.ensures ∙ c.if-refuses.false) in
     let k : Suited (pitch_of c.args.pitch) c.args.words.now c.args.corners.now c.check-checked.new.turns c.args.grid.now c.args.rings.now c.args.lengths.now =
-        passed_known c.args.pitch e c.check-checked.ensures c.refuses-2.ensures c.if-refuses-2.false
+    passed_known c.args.pitch e c.check-checked.ensures c.refuses-2.ensures c.if-refuses-2.false
     in
     ready k.known _ _ _ (le_trans k.known.fits.few_corners (omega arith)) k.rings_long k.lengths_long (enough k.known (lit≤ tt))
 
@@ -47,6 +47,6 @@ pub returns : goal.returns
 returns c =
     let e : count_refusal (length c.args.words.now) (length c.args.corners.now) ≡ Done = counts_pass _ _ _ c.check_counts-counted.ensures (sym c.refuses.ensures ∙ c.if-refuses.false) in
     let k : Suited (pitch_of c.args.pitch) c.args.words.now c.args.corners.now c.check-checked.new.turns c.args.grid.now c.args.rings.now c.args.lengths.now =
-        passed_known c.args.pitch e c.check-checked.ensures c.refuses-2.ensures c.if-refuses-2.false
+    passed_known c.args.pitch e c.check-checked.ensures c.refuses-2.ensures c.if-refuses-2.false
     in
     done_is k c.list_loops-listed.ensures c.lay_grid.ensures

@@ -11,12 +11,11 @@ pub loop-i-init : goal.loop-i-init
 loop-i-init c = (search rules, refl, bytes_begin _ _ _)
 
 pub loop-i-preserved : goal.loop-i-preserved
-loop-i-preserved c =
-    (
-      search rules,
-      rw length-set c.loop-i.invariant.1,
-      bytes_more _ _ _ _ _ c.loop-i-test.true (omega (arith, c.requires, c.loop-i.invariant.1)) c.loop-i.invariant.2,
-    )
+loop-i-preserved c = (
+  search rules,
+  rw length-set c.loop-i.invariant.1,
+  bytes_more _ _ _ _ _ c.loop-i-test.true (omega (arith, c.requires, c.loop-i.invariant.1)) c.loop-i.invariant.2,
+)
 
 pub returns : goal.returns
 returns c = search bytes_end

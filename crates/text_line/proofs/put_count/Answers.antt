@@ -12,8 +12,7 @@ pub put_decimal_ended-requires : goal.put_decimal_ended-requires
 put_decimal_ended-requires c = (search rules, c.four_of.ensures, omega (arith, count_length c.args.key.now c.args.n))
 
 pub returns : goal.returns
-returns c =
-    (
-      search (count_laid, c.requires, c.put_bytes, c.put_decimal_ended),
-      omega (arith, count_length c.args.key.now c.args.n, c.put_decimal_ended.ensures.1),
-    )
+returns c = (
+  search (count_laid, c.requires, c.put_bytes, c.put_decimal_ended),
+  omega (arith, count_length c.args.key.now c.args.n, c.put_decimal_ended.ensures.1),
+)

@@ -19,8 +19,7 @@ pub put_decimal_ended-requires : goal.put_decimal_ended-requires
 put_decimal_ended-requires c = (c.requires.has.2.short, c.requires.has.2.four, omega (arith, (let it : RowRoom c.args.a c.args.b c.args.c c.args.at c.args.buffer.now = row_room in it)))
 
 pub returns : goal.returns
-returns c =
-    (
-      search (triangle_laid, c.requires, c.put_decimal_ended-i, c.put_decimal_ended-j, c.put_decimal_ended),
-      omega (arith, (let it : RowRoom c.args.a c.args.b c.args.c c.args.at c.args.buffer.now = row_room in it), c.put_decimal_ended-i.ensures.1, c.put_decimal_ended-j.ensures.1, c.put_decimal_ended.ensures.1),
-    )
+returns c = (
+  search (triangle_laid, c.requires, c.put_decimal_ended-i, c.put_decimal_ended-j, c.put_decimal_ended),
+  omega (arith, (let it : RowRoom c.args.a c.args.b c.args.c c.args.at c.args.buffer.now = row_room in it), c.put_decimal_ended-i.ensures.1, c.put_decimal_ended-j.ensures.1, c.put_decimal_ended.ensures.1),
+)

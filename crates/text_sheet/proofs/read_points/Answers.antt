@@ -24,65 +24,97 @@ returns-in_default c = going_stuck c.loop-i.invariant.0 c.loop-i-test.true (row_
 
 pub overflow_mul-words : goal.overflow_mul-words
 overflow_mul-words c =
-    omega (arith, (let it : let w = c.loop-i in (3 * w.i + 3 ≤ length w.words) × Fits w64 (length w.words) = let g = c.loop-i.invariant.0 in
-    (next_room point_takes c.args.text.now c.args.at g c.requires.1 c.loop-i-test.true (row_is _ c.point_at.ensures.0 c.in-Row.is), omega (arith, g.same, c.well_formed)) in it))
+    omega (
+      arith,
+      (let it : let w = c.loop-i in (3 * w.i + 3 ≤ length w.words) × Fits w64 (length w.words) = let g = c.loop-i.invariant.0 in
+          (next_room point_takes c.args.text.now c.args.at g c.requires.1 c.loop-i-test.true (row_is _ c.point_at.ensures.0 c.in-Row.is), omega (arith, g.same, c.well_formed)) in it),
+    )
 
 pub offset_bounds-words-i : goal.offset_bounds-words-i
 offset_bounds-words-i c =
-    omega (arith, (let it : let w = c.loop-i in (3 * w.i + 3 ≤ length w.words) × Fits w64 (length w.words) = let g = c.loop-i.invariant.0 in
-    (next_room point_takes c.args.text.now c.args.at g c.requires.1 c.loop-i-test.true (row_is _ c.point_at.ensures.0 c.in-Row.is), omega (arith, g.same, c.well_formed)) in it))
+    omega (
+      arith,
+      (let it : let w = c.loop-i in (3 * w.i + 3 ≤ length w.words) × Fits w64 (length w.words) = let g = c.loop-i.invariant.0 in
+          (next_room point_takes c.args.text.now c.args.at g c.requires.1 c.loop-i-test.true (row_is _ c.point_at.ensures.0 c.in-Row.is), omega (arith, g.same, c.well_formed)) in it),
+    )
 
 pub bounds-words-i : goal.bounds-words-i
 bounds-words-i c =
-    omega (arith, (let it : let w = c.loop-i in (3 * w.i + 3 ≤ length w.words) × Fits w64 (length w.words) = let g = c.loop-i.invariant.0 in
-    (next_room point_takes c.args.text.now c.args.at g c.requires.1 c.loop-i-test.true (row_is _ c.point_at.ensures.0 c.in-Row.is), omega (arith, g.same, c.well_formed)) in it))
+    omega (
+      arith,
+      (let it : let w = c.loop-i in (3 * w.i + 3 ≤ length w.words) × Fits w64 (length w.words) = let g = c.loop-i.invariant.0 in
+          (next_room point_takes c.args.text.now c.args.at g c.requires.1 c.loop-i-test.true (row_is _ c.point_at.ensures.0 c.in-Row.is), omega (arith, g.same, c.well_formed)) in it),
+    )
 
 pub overflow_mul-words-in-loop-i : goal.overflow_mul-words-in-loop-i
 overflow_mul-words-in-loop-i c =
-    omega (arith, (let it : let w = c.loop-i in (3 * w.i + 3 ≤ length w.words) × Fits w64 (length w.words) = let g = c.loop-i.invariant.0 in
-    (next_room point_takes c.args.text.now c.args.at g c.requires.1 c.loop-i-test.true (row_is _ c.point_at.ensures.0 c.in-Row.is), omega (arith, g.same, c.well_formed)) in it))
+    omega (
+      arith,
+      (let it : let w = c.loop-i in (3 * w.i + 3 ≤ length w.words) × Fits w64 (length w.words) = let g = c.loop-i.invariant.0 in
+          (next_room point_takes c.args.text.now c.args.at g c.requires.1 c.loop-i-test.true (row_is _ c.point_at.ensures.0 c.in-Row.is), omega (arith, g.same, c.well_formed)) in it),
+    )
 
 pub overflow_add-words : goal.overflow_add-words
 overflow_add-words c =
-    omega (arith, (let it : let w = c.loop-i in (3 * w.i + 3 ≤ length w.words) × Fits w64 (length w.words) = let g = c.loop-i.invariant.0 in
-    (next_room point_takes c.args.text.now c.args.at g c.requires.1 c.loop-i-test.true (row_is _ c.point_at.ensures.0 c.in-Row.is), omega (arith, g.same, c.well_formed)) in it))
+    omega (
+      arith,
+      (let it : let w = c.loop-i in (3 * w.i + 3 ≤ length w.words) × Fits w64 (length w.words) = let g = c.loop-i.invariant.0 in
+          (next_room point_takes c.args.text.now c.args.at g c.requires.1 c.loop-i-test.true (row_is _ c.point_at.ensures.0 c.in-Row.is), omega (arith, g.same, c.well_formed)) in it),
+    )
 
 pub offset_bounds-words-i-in-loop-i : goal.offset_bounds-words-i-in-loop-i
 offset_bounds-words-i-in-loop-i c =
-    omega (arith, (let it : let w = c.loop-i in (3 * w.i + 3 ≤ length w.words) × Fits w64 (length w.words) = let g = c.loop-i.invariant.0 in
-    (next_room point_takes c.args.text.now c.args.at g c.requires.1 c.loop-i-test.true (row_is _ c.point_at.ensures.0 c.in-Row.is), omega (arith, g.same, c.well_formed)) in it))
+    omega (
+      arith,
+      (let it : let w = c.loop-i in (3 * w.i + 3 ≤ length w.words) × Fits w64 (length w.words) = let g = c.loop-i.invariant.0 in
+          (next_room point_takes c.args.text.now c.args.at g c.requires.1 c.loop-i-test.true (row_is _ c.point_at.ensures.0 c.in-Row.is), omega (arith, g.same, c.well_formed)) in it),
+    )
 
 pub bounds-words-i-in-loop-i : goal.bounds-words-i-in-loop-i
 bounds-words-i-in-loop-i c =
-    simp length-set (omega (arith, (let it : let w = c.loop-i in (3 * w.i + 3 ≤ length w.words) × Fits w64 (length w.words) = let g = c.loop-i.invariant.0 in
-    (next_room point_takes c.args.text.now c.args.at g c.requires.1 c.loop-i-test.true (row_is _ c.point_at.ensures.0 c.in-Row.is), omega (arith, g.same, c.well_formed)) in it)))
+    simp length-set (omega (
+      arith,
+      (let it : let w = c.loop-i in (3 * w.i + 3 ≤ length w.words) × Fits w64 (length w.words) = let g = c.loop-i.invariant.0 in
+          (next_room point_takes c.args.text.now c.args.at g c.requires.1 c.loop-i-test.true (row_is _ c.point_at.ensures.0 c.in-Row.is), omega (arith, g.same, c.well_formed)) in it),
+    ))
 
 pub overflow_mul-words-in-loop-i-2 : goal.overflow_mul-words-in-loop-i-2
 overflow_mul-words-in-loop-i-2 c =
-    omega (arith, (let it : let w = c.loop-i in (3 * w.i + 3 ≤ length w.words) × Fits w64 (length w.words) = let g = c.loop-i.invariant.0 in
-    (next_room point_takes c.args.text.now c.args.at g c.requires.1 c.loop-i-test.true (row_is _ c.point_at.ensures.0 c.in-Row.is), omega (arith, g.same, c.well_formed)) in it))
+    omega (
+      arith,
+      (let it : let w = c.loop-i in (3 * w.i + 3 ≤ length w.words) × Fits w64 (length w.words) = let g = c.loop-i.invariant.0 in
+          (next_room point_takes c.args.text.now c.args.at g c.requires.1 c.loop-i-test.true (row_is _ c.point_at.ensures.0 c.in-Row.is), omega (arith, g.same, c.well_formed)) in it),
+    )
 
 pub overflow_add-words-in-loop-i : goal.overflow_add-words-in-loop-i
 overflow_add-words-in-loop-i c =
-    omega (arith, (let it : let w = c.loop-i in (3 * w.i + 3 ≤ length w.words) × Fits w64 (length w.words) = let g = c.loop-i.invariant.0 in
-    (next_room point_takes c.args.text.now c.args.at g c.requires.1 c.loop-i-test.true (row_is _ c.point_at.ensures.0 c.in-Row.is), omega (arith, g.same, c.well_formed)) in it))
+    omega (
+      arith,
+      (let it : let w = c.loop-i in (3 * w.i + 3 ≤ length w.words) × Fits w64 (length w.words) = let g = c.loop-i.invariant.0 in
+          (next_room point_takes c.args.text.now c.args.at g c.requires.1 c.loop-i-test.true (row_is _ c.point_at.ensures.0 c.in-Row.is), omega (arith, g.same, c.well_formed)) in it),
+    )
 
 pub offset_bounds-words-i-in-loop-i-2 : goal.offset_bounds-words-i-in-loop-i-2
 offset_bounds-words-i-in-loop-i-2 c =
-    omega (arith, (let it : let w = c.loop-i in (3 * w.i + 3 ≤ length w.words) × Fits w64 (length w.words) = let g = c.loop-i.invariant.0 in
-    (next_room point_takes c.args.text.now c.args.at g c.requires.1 c.loop-i-test.true (row_is _ c.point_at.ensures.0 c.in-Row.is), omega (arith, g.same, c.well_formed)) in it))
+    omega (
+      arith,
+      (let it : let w = c.loop-i in (3 * w.i + 3 ≤ length w.words) × Fits w64 (length w.words) = let g = c.loop-i.invariant.0 in
+          (next_room point_takes c.args.text.now c.args.at g c.requires.1 c.loop-i-test.true (row_is _ c.point_at.ensures.0 c.in-Row.is), omega (arith, g.same, c.well_formed)) in it),
+    )
 
 pub bounds-words-i-in-loop-i-2 : goal.bounds-words-i-in-loop-i-2
 bounds-words-i-in-loop-i-2 c =
-    simp length-set (omega (arith, (let it : let w = c.loop-i in (3 * w.i + 3 ≤ length w.words) × Fits w64 (length w.words) = let g = c.loop-i.invariant.0 in
-    (next_room point_takes c.args.text.now c.args.at g c.requires.1 c.loop-i-test.true (row_is _ c.point_at.ensures.0 c.in-Row.is), omega (arith, g.same, c.well_formed)) in it)))
+    simp length-set (omega (
+      arith,
+      (let it : let w = c.loop-i in (3 * w.i + 3 ≤ length w.words) × Fits w64 (length w.words) = let g = c.loop-i.invariant.0 in
+          (next_room point_takes c.args.text.now c.args.at g c.requires.1 c.loop-i-test.true (row_is _ c.point_at.ensures.0 c.in-Row.is), omega (arith, g.same, c.well_formed)) in it),
+    ))
 
 pub loop-i-preserved : goal.loop-i-preserved
-loop-i-preserved c =
-    (
-      next_going point_takes c.args.text.now c.args.at c.loop-i.invariant.0 c.requires.1 c.loop-i-test.true (row_is _ c.point_at.ensures.0 c.in-Row.is),
-      row_by c.point_at.ensures.1 c.in-Row.is,
-    )
+loop-i-preserved c = (
+  next_going point_takes c.args.text.now c.args.at c.loop-i.invariant.0 c.requires.1 c.loop-i-test.true (row_is _ c.point_at.ensures.0 c.in-Row.is),
+  row_by c.point_at.ensures.1 c.in-Row.is,
+)
 
 pub returns : goal.returns
 returns c = going_ends c.loop-i.invariant.0 c.loop-i-test.false c.loop-i.invariant.1

@@ -26,71 +26,103 @@ overflow_cast-corners c = omega (arith, ((let it : Every (λ c. c < limits.point
 
 pub overflow_mul-corners : goal.overflow_mul-corners
 overflow_mul-corners c =
-    omega (arith, (let it : let w = c.loop-i in (3 * w.i + 3 ≤ length w.corners) × Fits w64 (length w.corners) = let g = c.loop-i.invariant.0 in
-    (next_room triangle_takes c.args.text.now c.args.at g c.requires.1 c.loop-i-test.true (row_is _ c.triangle_at.ensures.0 c.in-Row.is), omega (arith, g.same, c.well_formed)) in it))
+    omega (
+      arith,
+      (let it : let w = c.loop-i in (3 * w.i + 3 ≤ length w.corners) × Fits w64 (length w.corners) = let g = c.loop-i.invariant.0 in
+          (next_room triangle_takes c.args.text.now c.args.at g c.requires.1 c.loop-i-test.true (row_is _ c.triangle_at.ensures.0 c.in-Row.is), omega (arith, g.same, c.well_formed)) in it),
+    )
 
 pub offset_bounds-corners-i : goal.offset_bounds-corners-i
 offset_bounds-corners-i c =
-    omega (arith, (let it : let w = c.loop-i in (3 * w.i + 3 ≤ length w.corners) × Fits w64 (length w.corners) = let g = c.loop-i.invariant.0 in
-    (next_room triangle_takes c.args.text.now c.args.at g c.requires.1 c.loop-i-test.true (row_is _ c.triangle_at.ensures.0 c.in-Row.is), omega (arith, g.same, c.well_formed)) in it))
+    omega (
+      arith,
+      (let it : let w = c.loop-i in (3 * w.i + 3 ≤ length w.corners) × Fits w64 (length w.corners) = let g = c.loop-i.invariant.0 in
+          (next_room triangle_takes c.args.text.now c.args.at g c.requires.1 c.loop-i-test.true (row_is _ c.triangle_at.ensures.0 c.in-Row.is), omega (arith, g.same, c.well_formed)) in it),
+    )
 
 pub bounds-corners-i : goal.bounds-corners-i
 bounds-corners-i c =
-    omega (arith, (let it : let w = c.loop-i in (3 * w.i + 3 ≤ length w.corners) × Fits w64 (length w.corners) = let g = c.loop-i.invariant.0 in
-    (next_room triangle_takes c.args.text.now c.args.at g c.requires.1 c.loop-i-test.true (row_is _ c.triangle_at.ensures.0 c.in-Row.is), omega (arith, g.same, c.well_formed)) in it))
+    omega (
+      arith,
+      (let it : let w = c.loop-i in (3 * w.i + 3 ≤ length w.corners) × Fits w64 (length w.corners) = let g = c.loop-i.invariant.0 in
+          (next_room triangle_takes c.args.text.now c.args.at g c.requires.1 c.loop-i-test.true (row_is _ c.triangle_at.ensures.0 c.in-Row.is), omega (arith, g.same, c.well_formed)) in it),
+    )
 
 pub overflow_cast-corners-in-loop-i : goal.overflow_cast-corners-in-loop-i
 overflow_cast-corners-in-loop-i c = omega (arith, ((let it : Every (λ c. c < limits.points) (three c.in-Row.a c.in-Row.b c.in-Row.c) = triangle_small _ _ _ (row_is _ c.triangle_at.ensures.0 c.in-Row.is) in it)).second_has)
 
 pub overflow_mul-corners-in-loop-i : goal.overflow_mul-corners-in-loop-i
 overflow_mul-corners-in-loop-i c =
-    omega (arith, (let it : let w = c.loop-i in (3 * w.i + 3 ≤ length w.corners) × Fits w64 (length w.corners) = let g = c.loop-i.invariant.0 in
-    (next_room triangle_takes c.args.text.now c.args.at g c.requires.1 c.loop-i-test.true (row_is _ c.triangle_at.ensures.0 c.in-Row.is), omega (arith, g.same, c.well_formed)) in it))
+    omega (
+      arith,
+      (let it : let w = c.loop-i in (3 * w.i + 3 ≤ length w.corners) × Fits w64 (length w.corners) = let g = c.loop-i.invariant.0 in
+          (next_room triangle_takes c.args.text.now c.args.at g c.requires.1 c.loop-i-test.true (row_is _ c.triangle_at.ensures.0 c.in-Row.is), omega (arith, g.same, c.well_formed)) in it),
+    )
 
 pub overflow_add-corners : goal.overflow_add-corners
 overflow_add-corners c =
-    omega (arith, (let it : let w = c.loop-i in (3 * w.i + 3 ≤ length w.corners) × Fits w64 (length w.corners) = let g = c.loop-i.invariant.0 in
-    (next_room triangle_takes c.args.text.now c.args.at g c.requires.1 c.loop-i-test.true (row_is _ c.triangle_at.ensures.0 c.in-Row.is), omega (arith, g.same, c.well_formed)) in it))
+    omega (
+      arith,
+      (let it : let w = c.loop-i in (3 * w.i + 3 ≤ length w.corners) × Fits w64 (length w.corners) = let g = c.loop-i.invariant.0 in
+          (next_room triangle_takes c.args.text.now c.args.at g c.requires.1 c.loop-i-test.true (row_is _ c.triangle_at.ensures.0 c.in-Row.is), omega (arith, g.same, c.well_formed)) in it),
+    )
 
 pub offset_bounds-corners-i-in-loop-i : goal.offset_bounds-corners-i-in-loop-i
 offset_bounds-corners-i-in-loop-i c =
-    omega (arith, (let it : let w = c.loop-i in (3 * w.i + 3 ≤ length w.corners) × Fits w64 (length w.corners) = let g = c.loop-i.invariant.0 in
-    (next_room triangle_takes c.args.text.now c.args.at g c.requires.1 c.loop-i-test.true (row_is _ c.triangle_at.ensures.0 c.in-Row.is), omega (arith, g.same, c.well_formed)) in it))
+    omega (
+      arith,
+      (let it : let w = c.loop-i in (3 * w.i + 3 ≤ length w.corners) × Fits w64 (length w.corners) = let g = c.loop-i.invariant.0 in
+          (next_room triangle_takes c.args.text.now c.args.at g c.requires.1 c.loop-i-test.true (row_is _ c.triangle_at.ensures.0 c.in-Row.is), omega (arith, g.same, c.well_formed)) in it),
+    )
 
 pub bounds-corners-i-in-loop-i : goal.bounds-corners-i-in-loop-i
 bounds-corners-i-in-loop-i c =
-    simp length-set (omega (arith, (let it : let w = c.loop-i in (3 * w.i + 3 ≤ length w.corners) × Fits w64 (length w.corners) = let g = c.loop-i.invariant.0 in
-    (next_room triangle_takes c.args.text.now c.args.at g c.requires.1 c.loop-i-test.true (row_is _ c.triangle_at.ensures.0 c.in-Row.is), omega (arith, g.same, c.well_formed)) in it)))
+    simp length-set (omega (
+      arith,
+      (let it : let w = c.loop-i in (3 * w.i + 3 ≤ length w.corners) × Fits w64 (length w.corners) = let g = c.loop-i.invariant.0 in
+          (next_room triangle_takes c.args.text.now c.args.at g c.requires.1 c.loop-i-test.true (row_is _ c.triangle_at.ensures.0 c.in-Row.is), omega (arith, g.same, c.well_formed)) in it),
+    ))
 
 pub overflow_cast-corners-in-loop-i-2 : goal.overflow_cast-corners-in-loop-i-2
 overflow_cast-corners-in-loop-i-2 c = omega (arith, ((let it : Every (λ c. c < limits.points) (three c.in-Row.a c.in-Row.b c.in-Row.c) = triangle_small _ _ _ (row_is _ c.triangle_at.ensures.0 c.in-Row.is) in it)).third_has)
 
 pub overflow_mul-corners-in-loop-i-2 : goal.overflow_mul-corners-in-loop-i-2
 overflow_mul-corners-in-loop-i-2 c =
-    omega (arith, (let it : let w = c.loop-i in (3 * w.i + 3 ≤ length w.corners) × Fits w64 (length w.corners) = let g = c.loop-i.invariant.0 in
-    (next_room triangle_takes c.args.text.now c.args.at g c.requires.1 c.loop-i-test.true (row_is _ c.triangle_at.ensures.0 c.in-Row.is), omega (arith, g.same, c.well_formed)) in it))
+    omega (
+      arith,
+      (let it : let w = c.loop-i in (3 * w.i + 3 ≤ length w.corners) × Fits w64 (length w.corners) = let g = c.loop-i.invariant.0 in
+          (next_room triangle_takes c.args.text.now c.args.at g c.requires.1 c.loop-i-test.true (row_is _ c.triangle_at.ensures.0 c.in-Row.is), omega (arith, g.same, c.well_formed)) in it),
+    )
 
 pub overflow_add-corners-in-loop-i : goal.overflow_add-corners-in-loop-i
 overflow_add-corners-in-loop-i c =
-    omega (arith, (let it : let w = c.loop-i in (3 * w.i + 3 ≤ length w.corners) × Fits w64 (length w.corners) = let g = c.loop-i.invariant.0 in
-    (next_room triangle_takes c.args.text.now c.args.at g c.requires.1 c.loop-i-test.true (row_is _ c.triangle_at.ensures.0 c.in-Row.is), omega (arith, g.same, c.well_formed)) in it))
+    omega (
+      arith,
+      (let it : let w = c.loop-i in (3 * w.i + 3 ≤ length w.corners) × Fits w64 (length w.corners) = let g = c.loop-i.invariant.0 in
+          (next_room triangle_takes c.args.text.now c.args.at g c.requires.1 c.loop-i-test.true (row_is _ c.triangle_at.ensures.0 c.in-Row.is), omega (arith, g.same, c.well_formed)) in it),
+    )
 
 pub offset_bounds-corners-i-in-loop-i-2 : goal.offset_bounds-corners-i-in-loop-i-2
 offset_bounds-corners-i-in-loop-i-2 c =
-    omega (arith, (let it : let w = c.loop-i in (3 * w.i + 3 ≤ length w.corners) × Fits w64 (length w.corners) = let g = c.loop-i.invariant.0 in
-    (next_room triangle_takes c.args.text.now c.args.at g c.requires.1 c.loop-i-test.true (row_is _ c.triangle_at.ensures.0 c.in-Row.is), omega (arith, g.same, c.well_formed)) in it))
+    omega (
+      arith,
+      (let it : let w = c.loop-i in (3 * w.i + 3 ≤ length w.corners) × Fits w64 (length w.corners) = let g = c.loop-i.invariant.0 in
+          (next_room triangle_takes c.args.text.now c.args.at g c.requires.1 c.loop-i-test.true (row_is _ c.triangle_at.ensures.0 c.in-Row.is), omega (arith, g.same, c.well_formed)) in it),
+    )
 
 pub bounds-corners-i-in-loop-i-2 : goal.bounds-corners-i-in-loop-i-2
 bounds-corners-i-in-loop-i-2 c =
-    simp length-set (omega (arith, (let it : let w = c.loop-i in (3 * w.i + 3 ≤ length w.corners) × Fits w64 (length w.corners) = let g = c.loop-i.invariant.0 in
-    (next_room triangle_takes c.args.text.now c.args.at g c.requires.1 c.loop-i-test.true (row_is _ c.triangle_at.ensures.0 c.in-Row.is), omega (arith, g.same, c.well_formed)) in it)))
+    simp length-set (omega (
+      arith,
+      (let it : let w = c.loop-i in (3 * w.i + 3 ≤ length w.corners) × Fits w64 (length w.corners) = let g = c.loop-i.invariant.0 in
+          (next_room triangle_takes c.args.text.now c.args.at g c.requires.1 c.loop-i-test.true (row_is _ c.triangle_at.ensures.0 c.in-Row.is), omega (arith, g.same, c.well_formed)) in it),
+    ))
 
 pub loop-i-preserved : goal.loop-i-preserved
-loop-i-preserved c =
-    (
-      next_going triangle_takes c.args.text.now c.args.at c.loop-i.invariant.0 c.requires.1 c.loop-i-test.true (row_is _ c.triangle_at.ensures.0 c.in-Row.is),
-      row_by c.triangle_at.ensures.1 c.in-Row.is,
-    )
+loop-i-preserved c = (
+  next_going triangle_takes c.args.text.now c.args.at c.loop-i.invariant.0 c.requires.1 c.loop-i-test.true (row_is _ c.triangle_at.ensures.0 c.in-Row.is),
+  row_by c.triangle_at.ensures.1 c.in-Row.is,
+)
 
 pub returns : goal.returns
 returns c = going_ends c.loop-i.invariant.0 c.loop-i-test.false c.loop-i.invariant.1

@@ -14,12 +14,11 @@ pub bounds-fours-i : goal.bounds-fours-i
 bounds-fours-i c = omega (arith, c.loop-i.invariant.1, c.requires.1)
 
 pub loop-i-preserved : goal.loop-i-preserved
-loop-i-preserved c =
-    (
-      search rules,
-      length-set c.loop-i.fours c.loop-i.i c.four_of.result ∙ c.loop-i.invariant.1,
-      number_more _ _ _ (omega (arith, c.loop-i.invariant.1, c.requires.1)) (omega arith) c.four_of.ensures c.loop-i.invariant.2,
-    )
+loop-i-preserved c = (
+  search rules,
+  length-set c.loop-i.fours c.loop-i.i c.four_of.result ∙ c.loop-i.invariant.1,
+  number_more _ _ _ (omega (arith, c.loop-i.invariant.1, c.requires.1)) (omega arith) c.four_of.ensures c.loop-i.invariant.2,
+)
 
 pub returns : goal.returns
 returns c = search number_end

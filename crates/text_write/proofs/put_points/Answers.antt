@@ -17,17 +17,16 @@ pub loop-k-init : goal.loop-k-init
 loop-k-init c = search laying_begins
 
 pub put_point-requires : goal.put_point-requires
-put_point-requires c =
-    (
-      omega (
-        arith,
-        putting_room points.show c.args.words.now c.loop-k.k c.loop-k.invariant (omega arith),
-        point_length
-            (three (get_or c.args.words.now (3 * c.loop-k.k) 0) (get_or c.args.words.now (3 * c.loop-k.k + 1) 0)
-            (get_or c.args.words.now (3 * c.loop-k.k + 2) 0)),
-      ),
-      c.spell_bytes.ensures,
-    )
+put_point-requires c = (
+  omega (
+    arith,
+    putting_room points.show c.args.words.now c.loop-k.k c.loop-k.invariant (omega arith),
+    point_length
+        (three (get_or c.args.words.now (3 * c.loop-k.k) 0) (get_or c.args.words.now (3 * c.loop-k.k + 1) 0)
+        (get_or c.args.words.now (3 * c.loop-k.k + 2) 0)),
+  ),
+  c.spell_bytes.ensures,
+)
 
 pub overflow_add-place : goal.overflow_add-place
 overflow_add-place c =

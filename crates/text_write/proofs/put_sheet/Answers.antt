@@ -13,18 +13,16 @@ pub put_count-first-requires : goal.put_count-first-requires
 put_count-first-requires c = (omega (arith, points_few c.requires.0 c.of-sheet.ensures), omega (arith, parts_room c.requires.0 c.of-sheet.ensures, c.put_head-start.ensures.1))
 
 pub put_points-middle-requires : goal.put_points-middle-requires
-put_points-middle-requires c =
-    (
-      words_whole c.requires.0 c.of-sheet.ensures,
-      omega (arith, parts_room c.requires.0 c.of-sheet.ensures, c.put_head-start.ensures.1, c.put_count-first.ensures.1),
-    )
+put_points-middle-requires c = (
+  words_whole c.requires.0 c.of-sheet.ensures,
+  omega (arith, parts_room c.requires.0 c.of-sheet.ensures, c.put_head-start.ensures.1, c.put_count-first.ensures.1),
+)
 
 pub put_count-second-requires : goal.put_count-second-requires
-put_count-second-requires c =
-    (
-      omega (arith, triangles_few c.requires.0 c.of-sheet.ensures),
-      omega (arith, parts_room c.requires.0 c.of-sheet.ensures, c.put_head-start.ensures.1, c.put_count-first.ensures.1, c.put_points-middle.ensures.1),
-    )
+put_count-second-requires c = (
+  omega (arith, triangles_few c.requires.0 c.of-sheet.ensures),
+  omega (arith, parts_room c.requires.0 c.of-sheet.ensures, c.put_head-start.ensures.1, c.put_count-first.ensures.1, c.put_points-middle.ensures.1),
+)
 
 pub put_triangles-requires : goal.put_triangles-requires
 put_triangles-requires c =

@@ -28,7 +28,7 @@ counted_here c =
     (pitch_here c.args.pitch c.in_default.field-0 c.of.ensures c.in_default.is)
     _ c.check_counts-counts.ensures (sym c.refuses.ensures ∙ c.if-refuses.false) c.of-sheet.ensures.0
 
--- there is room, and every corner names a point
+-- there is room
 roomy_here : (c : Else-not-has_room) → let a = c.args in Roomy a.pitch a.words.now a.corners.now a.text.now
 roomy_here c =
     roomy _ _ _ _ (pitch_here c.args.pitch c.in_default.field-0 c.of.ensures c.in_default.is)
@@ -47,11 +47,10 @@ pub head_bytes-requires : goal.head_bytes-requires
 head_bytes-requires c = pitch_here c.args.pitch c.in_default.field-0 c.of.ensures c.in_default.is
 
 pub has_room-requires : goal.has_room-requires
-has_room-requires c =
-    (
-      counted_here (goal.at.has_room-requires c).After-of-sheet,
-      omega (arith, c.head_bytes.ensures, head_most c.args.pitch (pitch_here c.args.pitch c.in_default.field-0 c.of.ensures c.in_default.is)),
-    )
+has_room-requires c = (
+  counted_here (goal.at.has_room-requires c).After-of-sheet,
+  omega (arith, c.head_bytes.ensures, head_most c.args.pitch (pitch_here c.args.pitch c.in_default.field-0 c.of.ensures c.in_default.is)),
+)
 
 pub returns-then-not-has_room : goal.returns-then-not-has_room
 returns-then-not-has_room c =
