@@ -1,6 +1,4 @@
 -- The stretch of each triangle's seat is chained.
-use Prim.Native.Nat.{◌-◌, ◌<◌}
-use lib.ListN.{length}
 use Rattle.judge_chain.proofs.Laws.Chained.{chaining_begins, chaining_room, chaining_stops, chaining_inside, chaining_chain, chaining_more, chaining_ends}
 use native.Mathlib.Omega.{arith}
 use Rattle.judge_chain.proofs.chain_cover.Goals as goal
@@ -15,16 +13,16 @@ pub returns-in_default : goal.returns-in_default
 returns-in_default c = chaining_stops c.loop-q.invariant c.loop-q-test.true c.seat_at-seat.ensures c.in_default.is
 
 pub offset_bounds-ring-from : goal.offset_bounds-ring-from
-offset_bounds-ring-from c = omega (arith, (let it : (c.in-Of.from < c.in-Of.field-2) × (c.in-Of.field-2 < c.in-Of.to) × (c.in-Of.to < length c.args.ring.now) = chaining_inside c.loop-q.invariant c.loop-q-test.true c.seat_at-seat.ensures c.in-Of.is in it))
+offset_bounds-ring-from c = omega (arith, chaining_inside c.loop-q.invariant c.loop-q-test.true c.seat_at-seat.ensures c.in-Of.is)
 
 pub bounds-ring-from : goal.bounds-ring-from
-bounds-ring-from c = omega (arith, (let it : (c.in-Of.from < c.in-Of.field-2) × (c.in-Of.field-2 < c.in-Of.to) × (c.in-Of.to < length c.args.ring.now) = chaining_inside c.loop-q.invariant c.loop-q-test.true c.seat_at-seat.ensures c.in-Of.is in it))
+bounds-ring-from c = omega (arith, chaining_inside c.loop-q.invariant c.loop-q-test.true c.seat_at-seat.ensures c.in-Of.is)
 
 pub offset_bounds-ring-to : goal.offset_bounds-ring-to
-offset_bounds-ring-to c = omega (arith, (let it : (c.in-Of.from < c.in-Of.field-2) × (c.in-Of.field-2 < c.in-Of.to) × (c.in-Of.to < length c.args.ring.now) = chaining_inside c.loop-q.invariant c.loop-q-test.true c.seat_at-seat.ensures c.in-Of.is in it))
+offset_bounds-ring-to c = omega (arith, chaining_inside c.loop-q.invariant c.loop-q-test.true c.seat_at-seat.ensures c.in-Of.is)
 
 pub bounds-ring-to : goal.bounds-ring-to
-bounds-ring-to c = omega (arith, (let it : (c.in-Of.from < c.in-Of.field-2) × (c.in-Of.field-2 < c.in-Of.to) × (c.in-Of.to < length c.args.ring.now) = chaining_inside c.loop-q.invariant c.loop-q-test.true c.seat_at-seat.ensures c.in-Of.is in it))
+bounds-ring-to c = omega (arith, chaining_inside c.loop-q.invariant c.loop-q-test.true c.seat_at-seat.ensures c.in-Of.is)
 
 pub chain-requires : goal.chain-requires
 chain-requires c = chaining_chain c.loop-q.invariant c.loop-q-test.true c.seat_at-seat.ensures c.in-Of.is

@@ -1,8 +1,5 @@
 -- Each triangle's seat is added to the rows.
-use Rattle.judge_seat.specs.declared.Seat.TheVariants.{Of}
-use Rattle.judge_seat.specs.Workings.Seats.{Fits}
 use Rattle.judge_seat.proofs.Laws.Seated.{seat_fits}
-use Prim.Native.Nat.{◌-◌}
 use Rattle.judge_match.proofs.Laws.Collects.{collecting_begins, collecting_room, collecting_stops, collecting_more, collecting_ends}
 use native.Mathlib.Omega.{arith}
 use Rattle.judge_match.proofs.collect.Goals as goal
@@ -17,19 +14,19 @@ pub returns-in_default : goal.returns-in_default
 returns-in_default c = collecting_stops c.loop-q.invariant c.loop-q-test.true c.seat_at-seat.ensures c.in_default.is
 
 pub offset_bounds-has-i : goal.offset_bounds-has-i
-offset_bounds-has-i c = omega (arith, (let it : Fits (Of c.in-Of.i c.in-Of.k c.in-Of.field-2) = seat_fits c.seat_at-seat.ensures c.in-Of.is in it))
+offset_bounds-has-i c = omega (arith, seat_fits c.seat_at-seat.ensures c.in-Of.is)
 
 pub bounds-has-i : goal.bounds-has-i
-bounds-has-i c = omega (arith, (let it : Fits (Of c.in-Of.i c.in-Of.k c.in-Of.field-2) = seat_fits c.seat_at-seat.ensures c.in-Of.is in it))
+bounds-has-i c = omega (arith, seat_fits c.seat_at-seat.ensures c.in-Of.is)
 
 pub with-requires : goal.with-requires
-with-requires c = omega (arith, (let it : Fits (Of c.in-Of.i c.in-Of.k c.in-Of.field-2) = seat_fits c.seat_at-seat.ensures c.in-Of.is in it))
+with-requires c = omega (arith, seat_fits c.seat_at-seat.ensures c.in-Of.is)
 
 pub offset_bounds-has-i-in-loop-q : goal.offset_bounds-has-i-in-loop-q
-offset_bounds-has-i-in-loop-q c = omega (arith, (let it : Fits (Of c.in-Of.i c.in-Of.k c.in-Of.field-2) = seat_fits c.seat_at-seat.ensures c.in-Of.is in it))
+offset_bounds-has-i-in-loop-q c = omega (arith, seat_fits c.seat_at-seat.ensures c.in-Of.is)
 
 pub bounds-has-i-in-loop-q : goal.bounds-has-i-in-loop-q
-bounds-has-i-in-loop-q c = omega (arith, (let it : Fits (Of c.in-Of.i c.in-Of.k c.in-Of.field-2) = seat_fits c.seat_at-seat.ensures c.in-Of.is in it))
+bounds-has-i-in-loop-q c = omega (arith, seat_fits c.seat_at-seat.ensures c.in-Of.is)
 
 pub overflow_add-q : goal.overflow_add-q
 overflow_add-q c = omega (arith, collecting_room c.loop-q.invariant c.loop-q-test.true)
