@@ -6,7 +6,7 @@
 - the answers, states and kinds of entries, by their names and numbers in base_answers, base_types and chart_rules;
 - the record of a loop, number by number in its order, against the struct of patch_records, and the entry of a report against that of
   chart_rules;
-- the declarations, against the signatures of the exported functions in the crate wazelpunt, and what else the header has, by name;
+- the declarations, against the signatures of the exported functions in the crate wazelpunt_c, and what else the header has, by name;
 - how much stack each function takes, against what docs/SPEED.md says was measured;
 - the constants and sentences that python/wazelpunt.py has again.
 """
@@ -57,9 +57,9 @@ def rattle_exports():
     scalars = {"u8": "uint8_t", "u16": "uint16_t", "u32": "uint32_t", "u64": "uint64_t", "i32": "int32_t", "usize": "size_t",
                "f32": "float"}
     exports = {}
-    for path in pathlib.Path("crates/wazelpunt/src").glob("*.rt"):
+    for path in pathlib.Path("crates/wazelpunt_c/src").glob("*.rt"):
         source = re.sub(r"//.*", "", path.read_text(encoding="utf-8"))
-        for name, parameters, result in re.findall(r'pub extern "C" fn (\w+)\(([^)]*)\) -> (\w+)', source):
+        for name, parameters, result in re.findall(r'#\[unsafe\(no_mangle\)\]\s+pub extern "C" fn (\w+)\(([^)]*)\) -> (\w+)', source):
             types = []
             for kind in re.findall(r":\s*([^,]+?)\s*(?:,|$)", parameters):
                 lent, slice_of, one = re.fullmatch(r"(&mut |&)?(?:\[(\w+)\]|(\w+))", kind).groups()
@@ -150,7 +150,7 @@ def main(printed):
         "LONGEST": "Loop::LONGEST", "RECORD": "Loop::RECORD", "ENTRY": "Entry::WIDTH", "REPORT": "a full report",
         "GREATEST": "Grid::GREATEST", "SHEET_BYTES": "Surface::TEXT", "SET_BYTES": "PatchSet::TEXT", "ANSWER_BYTES": "LINE",
         "LISTING_BYTES": "LISTING", "REPORT_BYTES": "REPORT", "STL_BYTES": "Surface::FILE", "STL_FRONT": "front",
-        "STL_FACET_BYTES": "facetBytes",
+        "STL_FACET_BYTES": "facet_bytes",
     }
     for name, source in due.items():
         expect(f"WAZELPUNT_{name}", header.pop(name), str(known.get(source, f"no constant {source}")))

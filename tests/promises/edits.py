@@ -1,8 +1,8 @@
 #!/usr/bin/env python3
 """Each function that docs/PROMISES.md has a row of is there, and each wrong program that it names: those in the last column of its tables in a
 crate of their row, or in the one that is said; and every other word of docs/PROMISES.md and docs/TESTING.md that looks like the name of an edit
-is one, or stands in the code, or within code quotes in definitions or laws. Each test that the two pages name is there, and docs/TESTING.md
-names each and tells how many edits there are."""
+is one, or stands in the code, or within code quotes in definitions or laws; and each law that they name there is one. Each test that the two
+pages name is there, and docs/TESTING.md names each and tells how many edits there are."""
 import os
 import pathlib
 import re
@@ -101,6 +101,8 @@ for where, text in (('docs/PROMISES.md', page), ('docs/TESTING.md', testing)):
     for part, there in ((quoted, words | laws), (re.sub(r'`[^`\n]*`', '``', text), words)):
         for name in sorted(set(re.findall(r'(?<![\w/.-])[a-z0-9]+(?:_[a-z0-9]+)+(?![\w/-]|\.\w)', part)) - there):
             say(f'{where} names {name}, which is neither an edit nor in the code')
+    for name in sorted(set(re.findall(r"\b(?:Theorems|Laws(?:\.\w+)*)\.([a-z][\w']*)", quoted)) - laws):
+        say(f'{where} names the law {name}, which is not there')
     for name in sorted(set(re.findall(r'\btests/(\w+)(?:/run)?\b(?!/)', text)) - {'NAME'}):
         if not pathlib.Path('tests', name, 'run').exists():
             say(f'{where} names tests/{name}, which is not there or has no `run`')
