@@ -9,7 +9,7 @@ const ROOM: usize = Surface::TEXT + 1;
 // Nothing is said of a write that fails.
 fn main(rt: HostRuntime) {
     let mut room = [0u8; ROOM];
-    let n = program_input::read_full(&mut rt.stdin(), &mut room);
+    let (n, _) = program_input::read_full(&mut rt.stdin(), &mut room);
     let bytes = program_chart::print_room(&mut room, n);
     let _ = rt.write_all(&room[..bytes]);
 }

@@ -17,7 +17,7 @@ const SCRATCH: usize = 16384;
 fn main(rt: HostRuntime) {
     let mut room = [0u8; ROOM];
     let mut input = rt.stdin();
-    let n = program_input::read_full(&mut input, &mut room);
+    let (n, _) = program_input::read_full(&mut input, &mut room);
     let long = count_on(&mut input, &room, n);
     let bytes = program_import::import(&mut room, n, long);
     let _ = rt.write_all(&room[..bytes]);
@@ -37,7 +37,7 @@ fn count_on<R: Read>(input: &mut R, room: &[u8], n: usize) -> usize
     let count = stl_facets::count(room) as usize;
     let most = stl_facets::FRONT + stl_facets::FACET * count;
     while long <= most {
-        let more = program_input::read_full(input, &mut scratch);
+        let (more, _) = program_input::read_full(input, &mut scratch);
         if more == 0 {
             break;
         }

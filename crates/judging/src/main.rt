@@ -76,6 +76,6 @@ fn take(
     ensures { TookText text result words.new corners.new states.new set.new words.old corners.old }
 {
     let mut room = [0u8; ROOM];
-    let n = program_input::read_full(&mut source, &mut room);
+    let (n, _) = program_input::read_full(&mut source, &mut room);
     program_judge::take(&room, words, corners, states, set, n, text)
 }

@@ -85,7 +85,7 @@ fn work<R: Read, P: Print>(
     let mut room = [0u8; ROOM];
     match task {
         Task::TakeUp => {
-            let n = program_input::read_full(input, &mut room);
+            let (n, _) = program_input::read_full(input, &mut room);
             program_list::take_up_room(&room, corners, turns, grid, rings, records, patches, n)
         }
         Task::Print(listed) => {

@@ -1,31 +1,34 @@
 // What a program takes in: an input, into a room.
 #![tactic(auto)]
 
-ghost use Rattle.std.specs.Prelude.{◌≤◌, length, take};
+ghost use Rattle.std.specs.Prelude.{◌≤◌, length, take, IfSome, OnOk};
 ghost use Rattle.std.specs.Io.KnownBytes.{Consumes};
+ghost use Rattle.text_rules.specs.Room.{ReadInto};
 
+use std::io;
 use std::io::Read;
 
-// Reads until the room is full or the input ends, and returns how many bytes the room has from its start: where it is known which ones
-// the input has left, its next ones. A read that fails ends the input, so that what cannot be read is what was read so far.
-pub fn read_full<R: Read>(input: &mut R, room: &mut [u8]) -> usize
-    ensures in_bounds { result ≤ length room.new }
-    ensures next_bytes { Consumes (R.remaining input.old) (R.remaining input.new) (take result room.new) }
+// Reads until the room is full or the input ends, and returns how many bytes the room has from its start, and the error of a read that failed.
+// That ends the input too: what was read so far is what stands in the room.
+pub fn read_full<R: Read>(input: &mut R, room: &mut [u8]) -> (usize, io::Result<()>)
+    ensures in_bounds { result.0 ≤ length room.new }
+    ensures next_bytes { Consumes (R.remaining input.old) (R.remaining input.new) (take result.0 room.new) }
+    ensures whole { OnOk result.1 (IfSome (R.remaining input.old) (ReadInto room.new result.0)) }
 {
     let mut done = 0;
     while done < room.len() {
         match input.read(&mut room[done..]) {
-            Ok(more) if more > 0 => done += more,
-            _ => break,
+            Ok(0) => return (done, Ok(())),
+            Ok(more) => done += more,
+            Err(e) => return (done, Err(e)),
         }
     }
-    done
+    (done, Ok(()))
 }
 
 #[cfg(test)]
 mod tests {
     use super::*;
-    use std::io;
 
     // Gives a byte at a time, and fails where none is left.
     #[derive(Drop)]
@@ -45,17 +48,20 @@ mod tests {
     fn reads_no_further_than_the_room(rt: HostRuntime) {
         let mut input: &[u8] = b"abcde";
         let mut room = [0u8; 3];
-        assert_eq!(rt; read_full(&mut input, &mut room), 3);
-        assert_eq!(rt; room, *b"abc");
-        assert_eq!(rt; read_full(&mut input, &mut room), 2);
-        assert_eq!(rt; room, *b"dec");
-        assert_eq!(rt; read_full(&mut input, &mut room), 0);
+        for (n, held) in [(3, *b"abc"), (2, *b"dec"), (0, *b"dec")] {
+            let (read, ended) = read_full(&mut input, &mut room);
+            assert_eq!(rt; read, n);
+            assert!(rt; ended.is_ok());
+            assert_eq!(rt; room, held);
+        }
     }
 
     #[test]
     fn keeps_what_was_read_before_a_read_failed(rt: HostRuntime) {
         let mut room = [0u8; 3];
-        assert_eq!(rt; read_full(&mut Torn(b"ab"), &mut room), 2);
+        let (read, ended) = read_full(&mut Torn(b"ab"), &mut room);
+        assert_eq!(rt; read, 2);
+        assert!(rt; ended.is_err());
         assert_eq!(rt; room, *b"ab\0");
     }
 }

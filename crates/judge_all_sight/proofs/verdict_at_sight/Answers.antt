@@ -1,10 +1,6 @@
 -- `verdict_at_sight` judges rims, loops of three and long ones, one by one.
-use Rattle.fill_scratch.specs.Workings.Rings.{RingPlace}
-use Rattle.judge_sight.proofs.Laws.Findings.{not_done}
 use Rattle.judge_all_sight.proofs.Laws.Verdicts.{states_many, marks_long}
 use Rattle.judge_all_sight.proofs.Laws.SightVerdict.{going_begins, set_in, places, rim_decides, rim_goes, sight_room, decides, going_on, takes_in, going_ends}
-use lib.ListN.{length}
-use Prim.Native.Nat.{◌-◌, ◌<◌}
 use borrow.Author.Rules.{rules}
 use native.Mathlib.Omega.{arith}
 use Rattle.judge_all_sight.proofs.verdict_at_sight.Goals as goal
@@ -13,16 +9,16 @@ pub loop-l-init : goal.loop-l-init
 loop-l-init c = search going_begins
 
 pub overflow_cast-end : goal.overflow_cast-end
-overflow_cast-end c = omega (arith, (let it : RingPlace c.args.rings.now c.args.lengths.now c.loop-l.l c.loop-l.r = search (places, c.loop-l.invariant, c.requires, c.loop-l-test) in it))
+overflow_cast-end c = omega (arith, places c.requires c.loop-l-test.true c.loop-l.invariant)
 
 pub overflow_add-end : goal.overflow_add-end
-overflow_add-end c = omega (arith, (let it : RingPlace c.args.rings.now c.args.lengths.now c.loop-l.l c.loop-l.r = search (places, c.loop-l.invariant, c.requires, c.loop-l-test) in it))
+overflow_add-end c = omega (arith, places c.requires c.loop-l-test.true c.loop-l.invariant)
 
 pub bounds-marks-l : goal.bounds-marks-l
 bounds-marks-l c = omega (arith, marks_long c.requires.room, c.loop-l-test)
 
 pub bounds-states-l : goal.bounds-states-l
-bounds-states-l c = (let it : c.loop-l.l < length c.args.states.now = omega (arith, states_many c.requires.room, c.loop-l-test) in it)
+bounds-states-l c = omega (arith, states_many c.requires.room, c.loop-l-test)
 
 pub returns-then-states-l-ne-RIM : goal.returns-then-states-l-ne-RIM
 returns-then-states-l-ne-RIM c = search (rim_decides, c.loop-l.invariant, c.requires, c.loop-l-test)
@@ -31,25 +27,25 @@ pub loop-l-preserved-then-marks-l-eq-RIM : goal.loop-l-preserved-then-marks-l-eq
 loop-l-preserved-then-marks-l-eq-RIM c = search (rim_goes, c.loop-l.invariant, c.requires, c.loop-l-test)
 
 pub offset_bounds-rings-r : goal.offset_bounds-rings-r
-offset_bounds-rings-r c = omega (arith, (let it : RingPlace c.args.rings.now c.args.lengths.now c.loop-l.l c.loop-l.r = search (places, c.loop-l.invariant, c.requires, c.loop-l-test) in it))
+offset_bounds-rings-r c = omega (arith, places c.requires c.loop-l-test.true c.loop-l.invariant)
 
 pub slice_bounds-judge_at_sight-end : goal.slice_bounds-judge_at_sight-end
-slice_bounds-judge_at_sight-end c = ((let it : RingPlace c.args.rings.now c.args.lengths.now c.loop-l.l c.loop-l.r = search (places, c.loop-l.invariant, c.requires, c.loop-l-test) in it)).ring_in
+slice_bounds-judge_at_sight-end c = (places c.requires c.loop-l-test.true c.loop-l.invariant).ring_in
 
 pub bounds-states-l-in-loop-l : goal.bounds-states-l-in-loop-l
-bounds-states-l-in-loop-l c = (let it : c.loop-l.l < length c.args.states.now = omega (arith, states_many c.requires.room, c.loop-l-test) in it)
+bounds-states-l-in-loop-l c = omega (arith, states_many c.requires.room, c.loop-l-test)
 
 pub judge_at_sight-found-requires : goal.judge_at_sight-found-requires
 judge_at_sight-found-requires c = search (sight_room, c.loop-l.invariant, c.requires, c.loop-l-test)
 
 pub returns-in_default : goal.returns-in_default
-returns-in_default c = search (decides, not_done, c.loop-l.invariant, c.requires, c.loop-l-test)
+returns-in_default c = search (decides, c.loop-l.invariant, c.requires, c.loop-l-test)
 
 pub bounds-states-l-in-loop-l-2 : goal.bounds-states-l-in-loop-l-2
-bounds-states-l-in-loop-l-2 c = (let it : c.loop-l.l < length c.args.states.now = omega (arith, states_many c.requires.room, c.loop-l-test) in it)
+bounds-states-l-in-loop-l-2 c = omega (arith, states_many c.requires.room, c.loop-l-test)
 
 pub taken-at-requires : goal.taken-at-requires
-taken-at-requires c = let h = (let it : RingPlace c.args.rings.now c.args.lengths.now c.loop-l.l c.loop-l.r = search (places, c.loop-l.invariant, c.requires, c.loop-l-test) in it) in (omega (arith, h), omega (arith, h))
+taken-at-requires c = let h = places c.requires c.loop-l-test.true c.loop-l.invariant in (omega (arith, h), omega (arith, h))
 
 pub overflow_add-at : goal.overflow_add-at
 overflow_add-at c =

@@ -32,13 +32,13 @@ pub is_set-requires-in-loop-q : goal.is_set-requires-in-loop-q
 is_set-requires-in-loop-q c = omega (arith, seat_fits c.seat_at-seat.ensures c.in-Of.is)
 
 pub returns-then-not-is_set : goal.returns-then-not-is_set
-returns-then-not-is_set c = closing_stops c.loop-q.invariant c.loop-q-test.true c.seat_at-seat.ensures c.in-Of.is c.is_set.ensures c.is_set-in-loop-q.ensures c.if-not-is_set.true-raw
+returns-then-not-is_set c = closing_stops c.loop-q.invariant c.loop-q-test.true c.seat_at-seat.ensures c.in-Of.is c.is_set.ensures c.is_set-in-loop-q.ensures (search)
 
 pub overflow_add-q : goal.overflow_add-q
 overflow_add-q c = omega (arith, closing_room c.loop-q.invariant c.loop-q-test.true)
 
 pub loop-q-preserved : goal.loop-q-preserved
-loop-q-preserved c = closing_more c.loop-q.invariant c.loop-q-test.true c.seat_at-seat.ensures c.in-Of.is c.is_set.ensures c.is_set-in-loop-q.ensures c.if-not-is_set.false-raw
+loop-q-preserved c = closing_more c.loop-q.invariant c.loop-q-test.true c.seat_at-seat.ensures c.in-Of.is c.is_set.ensures c.is_set-in-loop-q.ensures (search)
 
 pub returns : goal.returns
 returns c = search closing_ends

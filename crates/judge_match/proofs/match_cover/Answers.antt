@@ -15,17 +15,17 @@ pub returns-then-not-collect : goal.returns-then-not-collect
 returns-then-not-collect c = search match_seatless
 
 pub returns-then-not-is_set : goal.returns-then-not-is_set
-returns-then-not-is_set c = match_topless c.requires c.sides.ensures c.collect.ensures c.if-not-collect.false-raw c.is_set.ensures c.if-not-is_set.true-raw
+returns-then-not-is_set c = match_topless c.requires c.sides.ensures c.collect.ensures (search) c.is_set.ensures (search)
 
 pub returns-then-not-closed : goal.returns-then-not-closed
-returns-then-not-closed c = match_open c.requires c.sides.ensures c.collect.ensures c.if-not-collect.false-raw c.closed.result c.closed.ensures c.if-not-closed.true-raw
+returns-then-not-closed c = match_open c.requires c.sides.ensures c.collect.ensures (search) c.closed.result c.closed.ensures (search)
 
 pub returns-then-clash : goal.returns-then-clash
 returns-then-clash c =
-    match_barred c.requires c.sides.ensures c.collect.ensures c.if-not-collect.false-raw c.is_set.ensures c.if-not-is_set.false-raw
-    c.closed.result c.closed.ensures c.if-not-closed.false-raw c.clash.result c.clash.ensures c.if-clash.true
+    match_barred c.requires c.sides.ensures c.collect.ensures (search) c.is_set.ensures (search)
+    c.closed.result c.closed.ensures (search) c.clash.result c.clash.ensures c.if-clash.true
 
 pub returns : goal.returns
 returns c =
-    match_allowed c.requires c.sides.ensures c.collect.ensures c.if-not-collect.false-raw c.is_set.ensures c.if-not-is_set.false-raw
-    c.closed.result c.closed.ensures c.if-not-closed.false-raw c.clash.result c.clash.ensures c.if-clash.false
+    match_allowed c.requires c.sides.ensures c.collect.ensures (search) c.is_set.ensures (search)
+    c.closed.result c.closed.ensures (search) c.clash.result c.clash.ensures c.if-clash.false

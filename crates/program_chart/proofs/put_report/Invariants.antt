@@ -5,7 +5,7 @@ use Rattle.program_chart.specs.Workings.Put.{lines_from}
 use Rattle.program_chart.proofs.put_report.Given as goal
 
 abbrev pub invariant-loop-i : goal.invariant-loop-i
-invariant-loop-i l = (i ≤ l.entries) × Laying (lines_from l.report 0 l.entries) l.initial.place l.initial.out (lines_from l.report i (l.entries - i)) l.i l.place
+invariant-loop-i l = (l.i ≤ l.entries) × Laying (lines_from l.report 0 l.entries) l.initial.place l.initial.out (lines_from l.report l.i (l.entries - l.i)) l.place l.out
 
 abbrev pub decreases-loop-i : goal.decreases-loop-i
-decreases-loop-i l = l.entries - i
+decreases-loop-i l = l.entries - l.i

@@ -1,0 +1,6 @@
+-- `wazelpunt_import_stl` tells what `print` answers.
+use Rattle.wazelpunt.proofs.Printing.{told_print}
+use Rattle.wazelpunt.proofs.wazelpunt_import_stl.Goals as goal
+
+pub returns : goal.returns
+returns c = search told_print

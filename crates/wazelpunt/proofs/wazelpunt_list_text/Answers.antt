@@ -1,0 +1,6 @@
+-- `wazelpunt_list_text` tells what `print` answers.
+use Rattle.wazelpunt.proofs.Printing.{told_print}
+use Rattle.wazelpunt.proofs.wazelpunt_list_text.Goals as goal
+
+pub returns : goal.returns
+returns c = search told_print

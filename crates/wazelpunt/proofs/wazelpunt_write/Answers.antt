@@ -1,0 +1,6 @@
+-- `wazelpunt_write` tells what `write` answers.
+use Rattle.wazelpunt.proofs.Reading.{told_write}
+use Rattle.wazelpunt.proofs.wazelpunt_write.Goals as goal
+
+pub returns : goal.returns
+returns c = search told_write
