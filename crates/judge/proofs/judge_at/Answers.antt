@@ -12,12 +12,11 @@ returns-then-refuses c =
     c.check_counts-counted.ensures (sym c.refuses.ensures ∙ c.if-refuses.true)
 
 pub judge_few-requires : goal.judge_few-requires
-judge_few-requires c =
-    (
-      counts_pass _ _ _ c.check_counts-counted.ensures (sym c.refuses.ensures ∙ c.if-refuses.false),
-      omega (arith, c.of-surface.ensures.0, c.if-surface-le-FEW.true),
-      c.if-corners-le-FEW.true,
-    )
+judge_few-requires c = (
+  counts_pass _ _ _ c.check_counts-counted.ensures (sym c.refuses.ensures ∙ c.if-refuses.false),
+  omega (arith, c.of-surface.ensures.0, c.if-surface-le-FEW.true),
+  c.if-corners-le-FEW.true,
+)
 
 pub judge_many-requires : goal.judge_many-requires
 judge_many-requires c = counts_pass _ _ _ c.check_counts-counted.ensures (sym c.refuses.ensures ∙ c.if-refuses.false)
