@@ -17,10 +17,13 @@ slice_bounds-fill_found-end-4 c = let k = c.chart_loops-charted.ensures _ _ c.re
 
 pub fill_found-requires : goal.fill_found-requires
 fill_found-requires c =
-    record { found_loops = (c.chart_loops-charted.ensures _ _ c.requires.loop_room.0.checked).found; fill_room = (
+    record {
+      found_loops = (c.chart_loops-charted.ensures _ _ c.requires.loop_room.0.checked).found;
+      fill_room = (
         fill_room c.requires.loop_room.1 c.requires.loop_bench.0 c.requires.loop_bench.1 c.states-1.given c.firsts-1.given c.places-1.given c.runs-1.given,
         edge_room c.requires.loop_bench.1 c.turns-1.given c.path-1.given,
-      ) }
+      );
+    }
 
 pub returns : goal.returns
 returns c = λ pitch words checked before. completes checked (c.chart_loops-charted.ensures pitch words checked) c.fill_found.ensures before

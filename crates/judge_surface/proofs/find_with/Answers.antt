@@ -39,8 +39,7 @@ returns-then-refuses c =
 pub list_with-listed-requires : goal.list_with-listed-requires
 list_with-listed-requires c =
     let x = c.args in
-    let k = fits x.pitch (buffers x.grid.now x.rings.now x.lengths.now) c.requires c.check-checked.ensures c.refuses.ensures c.if-refuses.false in
-    (
+    let k = fits x.pitch (buffers x.grid.now x.rings.now x.lengths.now) c.requires c.check-checked.ensures c.refuses.ensures c.if-refuses.false in (
       ready k.known _ _ _ (still_long (scratch_turns_long c.requires.scratch) c.check-checked.auto.turns) c.requires.rings_long c.requires.lengths_long
           c.requires.marks_long,
       lent_long k.known _ _ (scratch_path_long c.requires.scratch) c.requires.scratch.places_long,

@@ -28,6 +28,6 @@ pub returns : goal.returns
 returns c =
     let p = c.put-bytes.ensures in
     let g : Given c.args.file.now (read_outcome c.read-read.result c.read-read.new.words c.read-read.new.corners) =
-        given c.args.file.now _ _ c.read-read.ensures (omega arith) (omega arith)
+    given c.args.file.now _ _ c.read-read.ensures (omega arith) (omega arith)
     in
     long_prints c.if-out-lt-TEXT.false p.out (put_imports g p) p.many p.lies

@@ -24,7 +24,7 @@ put_number-place-requires c = number_room c.loop-i.invariant.1 c.loop-i-test.tru
 pub loop-i-preserved : goal.loop-i-preserved
 loop-i-preserved c =
     let ends : Ends c.args.ring.now c.loop-i.i c.if-i-ring.end =
-        elim c.if-i-ring.branch [ then-i-ring w ↦ by_comma w.if-i-ring.true w.end-is | else-i-ring w ↦ by_feed w.if-i-ring.false w.end-is ]
+    elim c.if-i-ring.branch [ then-i-ring w ↦ by_comma w.if-i-ring.true w.end-is | else-i-ring w ↦ by_feed w.if-i-ring.false w.end-is ]
     in
     (search rules, number_put c.loop-i.invariant.1 c.loop-i-test.true ends c.put_number-place.ensures)
 

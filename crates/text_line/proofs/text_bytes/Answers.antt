@@ -9,11 +9,10 @@ use Rattle.text_line.proofs.text_bytes.Goals.{After-size_of-2}
 
 -- the counts have few digits
 few : (c : After-size_of-2) → (c.size_of.result ≤ 5) × (c.size_of-2.result ≤ 5)
-few c =
-    (
-      omega (arith, c.size_of.ensures, size_most c.args.points (omega (arith, c.requires))),
-      omega (arith, c.size_of-2.ensures, size_most (length c.args.corners.now / 3) (omega (arith, c.requires))),
-    )
+few c = (
+  omega (arith, c.size_of.ensures, size_most c.args.points (omega (arith, c.requires))),
+  omega (arith, c.size_of-2.ensures, size_most (length c.args.corners.now / 3) (omega (arith, c.requires))),
+)
 
 pub overflow_add-sizes : goal.overflow_add-sizes
 overflow_add-sizes c = omega (arith, few (goal.at.overflow_add-sizes c).After-size_of-2)
