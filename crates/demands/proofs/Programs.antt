@@ -102,7 +102,8 @@ module _ (bytes patches : List ℕ) (a : Answer) (h : Hears bytes patches a) (s 
 
     pub hearing : Answered (sheet_checks (pitch_said s) (words_said s) (corners_said s) ++ (state_count (corners_said s) ss ∷ [])) (λ r. r) (λ r. r) a
     hearing =
-        then_once (sheet_checks (pitch_said s) (words_said s) (corners_said s)) (sheet_refuses (pitch_said s) (words_said s) (corners_said s)) hear_refusal (sheet_is (pitch_said s) (words_said s) (corners_said s) t.says.head_valid (text_counts t)) as_many (States (length (loops (corners_said s)))) refl
+        then_once (sheet_checks (pitch_said s) (words_said s) (corners_said s)) (sheet_refuses (pitch_said s) (words_said s) (corners_said s))
+        hear_refusal (sheet_is (pitch_said s) (words_said s) (corners_said s) t.says.head_valid (text_counts t)) as_many (States (length (loops (corners_said s)))) refl
         (λ r. r) (λ r. r) a (λ r. refl) hear_if (λ e n. hear_counted e n)
         (λ e n. verdict_told (grid_of (pitch_said s) (words_said s)) (corners_said s) [] 0 0 (rim_list (grid_of (pitch_said s) (words_said s)) (corners_said s)) (ring_list (corners_said s)) ss (flat us) a (hear_counted e n))
 

@@ -33,7 +33,8 @@ pub record Passable (grid : List ℤ) (corners states set : List ℕ) : Type 0 w
   pub declared : length states ≡ length (loops corners)
   pub none_left : length set ≡ begins (ring_list corners) states (length (loops corners))
   pub each : (l : ℕ) → l < length (loops corners)
-      → RightIf grid corners (take (begins (ring_list corners) states l) set) (is_rim grid corners l) (get_or (ring_list corners) l []) (get_or states l 0) (drop (begins (ring_list corners) states l) set)
+      → RightIf grid corners (take (begins (ring_list corners) states l) set) (is_rim grid corners l)
+      (get_or (ring_list corners) l []) (get_or states l 0) (drop (begins (ring_list corners) states l) set)
 
 -- ---- the edges afterwards
 

@@ -10,7 +10,7 @@ ghost use Rattle.surface_rules.specs.Buffers.{over};
 ghost use Rattle.stl_facets.specs.Facets.{front, facet_bytes, word_at, facets, plain_zero, plain_at, corner_at, facet_of, holds_facet, facet_at, behind, floats_of};
 
 // Where the count stands, behind the header, and where the facets begin, behind the count.
-pub const HEADER: usize = 80;
+const HEADER: usize = 80;
 
 pub const FRONT: usize = HEADER + 4;
 
@@ -78,7 +78,7 @@ pub fn float_of(word: u32) -> f32
 }
 
 // A word, negative zero read as zero.
-pub fn plain_zero(word: u32) -> u32
+fn plain_zero(word: u32) -> u32
     ensures { result ≡ plain_zero word }
 {
     if word % 0x8000_0000 == 0 {

@@ -110,7 +110,7 @@ fn put_short(text: &mut [u8], at: usize, n: u16, four: u32, end: u8) -> usize
 }
 
 // Writes four bytes, the lowest first.
-pub fn put_four(text: &mut [u8], at: usize, four: u32)
+fn put_four(text: &mut [u8], at: usize, four: u32)
     requires { at + 4 ≤ length text.old }
     ensures { text.new ≡ laid at (four % 256 ∷ four / 256 % 256 ∷ four / 65536 % 256 ∷ four / 16777216 ∷ []) text.old }
 {

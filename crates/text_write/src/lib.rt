@@ -123,7 +123,7 @@ fn put_large(words: &[u32], corners: &[u16], buffer: &mut [u8], pitch: u32) -> u
 }
 
 // What a refusal answers.
-pub fn unwritten(answer: Answer) -> Written
+fn unwritten(answer: Answer) -> Written
     ensures { (result.answer ≡ answer) × (result.bytes ≡ 0) }
 {
     Written { answer, bytes: 0 }

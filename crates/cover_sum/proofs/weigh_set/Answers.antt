@@ -37,7 +37,9 @@ pub overflow_cast-set-in-loop-q-2 : goal.overflow_cast-set-in-loop-q-2
 overflow_cast-set-in-loop-q-2 c = omega (arith, c.requires.named (c.loop-q.q + 2) (omega (arith, weighed_room c.loop-q.invariant c.loop-q-test.true)), c.well_formed)
 
 pub weigh_named-total-requires : goal.weigh_named-total-requires
-weigh_named-total-requires c = (c.requires.coordinates, c.requires.named _ (omega (arith, weighed_room c.loop-q.invariant c.loop-q-test.true)), c.requires.named _ (omega (arith, weighed_room c.loop-q.invariant c.loop-q-test.true)), c.requires.named _ (omega (arith, weighed_room c.loop-q.invariant c.loop-q-test.true)))
+weigh_named-total-requires c =
+    let room : c.loop-q.q + 3 ≤ length c.args.set.now = weighed_room c.loop-q.invariant c.loop-q-test.true in
+    (c.requires.coordinates, c.requires.named _ (omega arith), c.requires.named _ (omega arith), c.requires.named _ (omega arith))
 
 pub overflow_add-total : goal.overflow_add-total
 overflow_add-total c = let p = c.requires in weighed_fits c.loop-q.invariant c.loop-q-test.true p.coordinates c.weigh_named-total.ensures p.few

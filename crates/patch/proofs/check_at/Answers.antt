@@ -18,4 +18,5 @@ returns-then-refuses c =
 pub check-requires : goal.check-requires
 check-requires c =
     let w = c.args.words.now in let n = c.args.corners.now in
-    record { counts = (let it : count_refusal (length c.args.words.now) (length c.args.corners.now) ≡ Done = search (counts_pass, c.check_counts-counted.ensures, sym c.refuses.ensures ∙ c.if-refuses.false) in it); long = le_trans (counts_fit (length w) (length n) ((let it : count_refusal (length c.args.words.now) (length c.args.corners.now) ≡ Done = search (counts_pass, c.check_counts-counted.ensures, sym c.refuses.ensures ∙ c.if-refuses.false) in it))).few_corners c.requires }
+    let e : count_refusal (length c.args.words.now) (length c.args.corners.now) ≡ Done = search (counts_pass, c.check_counts-counted.ensures, sym c.refuses.ensures ∙ c.if-refuses.false) in
+    record { counts = e; long = le_trans (counts_fit (length w) (length n) e).few_corners c.requires }

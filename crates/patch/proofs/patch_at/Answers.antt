@@ -28,7 +28,9 @@ pub of-surface-requires : goal.of-surface-requires
 of-surface-requires c = tt
 
 pub patch_few-requires : goal.patch_few-requires
-patch_few-requires c = ((let it : count_refusal (length c.args.words.now) (length c.args.corners.now) ≡ Done = search (counts_pass, c.check_counts-counted.ensures, sym c.refuses.ensures ∙ c.if-refuses.false) in it), omega (arith, c.of-surface.ensures.0, c.if-surface-le-FEW.true), c.if-corners-le-FEW.true)
+patch_few-requires c =
+    let e : count_refusal (length c.args.words.now) (length c.args.corners.now) ≡ Done = search (counts_pass, c.check_counts-counted.ensures, sym c.refuses.ensures ∙ c.if-refuses.false) in
+    (e, omega (arith, c.of-surface.ensures.0, c.if-surface-le-FEW.true), c.if-corners-le-FEW.true)
 
 pub patch_many-requires : goal.patch_many-requires
 patch_many-requires c = (let it : count_refusal (length c.args.words.now) (length c.args.corners.now) ≡ Done = search (counts_pass, c.check_counts-counted.ensures, sym c.refuses.ensures ∙ c.if-refuses.false) in it)

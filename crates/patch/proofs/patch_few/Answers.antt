@@ -25,7 +25,8 @@ patch_checked-requires c =
     let t = sym c.refuses.ensures ∙ c.if-refuses.false in
     record {
       patch_room = checked_room (pitch_of c.args.pitch) w n (buffers c.args.grid.now c.args.rings.now c.args.records.now c.args.patches.now) c.check-answer.ensures t;
-      bench = bench_few w c.requires.0 (points_here (pitch_of c.args.pitch) w n (buffers c.args.grid.now c.args.rings.now c.args.records.now c.args.patches.now) c.check-answer.ensures t) c.requires.1 c.requires.2 (still_long (lit≤ tt) c.turns-2-1.given) (lit≤ tt) (lit≤ tt) (lit≤ tt) (lit≤ tt) (lit≤ tt) (lit≤ tt);
+      bench = bench_few w c.requires.0 (points_here (pitch_of c.args.pitch) w n (buffers c.args.grid.now c.args.rings.now c.args.records.now c.args.patches.now) c.check-answer.ensures t)
+          c.requires.1 c.requires.2 (still_long (lit≤ tt) c.turns-2-1.given) (lit≤ tt) (lit≤ tt) (lit≤ tt) (lit≤ tt) (lit≤ tt) (lit≤ tt);
     }
 
 pub returns : goal.returns

@@ -44,7 +44,11 @@ returns c =
     let p = c.put.ensures in
     record {
       out = p.out;
-      due = λ input seen. subst (λ l. Imports l p.out) (seen_whole (omega (arith, c.if-n-room.false, c.requires.1)) seen) (put_imports ((let it : Given (take c.args.n c.args.room.now) (read_outcome c.read-read.result c.read-read.new.words c.read-read.new.corners) = given (take c.args.n c.args.room.now) _ _ c.read-read.ensures (omega arith) (omega arith) in it)) p);
+      due = λ input seen. subst (λ l. Imports l p.out) (seen_whole (omega (arith, c.if-n-room.false, c.requires.1)) seen) (
+          let g : Given (take c.args.n c.args.room.now) (read_outcome c.read-read.result c.read-read.new.words c.read-read.new.corners) =
+          given (take c.args.n c.args.room.now) _ _ c.read-read.ensures (omega arith) (omega arith)
+          in
+          put_imports g p);
       many = p.many;
       lies = p.lies;
     }

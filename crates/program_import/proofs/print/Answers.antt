@@ -25,4 +25,9 @@ pub put-bytes-requires : goal.put-bytes-requires
 put-bytes-requires c = put_room ((let it : Given c.args.file.now (read_outcome c.read-read.result c.read-read.new.words c.read-read.new.corners) = given c.args.file.now _ _ c.read-read.ensures (omega arith) (omega arith) in it)) c.if-out-lt-TEXT.false
 
 pub returns : goal.returns
-returns c = let p = c.put-bytes.ensures in long_prints c.if-out-lt-TEXT.false p.out (put_imports ((let it : Given c.args.file.now (read_outcome c.read-read.result c.read-read.new.words c.read-read.new.corners) = given c.args.file.now _ _ c.read-read.ensures (omega arith) (omega arith) in it)) p) p.many p.lies
+returns c =
+    let p = c.put-bytes.ensures in
+    let g : Given c.args.file.now (read_outcome c.read-read.result c.read-read.new.words c.read-read.new.corners) =
+    given c.args.file.now _ _ c.read-read.ensures (omega arith) (omega arith)
+    in
+    long_prints c.if-out-lt-TEXT.false p.out (put_imports g p) p.many p.lies

@@ -22,7 +22,11 @@ pub put_number-place-requires : goal.put_number-place-requires
 put_number-place-requires c = number_room c.loop-i.invariant.1 c.loop-i-test.true ((let it : Ends c.args.ring.now c.loop-i.i c.if-i-ring.end = elim c.if-i-ring.branch [ then-i-ring w ↦ by_comma w.if-i-ring.true w.end-is | else-i-ring w ↦ by_feed w.if-i-ring.false w.end-is ] in it))
 
 pub loop-i-preserved : goal.loop-i-preserved
-loop-i-preserved c = (search rules, number_put c.loop-i.invariant.1 c.loop-i-test.true ((let it : Ends c.args.ring.now c.loop-i.i c.if-i-ring.end = elim c.if-i-ring.branch [ then-i-ring w ↦ by_comma w.if-i-ring.true w.end-is | else-i-ring w ↦ by_feed w.if-i-ring.false w.end-is ] in it)) c.put_number-place.ensures)
+loop-i-preserved c =
+    let ends : Ends c.args.ring.now c.loop-i.i c.if-i-ring.end =
+    elim c.if-i-ring.branch [ then-i-ring w ↦ by_comma w.if-i-ring.true w.end-is | else-i-ring w ↦ by_feed w.if-i-ring.false w.end-is ]
+    in
+    (search rules, number_put c.loop-i.invariant.1 c.loop-i-test.true ends c.put_number-place.ensures)
 
 pub returns : goal.returns
 returns c = lining_ends c.loop-i.i ((let it : Lining (line ring= c.args.ring.now) c.args.at c.args.out.now c.args.ring.now (c.args.at + 5) c.put_bytes.new.text = key_put ring= c.requires c.put_bytes.ensures refl in it)) c.loop-i.invariant.1 c.loop-i-test.false

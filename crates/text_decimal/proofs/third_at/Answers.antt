@@ -27,4 +27,9 @@ pub fourth_at-requires : goal.fourth_at-requires
 fourth_at-requires c = omega (arith, (digit_from (get_or c.args.text.now c.args.i 0) _ c.is_digit.ensures c.if-not-is_digit.false-raw), c.requires)
 
 pub returns : goal.returns
-returns c = let l = (let it : c.args.i < length c.args.text.now = omega (arith, c.requires) in it) in let f = (let it : c.args.v * 10 + ((get_or c.args.text.now c.args.i 0) - 48) ≤ c.args.limit = omega (arith, (digit_from (get_or c.args.text.now c.args.i 0) _ c.is_digit.ensures c.if-not-is_digit.false-raw), c.requires) in it) in (search chain_on, up_on c.args.i 2 c.fourth_at.result c.fourth_at.ensures.1)
+returns c =
+    let l : c.args.i < length c.args.text.now = omega (arith, c.requires) in
+    let f : c.args.v * 10 + ((get_or c.args.text.now c.args.i 0) - 48) ≤ c.args.limit =
+    omega (arith, (digit_from (get_or c.args.text.now c.args.i 0) _ c.is_digit.ensures c.if-not-is_digit.false-raw), c.requires)
+    in
+    (search chain_on, up_on c.args.i 2 c.fourth_at.result c.fourth_at.ensures.1)
