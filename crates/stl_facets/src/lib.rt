@@ -161,7 +161,7 @@ pub fn lay(facet: Facet, floats: &mut [f32])
 }
 
 // The reader holds on to the bytes and its own place in them.
-#[derive(Drop)]
+#[derive(Clone, Copy)]
 pub struct Reader<'a> {
     pub file: &'a [u8],
     pub at: usize,
@@ -199,14 +199,14 @@ pub fn past<'a>(reader: Reader<'a>) -> Reader<'a>
     }
 }
 
-// What a reader at a place hands out. Its callers pass no reader, so that their proofs need no walk by hand.
+// What a reader at a place hands out, for callers that have the bytes and a place.
 pub fn hand_out(file: &[u8], at: usize) -> Step
     ensures { result ≡ facet_at file.now at }
 {
     next(resumed(file, at))
 }
 
-// Where a reader at a place goes on. Its callers pass no reader either.
+// Where a reader at a place goes on, for the same callers.
 pub fn move_on(file: &[u8], at: usize) -> usize
     ensures { result ≡ behind file.now at }
 {
