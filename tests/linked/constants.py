@@ -156,7 +156,8 @@ def main(printed):
         expect(f"WAZELPUNT_{name}", header.pop(name), str(known.get(source, f"no constant {source}")))
 
     answers = pathlib.Path("crates/base_answers/src/lib.rt").read_text(encoding="utf-8")
-    numbers = re.findall(r"Answer::(\w+)(?:\(_\))? => (\d+),", answers.split("fn number", 1)[1].split("fn refuses", 1)[0])
+    bodies = "".join(re.findall(r"fn number\(.*?\n    }\n", answers, re.S))
+    numbers = re.findall(r"(?:Answer|Refusal|Verdict)::(\w+)(?:\(_\))? => (\d+),", bodies)
     expect("how many answers base_answers has", len(numbers), 18)
     for name, number in numbers:
         expect(f"WAZELPUNT_{answer_name(name)}", header.pop(answer_name(name), None), number)

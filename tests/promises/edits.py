@@ -35,12 +35,13 @@ for path in pathlib.Path('include').glob('*.h'):
 for path in pathlib.Path('crates').glob('*/src/*.rt'):
     text = re.sub(r'//.*', '', path.read_text())
     words.update(re.findall(r'\b[a-z]\w*', text))
-    owner = ''
+    owner, of_trait = '', False
     for line in text.splitlines():
-        if block := re.match(r'impl (\w+) \{|\}', line):
-            owner = f'{block[1]}::' if block[1] else ''
-        if found := re.match(r' *pub (?:extern "C" )?fn (\w+)', line):
-            functions.setdefault(owner + found[1], set()).add(path.parts[1])
+        if block := re.match(r'impl(?:<.*?>)? (?:(\S.*) for )?(\w+)(?:<.*?>)? \{|\}', line):
+            owner, of_trait = (f'{block[2]}::' if block[2] else ''), bool(block[1])
+        if found := re.match(r' *(pub )?(?:extern "C" )?fn (\w+)', line):
+            if found[1] or of_trait:
+                functions.setdefault(owner + found[2], set()).add(path.parts[1])
 
 
 def tables(text, *lasts):

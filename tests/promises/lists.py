@@ -31,7 +31,7 @@ def functions_of(crate):
     """Of each public function of a crate: its name, whether it asks for something, and of each `&mut` parameter whether `.new` says it."""
     for path in sorted(pathlib.Path('crates', crate, 'src').rglob('*.rt')):
         text = re.sub(r'//.*', '', path.read_text())
-        blocks = [(found[1], found.start(), behind(text, found.end() - 1)) for found in re.finditer(r'^impl (\w+) \{', text, re.M)]
+        blocks = [(found[1], found.start(), behind(text, found.end() - 1)) for found in re.finditer(r'^impl(?:<[^>{]*>)? (\w+)(?:<[^>{]*>)? \{', text, re.M)]
         for found in re.finditer(r'^ *pub (?:extern "C" )?fn (\w+)[^(]*', text, re.M):
             owner = ''.join(f'{name}::' for name, start, end in blocks if start < found.start() < end)
             ends = behind(text, found.end())

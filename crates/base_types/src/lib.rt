@@ -5,6 +5,8 @@ ghost use Rattle.std.specs.Prelude.{◌≡◌, ◌/◌, eqb, leb, ltb, nat_abs};
 ghost use Rattle.base_types.specs.Counts.{threes};
 ghost use Rattle.base_types.specs.Pitches.{pitch_of, Names};
 
+use base_answers::Refusal;
+
 // A surface's counts. Each point has three words and each triangle three corners.
 #[derive(Clone, Copy)]
 pub struct Surface {
@@ -142,33 +144,7 @@ pub enum Pitch {
     Ten,
 }
 
-// The pitch that a number names, or that it names none.
-#[derive(Clone, Copy)]
-pub enum Named {
-    Is(Pitch),
-    Nothing,
-}
-
 impl Pitch {
-    // The pitch of that many plate units.
-    pub fn of(number: u32) -> Named
-        ensures { Names number result }
-    {
-        if number == 1 {
-            return Named::Is(Pitch::One);
-        }
-        if number == 2 {
-            return Named::Is(Pitch::Two);
-        }
-        if number == 5 {
-            return Named::Is(Pitch::Five);
-        }
-        if number == 10 {
-            return Named::Is(Pitch::Ten);
-        }
-        Named::Nothing
-    }
-
     // How many plate units it has.
     pub fn units(self) -> u32
         ensures { result ≡ pitch_of self }
@@ -180,6 +156,31 @@ impl Pitch {
             Pitch::Ten => 10,
         }
     }
+}
+
+// The pitch of that many plate units, or refusal 17.
+impl TryFrom<u32> for Pitch {
+    type Error = Refusal;
+
+    ghost try_from_gives = { Names };
+
+    fn try_from(number: u32) -> Result<Self, Refusal> {
+        match number {
+            1 => Ok(Pitch::One),
+            2 => Ok(Pitch::Two),
+            5 => Ok(Pitch::Five),
+            10 => Ok(Pitch::Ten),
+            _ => Err(Refusal::NoPitch),
+        }
+    }
+}
+
+// A sheet as it is given: the words and corners of a surface, and the pitch of its grid.
+#[derive(Clone, Copy)]
+pub struct Sheet<'a> {
+    pub words: &'a [u32],
+    pub corners: &'a [u16],
+    pub pitch: Pitch,
 }
 
 // The grid, on which every multiple of its pitch lies.

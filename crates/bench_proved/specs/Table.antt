@@ -5,7 +5,8 @@ use Rattle.std.specs.Prelude.{◌≡◌, true, false, List, [], ◌∷◌, ◌++
 use Rattle.std.specs.Float.{binary32}
 use Rattle.std.specs.Float.Ieee.{of_bits}
 use Rattle.base_answers.specs.declared.Answer.{Answer}
-use Rattle.base_answers.specs.declared.Answer.TheVariants.{Done, Repeated, Misdeclared, Barred, Heavy, NoPitch}
+use Rattle.base_answers.specs.Answers.{Repeated, Misdeclared, Barred, Heavy, NoPitch}
+use Rattle.base_answers.specs.declared.Answer.TheVariants.{Done}
 use Rattle.grid_coordinate.specs.Places.{Places}
 use Rattle.grid_coordinate.specs.declared.Coordinate.TheVariants.{Shifted, TooFar}
 use Rattle.surface_rules.specs.Refusals.{refusal}

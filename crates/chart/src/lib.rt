@@ -9,8 +9,8 @@ ghost use Rattle.surface_rules.specs.Refusals.{count_refusal};
 ghost use Rattle.chart_surface.specs.Outcome.{outcome, buffers, Charts};
 ghost use Rattle.chart_surface.specs.Workings.Charting.{alone, alone_of};
 
-use base_answers::Answer;
-use base_types::{Named, PatchSet, Pitch, Surface};
+use base_answers::Refusal;
+use base_types::{PatchSet, Pitch, Sheet, Surface};
 use chart_surface::Charted;
 
 // Finds the loops of the surface with these words and corners, on the grid of that pitch, and reports for each piece its rim, its tide pools and
@@ -24,57 +24,47 @@ pub fn chart(
     records: &mut [u64],
     report: &mut [u16],
     pitch: u32,
-) -> Charted
+) -> Result<Charted, Refusal>
     ensures { Charts pitch words.now corners.now (buffers grid.old rings.old records.old report.old)
         (outcome result (buffers grid.new rings.new records.new report.new)) }
 {
-    match Pitch::of(pitch) {
-        Named::Nothing => chart_surface::refused(Answer::NoPitch),
-        Named::Is(step) => chart_at(words, corners, grid, rings, records, report, step),
-    }
+    let step = Pitch::try_from(pitch)?;
+    let sheet = Sheet {
+        words,
+        corners,
+        pitch: step,
+    };
+    chart_at(sheet, grid, rings, records, report)
 }
 
 // The same at one of the four pitches.
 fn chart_at(
-    words: &[u32],
-    corners: &[u16],
+    sheet: Sheet,
     grid: &mut [i32],
     rings: &mut [u16],
     records: &mut [u64],
     report: &mut [u16],
-    pitch: Pitch,
-) -> Charted
-    ensures { Charts (pitch_of pitch) words.now corners.now (buffers grid.old rings.old records.old report.old)
+) -> Result<Charted, Refusal>
+    ensures { Charts (pitch_of sheet.entry.pitch) sheet.entry.words.now sheet.entry.corners.now (buffers grid.old rings.old records.old report.old)
         (outcome result (buffers grid.new rings.new records.new report.new)) }
 {
-    let counted = check_shape::check_counts(words.len(), corners.len());
-    if counted.refuses() {
-        return chart_surface::refused(counted);
-    }
-    chart_fitting(words, corners, grid, rings, records, report, pitch)
+    check_shape::check_counts(sheet.words.len(), sheet.corners.len())?;
+    chart_fitting(sheet, grid, rings, records, report)
 }
 
 // The same where the counts fit.
 fn chart_fitting(
-    words: &[u32],
-    corners: &[u16],
+    sheet: Sheet,
     grid: &mut [i32],
     rings: &mut [u16],
     records: &mut [u64],
     report: &mut [u16],
-    pitch: Pitch,
-) -> Charted
-    requires { count_refusal (length words.now) (length corners.now) ≡ Done }
-    ensures { Charts (pitch_of pitch) words.now corners.now (buffers grid.old rings.old records.old report.old)
+) -> Result<Charted, Refusal>
+    requires { count_refusal (length sheet.words.now) (length sheet.corners.now) ≡ Done }
+    ensures { Charts (pitch_of sheet.entry.pitch) sheet.entry.words.now sheet.entry.corners.now (buffers grid.old rings.old records.old report.old)
         (outcome result (buffers grid.new rings.new records.new report.new)) }
 {
     let mut turns = [0u16; 2 * Surface::CORNERS];
-    let answer = chart_surface::check(
-        words, corners, &mut turns, grid, rings, records, report, pitch,
-    );
-    if answer.refuses() {
-        return chart_surface::refused(answer);
-    }
     let mut path = [0u16; 2 * Surface::CORNERS];
     let mut places = [0u16; Surface::POINTS];
     let mut lengths = [0u16; Surface::TRIANGLES];
@@ -82,8 +72,9 @@ fn chart_fitting(
     let mut firsts = [0u16; Surface::TRIANGLES];
     let mut runs = [0u32; Surface::TRIANGLES];
     let mut patches = [0u16; PatchSet::CORNERS];
-    chart_surface::chart_checked(
-        corners,
+    chart_surface::check(sheet, &mut turns, grid, rings, records, report)?;
+    Ok(chart_surface::chart_checked(
+        sheet.corners,
         &mut turns,
         &mut path,
         &mut places,
@@ -92,43 +83,42 @@ fn chart_fitting(
         &mut firsts,
         &mut runs,
         &mut patches,
-        &grid[..words.len()],
+        &grid[..sheet.words.len()],
         rings,
         records,
         report,
-    )
+    ))
 }
 
 // The report alone: no records, so that no loop is patched. There is room for the report of any surface.
-pub fn report(words: &[u32], corners: &[u16], report: &mut [u16], pitch: u32) -> Charted
+pub fn report(
+    words: &[u32],
+    corners: &[u16],
+    report: &mut [u16],
+    pitch: u32,
+) -> Result<Charted, Refusal>
     requires { 4 * limits.triangles ≤ length report.old }
     ensures { alone result report.new ≡ alone_of pitch words.now corners.now report.old }
 {
-    match Pitch::of(pitch) {
-        Named::Nothing => chart_surface::refused(Answer::NoPitch),
-        Named::Is(step) => report_at(words, corners, report, step),
-    }
+    let step = Pitch::try_from(pitch)?;
+    let sheet = Sheet {
+        words,
+        corners,
+        pitch: step,
+    };
+    report_at(sheet, report)
 }
 
-// The same at one of the four pitches.
-fn report_at(words: &[u32], corners: &[u16], report: &mut [u16], pitch: Pitch) -> Charted
+// The same at one of the four pitches. Not `chart_fitting` by a const parameter: it lends a grid of its own, and takes neither records nor patches.
+fn report_at(sheet: Sheet, report: &mut [u16]) -> Result<Charted, Refusal>
     requires { 4 * limits.triangles ≤ length report.old }
-    ensures { alone result report.new ≡ alone_of (pitch_of pitch) words.now corners.now report.old }
+    ensures { alone result report.new ≡ alone_of (pitch_of sheet.entry.pitch) sheet.entry.words.now sheet.entry.corners.now report.old }
 {
-    let counted = check_shape::check_counts(words.len(), corners.len());
-    if counted.refuses() {
-        return chart_surface::refused(counted);
-    }
+    check_shape::check_counts(sheet.words.len(), sheet.corners.len())?;
     let mut turns = [0u16; Surface::CORNERS];
     let mut grid = [0i32; Surface::WORDS];
     let lent = [grid.len()];
-    let needs = [words.len()];
-    let answer = patch_surface::check_with(
-        words, corners, &lent, &needs, &mut turns, &mut grid, pitch,
-    );
-    if answer.refuses() {
-        return chart_surface::refused(answer);
-    }
+    let needs = [sheet.words.len()];
     let mut path = [0u16; Surface::CORNERS];
     let mut places = [0u16; Surface::POINTS];
     let mut lengths = [0u16; Surface::TRIANGLES];
@@ -136,8 +126,9 @@ fn report_at(words: &[u32], corners: &[u16], report: &mut [u16], pitch: Pitch) -
     let mut firsts = [0u16; Surface::TRIANGLES];
     let mut runs = [0u32; Surface::TRIANGLES];
     let mut rings = [0u16; Surface::CORNERS];
-    chart_surface::chart_loops(
-        corners,
+    patch_surface::check_with(sheet, &lent, &needs, &mut turns, &mut grid)?;
+    Ok(chart_surface::chart_loops(
+        sheet.corners,
         &mut turns,
         &mut path,
         &mut places,
@@ -145,8 +136,8 @@ fn report_at(words: &[u32], corners: &[u16], report: &mut [u16], pitch: Pitch) -
         &mut states,
         &mut firsts,
         &mut runs,
-        &grid[..words.len()],
+        &grid[..sheet.words.len()],
         &mut rings,
         report,
-    )
+    ))
 }

@@ -48,8 +48,7 @@ pub fn lay(
     );
     locate(lengths, &mut starts);
     let mut at = 0;
-    let mut p = 0;
-    while p < count {
+    for p in 0..count {
         at = lay_piece(
             rings,
             lengths,
@@ -63,7 +62,6 @@ pub fn lay(
             p,
             at,
         );
-        p += 1;
     }
     at
 }
@@ -80,9 +78,7 @@ fn chain(
     requires { ChainRoom marks.now pieces.now rims.old heads.old links.old n }
     ensures { Chains marks.now pieces.now rims.old heads.old 0 n rims.new heads.new links.new }
 {
-    let mut l = n;
-    while 0 < l {
-        l -= 1;
+    for l in (0..n).rev() {
         let p = pieces[l] as usize;
         if marks[l] == State::RIM {
             rims[p] = l as u16;
@@ -99,11 +95,9 @@ fn locate(lengths: &[u16], starts: &mut [u16])
     ensures { Locates lengths.now (length lengths.now) starts.new }
 {
     let mut r: u16 = 0;
-    let mut l = 0;
-    while l < lengths.len() {
+    for (l, &length) in lengths.iter().enumerate() {
         starts[l] = r;
-        r += lengths[l];
-        l += 1;
+        r += length;
     }
 }
 
@@ -155,10 +149,8 @@ fn stamp_all(ring: &[u16], stamps: &mut [u16], stamp: u16)
     requires { Inside ring.now stamps.old }
     ensures { Stamps ring.now stamps.old stamp stamps.new }
 {
-    let mut i = 0;
-    while i < ring.len() {
-        stamps[ring[i] as usize] = stamp;
-        i += 1;
+    for &v in ring {
+        stamps[v as usize] = stamp;
     }
 }
 
@@ -167,12 +159,11 @@ fn is_stamped(ring: &[u16], stamps: &[u16], stamp: u16) -> bool
     requires { Inside ring.now stamps.now }
     ensures { result ≡ any_stamp ring.now stamps.now stamp }
 {
-    let mut i = 0;
-    while i < ring.len() {
-        if stamps[ring[i] as usize] == stamp {
+    // `iter().any(..)` leaves open that its closure may be called at each vertex
+    for &v in ring {
+        if stamps[v as usize] == stamp {
             return true;
         }
-        i += 1;
     }
     false
 }
@@ -216,10 +207,8 @@ fn lay_lakes(lakes: &[u16], report: &mut [u16], from: usize) -> usize
     requires { 2 * (from + length lakes.now) ≤ length report.old }
     ensures { Enters from (map (entry 3) lakes.now) report.old result report.new }
 {
-    let mut i = 0;
-    while i < lakes.len() {
-        chart_rules::lay_entry(Entry::LAKE, lakes[i], report, from + i);
-        i += 1;
+    for (i, &lake) in lakes.iter().enumerate() {
+        chart_rules::lay_entry(Entry::LAKE, lake, report, from + i);
     }
     from + lakes.len()
 }

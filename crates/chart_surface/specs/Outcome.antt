@@ -1,7 +1,9 @@
 -- What charting leaves and answers: the grid, the loops as the patcher leaves them, and the report; or a refusal, and everything as it was.
-use Rattle.std.specs.Prelude.{◌≡◌, Bool, true, false, List, [], ◌∷◌, ℕ, ◌*◌, ◌/◌, ℤ, length}
+use Rattle.std.specs.Prelude.{◌≡◌, Bool, true, false, List, [], ◌∷◌, ℕ, ◌*◌, ◌/◌, ℤ, length, Result, Ok, Err}
 use Rattle.base_answers.specs.Numbers.{refusing}
+use Rattle.base_answers.specs.declared.Refusal.{Refusal}
 use Rattle.base_answers.specs.declared.Answer.{Answer}
+use Rattle.base_answers.specs.declared.Answer.TheVariants.{Refused}
 use Rattle.base_answers.specs.declared.Answer.TheVariants.{Done}
 use Rattle.base_limits.specs.Limits as limits
 use Rattle.surface_rules.specs.Buffers.{over}
@@ -31,16 +33,17 @@ pub record Outcome : Type 0 where
   pub entries : ℕ
   pub left : Buffers
 
--- what is answered, with what is left
-abbrev pub outcome : Charted → Buffers → Outcome
-outcome r b = record { answer = r.answer; loops = r.loops; vertices = r.vertices; entries = r.entries; left = b }
-
 abbrev pub buffers : List ℤ → List ℕ → List ℕ → List ℕ → Buffers
 buffers grid rings records report = record { grid = grid; rings = rings; records = records; report = report }
 
 -- "A refusal ... leaves all buffers untouched and has zero in every count."
 abbrev pub refused : Answer → Buffers → Outcome
 refused a b = record { answer = a; loops = 0; vertices = 0; entries = 0; left = b }
+
+-- what is answered, with what is left
+abbrev pub outcome : Result Charted Refusal → Buffers → Outcome
+outcome (Ok c) b = record { answer = Done; loops = c.loops; vertices = c.vertices; entries = c.entries; left = b }
+outcome (Err r) b = refused (Refused r) b
 
 -- "loop records ... (as the patcher's)"; "the answer counts the entries"
 abbrev pub done : ℕ → List ℕ → List ℕ → List Fate → Buffers → Outcome

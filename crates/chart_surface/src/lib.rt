@@ -2,21 +2,21 @@
 // patcher keeps of each loop.
 #![tactic(auto)]
 
-ghost use Rattle.std.specs.Prelude.{◌≡◌, ◌/◌, length};
+ghost use Rattle.std.specs.Prelude.{◌/◌, length};
+ghost use Rattle.base_answers.specs.Answers.{said};
 ghost use Rattle.base_types.specs.Pitches.{pitch_of};
 ghost use Rattle.check_surface.specs.Workings.Checks.{Fitted};
 ghost use Rattle.patch_records.specs.Workings.Columns.{columns};
 ghost use Rattle.chart_surface.specs.Outcome.{buffers};
 ghost use Rattle.chart_surface.specs.Workings.Charting.{Checks, Roomy, LoopBench, ChartBench, LoopRoom, ChartsLoops, Finishes};
 
-use base_answers::Answer;
-use base_types::{Loop, Pitch};
+use base_answers::Refusal;
+use base_types::{Loop, Sheet};
 use chart_rules::Entry;
 
-// What charting answers: done or a refusal, how many loops there are, how many vertices their rings have, and how many entries the report has.
+// How many loops there are, how many vertices their rings have, and how many entries the report has.
 #[derive(Clone, Copy)]
 pub struct Charted {
-    pub answer: Answer,
     pub loops: usize,
     pub vertices: usize,
     pub entries: usize,
@@ -24,27 +24,25 @@ pub struct Charted {
 
 // Refusals 3 to 8 at that pitch, with a table of turns that is long enough. Where none is given, the table is filled and the grid is laid.
 pub fn check(
-    words: &[u32],
-    corners: &[u16],
+    sheet: Sheet,
     turns: &mut [u16],
     grid: &mut [i32],
     rings: &[u16],
     records: &[u64],
     report: &[u16],
-    pitch: Pitch,
-) -> Answer
-    requires { Fitted words.now corners.now turns.old }
-    ensures { Checks (pitch_of pitch) words.now corners.now (buffers grid.old rings.now records.now report.now) result turns.new grid.new }
+) -> Result<(), Refusal>
+    requires { Fitted sheet.words.now sheet.corners.now turns.old }
+    ensures { Checks (pitch_of sheet.entry.pitch) sheet.entry.words.now sheet.entry.corners.now (buffers grid.old rings.now records.now report.now) (said result) turns.new grid.new }
 {
-    let n = corners.len();
+    let n = sheet.corners.len();
     let lent = [grid.len(), rings.len(), records.len(), report.len()];
     let needs = [
-        words.len(),
+        sheet.words.len(),
         n,
         Loop::RECORD * (n / 3),
         2 * Entry::WIDTH * (n / 3),
     ];
-    patch_surface::check_with(words, corners, &lent, &needs, turns, grid, pitch)
+    patch_surface::check_with(sheet, &lent, &needs, turns, grid)
 }
 
 // Charts a surface that passed the checks, on its grid, which ends with the last point, and leaves of its loops what the patcher leaves. What is
@@ -136,21 +134,8 @@ pub fn chart_loops(
         pieces,
     );
     Charted {
-        answer: Answer::Done,
         loops,
         vertices,
         entries,
-    }
-}
-
-// A refusal has zero in every count.
-pub fn refused(answer: Answer) -> Charted
-    ensures { (result.answer ≡ answer) × (result.loops ≡ 0) × (result.vertices ≡ 0) × (result.entries ≡ 0) }
-{
-    Charted {
-        answer,
-        loops: 0,
-        vertices: 0,
-        entries: 0,
     }
 }

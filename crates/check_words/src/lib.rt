@@ -1,90 +1,60 @@
-// Checks a surface's words: whether each is a finite number, and near enough for the grid. Each search answers the smallest index.
+// Checks a surface's words: whether each is a finite number, and near enough for the grid. Each search gives the smallest index.
 #![tactic(auto)]
 
-ghost use Rattle.std.specs.Prelude.{◌≡◌, not, ◌<◌, length};
+ghost use Rattle.std.specs.Prelude.{◌≡◌, not, length};
+ghost use Rattle.std.specs.List.{position};
+ghost use Rattle.base_answers.specs.Answers.{said};
 ghost use Rattle.base_types.specs.Pitches.{pitch_of};
-ghost use Rattle.base_types.specs.declared.Pitch.{Pitch};
 ghost use Rattle.surface_rules.specs.Smallest.{least, any};
-ghost use Rattle.grid_place.specs.Workings.Ends.{end_of};
-ghost use Rattle.surface_rules.specs.Refusals.{not_finite, too_far, off_grid, word_refusal};
+ghost use Rattle.surface_rules.specs.Refusals.{off_grid, word_refusal};
+ghost use Rattle.check_words.specs.Workings.Single.{no_number, beyond};
 
-use base_answers::Answer;
+use base_answers::Refusal;
 use base_types::Pitch;
 use grid_coordinate::Coordinate;
-use surface_rules::Found;
 
 // Refusals 7 and 8: whether every coordinate is on the grid of that pitch. Where all are, one pass over the words tells it.
-pub fn check_words(words: &[u32], pitch: Pitch) -> Answer
-    ensures { result ≡ word_refusal (pitch_of pitch) words.now }
+pub fn check_words(words: &[u32], pitch: Pitch) -> Result<(), Refusal>
+    ensures { said result ≡ word_refusal (pitch_of pitch) words.now }
 {
     if all_on_grid(words, pitch) {
-        return Answer::Done;
+        return Ok(());
     }
-    let found = first_not_finite(words);
-    if let Found::At(i) = found {
-        return Answer::NotFinite(i);
+    if let Some(word) = first_not_finite(words) {
+        return Err(Refusal::NotFinite(word));
     }
-    let far = first_too_far(words, pitch);
-    match far {
-        Found::At(i) => Answer::TooFar(i),
-        Found::Nothing => Answer::Done,
+    match first_too_far(words, pitch) {
+        Some(word) => Err(Refusal::TooFar(word)),
+        None => Ok(()),
     }
 }
 
 // The first word that is no finite number.
-fn first_not_finite(words: &[u32]) -> Found
-    ensures { result ≡ least (not_finite words.now) (length words.now) }
+fn first_not_finite(words: &[u32]) -> Option<usize>
+    ensures { result ≡ position no_number words.now }
 {
-    let mut i = 0;
-    while i < words.len() {
-        if is_not_finite(words, i) {
-            return Found::At(i);
-        }
-        i += 1;
-    }
-    Found::Nothing
+    words.iter().position(|word| is_not_finite(*word))
 }
 
-// Whether word i is no finite number.
-fn is_not_finite(words: &[u32], i: usize) -> bool
-    requires { i < length words.now }
-    ensures { result ≡ not_finite words.now i }
+// Whether the word is no finite number.
+fn is_not_finite(word: u32) -> bool
+    ensures { result ≡ no_number word }
 {
-    let place = grid_place::place(words[i], Pitch::One);
-    match place {
-        Coordinate::Exact(_) => false,
-        Coordinate::Shifted(_, _) => false,
-        Coordinate::NotFinite => true,
-        Coordinate::TooFar(_) => false,
-    }
+    matches!(grid_place::place(word, Pitch::One), Coordinate::NotFinite)
 }
 
 // The first word that is too far.
-fn first_too_far(words: &[u32], pitch: Pitch) -> Found
-    ensures { result ≡ least (too_far (pitch_of pitch) words.now) (length words.now) }
+fn first_too_far(words: &[u32], pitch: Pitch) -> Option<usize>
+    ensures { result ≡ position (beyond (pitch_of pitch)) words.now }
 {
-    let mut i = 0;
-    while i < words.len() {
-        if is_too_far(words, i, pitch) {
-            return Found::At(i);
-        }
-        i += 1;
-    }
-    Found::Nothing
+    words.iter().position(|word| is_too_far(*word, pitch))
 }
 
-// Whether word i is too far.
-fn is_too_far(words: &[u32], i: usize, pitch: Pitch) -> bool
-    requires { i < length words.now }
-    ensures { result ≡ too_far (pitch_of pitch) words.now i }
+// Whether the word is too far.
+fn is_too_far(word: u32, pitch: Pitch) -> bool
+    ensures { result ≡ beyond (pitch_of pitch) word }
 {
-    let place = grid_place::place(words[i], pitch);
-    match place {
-        Coordinate::Exact(_) => false,
-        Coordinate::Shifted(_, _) => false,
-        Coordinate::NotFinite => false,
-        Coordinate::TooFar(_) => true,
-    }
+    matches!(grid_place::place(word, pitch), Coordinate::TooFar(_))
 }
 
 // Whether every word is on the grid: a pass with no way out, so that several words are taken at a time.
@@ -93,18 +63,8 @@ fn all_on_grid(words: &[u32], pitch: Pitch) -> bool
 {
     let end = grid_place::end_of(pitch);
     let mut all = true;
-    let mut i = 0;
-    while i < words.len() {
-        all = all & !is_off_grid(words, i, end);
-        i += 1;
+    for word in words {
+        all = all & !grid_place::is_off(*word, end);
     }
     all
-}
-
-// Whether word i is not on the grid of a pitch that ends there.
-fn is_off_grid(words: &[u32], i: usize, end: u32) -> bool
-    requires { i < length words.now }
-    ensures { (p : Pitch) → end ≡ end_of p → result ≡ off_grid (pitch_of p) words.now i }
-{
-    grid_place::is_off(words[i], end)
 }

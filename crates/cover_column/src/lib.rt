@@ -54,8 +54,7 @@ pub fn multiply(
     let y = py[k];
     let z = pz[k];
     let at = row_of(k);
-    let mut i = 0;
-    while i < k {
+    for i in 0..k {
         let u = py[i] * z - pz[i] * y;
         let v = pz[i] * x - px[i] * z;
         let w = px[i] * y - py[i] * x;
@@ -66,7 +65,6 @@ pub fn multiply(
         table[quarter + at + i] = v;
         table[2 * quarter + at + i] = w;
         column[i] = FAR;
-        i += 1;
     }
     column[k - 1] = 0.0;
 }
@@ -120,9 +118,7 @@ pub fn relax(
     ensures { Relaxed quarter table.now at m v xs.now ys.now zs.now column.old column.new }
 {
     let end = 2 * ((m + 1) / 2);
-    let mut i = 0;
-    while i < end {
+    for i in 0..end {
         column[i] = lesser(by_way(table, at, v, xs, ys, zs, i, m, quarter), column[i]);
-        i += 1;
     }
 }

@@ -5,8 +5,6 @@ ghost use Rattle.cover_table.specs.Workings.Loops.{LoopRoom};
 ghost use Rattle.cover_trace.specs.Workings.Patches.{LaysPatch, FindsLeast};
 ghost use Rattle.cover_lay.specs.Workings.Patches.{PatchRoom, ThreeRoom, LaysThree};
 
-use cover_table::Least;
-
 // Finds the patch of the loop with this ring and these bars and lays it from p on; or leaves all as it is. The table's floats find it, and
 // what it weighs is the sum of its triangles as they were laid. Where the bars alone shut the loop, no table is made.
 pub fn lay_patch(
@@ -16,7 +14,7 @@ pub fn lay_patch(
     table: &mut [f64],
     out: &mut [u16],
     p: usize,
-) -> Least
+) -> Option<u64>
     requires { PatchRoom grid.now ring.now bars.now table.old out.old p }
     ensures { LaysPatch grid.now ring.now bars.now out.old p result out.new }
 {
@@ -24,19 +22,16 @@ pub fn lay_patch(
         return cover_four::lay_four(grid, ring, bars, out, p);
     }
     if cover_shut::is_shut(bars, ring.len()) {
-        return Least::Nothing;
+        return None;
     }
-    let least = cover_table::least_weight(grid, ring, bars, table);
-    let Least::Weight(_) = least else {
-        return Least::Nothing;
-    };
+    cover_table::least_weight(grid, ring, bars, table)?;
     cover_trace::list(table, ring, out, p, 0, ring.len() - 1, table.len() / 4);
     let end = p + 3 * (ring.len() - 2);
-    Least::Weight(cover_sum::weigh_set(grid, &out[p..end]))
+    Some(cover_sum::weigh_set(grid, &out[p..end]))
 }
 
 // The least weight of the loop's allowed covers, or that it has none: for a caller that lists no patch.
-pub fn least(grid: &[i32], ring: &[u16], bars: &[u64], table: &mut [f64]) -> Least
+pub fn least(grid: &[i32], ring: &[u16], bars: &[u64], table: &mut [f64]) -> Option<u64>
     requires { LoopRoom grid.now ring.now bars.now table.old }
     ensures { FindsLeast grid.now ring.now bars.now result }
 {
@@ -44,7 +39,7 @@ pub fn least(grid: &[i32], ring: &[u16], bars: &[u64], table: &mut [f64]) -> Lea
         return cover_four::least_four(grid, ring, bars);
     }
     if cover_shut::is_shut(bars, ring.len()) {
-        return Least::Nothing;
+        return None;
     }
     cover_table::least_weight(grid, ring, bars, table)
 }

@@ -14,24 +14,10 @@ pub fn is_shut(bars: &[u64], n: usize) -> bool
     ensures { TellsShut n bars.now result }
 {
     // The triangles that all have a position without bars as a corner are an allowed cover, so nothing is to be looked for.
-    if any_free(bars, n) {
+    if bars[..n].contains(&0) {
         return false;
     }
     !may_close(bars, n)
-}
-
-// Whether a position has no bar.
-fn any_free(bars: &[u64], n: usize) -> bool
-    requires { n ≤ length bars.now }
-{
-    let mut j = 0;
-    while j < n {
-        if bars[j] == 0 {
-            return true;
-        }
-        j += 1;
-    }
-    false
 }
 
 // Whether the loop may have an allowed cover. Digit k of the word of i is set where the stretch i..k may have one.
@@ -40,10 +26,8 @@ fn may_close(bars: &[u64], n: usize) -> bool
     ensures { result ≡ false → NoCover (told_by bars.now) 0 (n - 1) }
 {
     let mut words = [0; Loop::LONGEST];
-    let mut k = 1;
-    while k < n {
+    for k in 1..n {
         mark(bars, k, &mut words);
-        k += 1;
     }
     cover_bits::is_set(words[0], n - 1)
 }
@@ -54,9 +38,7 @@ fn mark(bars: &[u64], k: usize, words: &mut [u64; Loop::LONGEST])
     ensures { Marked bars.now (suc k) words.new }
 {
     let mut to = 0;
-    let mut i = k;
-    while 0 < i {
-        i -= 1;
+    for i in (0..k).rev() {
         if may_cover(bars[i], i, k, words[i], to) {
             to = cover_bits::with(to, i);
             words[i] = cover_bits::with(words[i], k);

@@ -13,15 +13,8 @@ pub fn weigh_set(grid: &[i32], set: &[u16]) -> u64
     ensures { result ≡ set_weight grid.now (threes set.now) }
 {
     let mut total = 0;
-    let mut q = 0;
-    while q < set.len() {
-        total += weigh_named(
-            grid,
-            set[q] as usize,
-            set[q + 1] as usize,
-            set[q + 2] as usize,
-        );
-        q += 3;
+    for t in set.chunks_exact(3) {
+        total += weigh_named(grid, t[0] as usize, t[1] as usize, t[2] as usize);
     }
     total
 }

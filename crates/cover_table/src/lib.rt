@@ -7,7 +7,7 @@ ghost use Rattle.std.specs.Prelude.{◌≡◌, suc, ◌<◌, ◌≤◌, length};
 ghost use Rattle.base_limits.specs.Limits.{longest};
 ghost use Rattle.cover_weight.specs.Edition.{along};
 ghost use Rattle.cover_bits.specs.Workings.Masks.{bit};
-ghost use Rattle.cover_column.specs.Workings.Columns.{row, short};
+ghost use Rattle.cover_column.specs.Workings.Columns.{row};
 ghost use Rattle.cover_table.specs.Workings.Table.{settled_of, Points, strips, Sweepable, Offered, Swept};
 ghost use Rattle.cover_table.specs.Workings.Loops.{GatherRoom, TableRoom, FillsTable, Found};
 
@@ -60,10 +60,8 @@ fn sweep(
     requires { Sweepable quarter k k bars.now (strips xs.now ys.now zs.now column.old) table.old }
     ensures { Swept quarter k bars.now (strips xs.now ys.now zs.now column.old) table.old table.new }
 {
-    let mut m = k;
     let mut at = cover_column::row_of(k);
-    while 0 < m {
-        m -= 1;
+    for m in (0..k).rev() {
         at -= m;
         offer(table, k, m, bars, xs, ys, zs, column, at, quarter);
     }
@@ -74,42 +72,30 @@ fn gather(grid: &[i32], ring: &[u16], px: &mut [f64], py: &mut [f64], pz: &mut [
     requires { GatherRoom grid.now ring.now px.old py.old pz.old }
     ensures { Points (along grid.now ring.now) (length ring.now) px.new py.new pz.new }
 {
-    let n = ring.len();
-    let mut j = 0;
-    while j < n {
-        let v = 3 * (ring[j] as usize);
+    for (j, name) in ring.iter().enumerate() {
+        let v = 3 * (*name as usize);
         px[j] = grid[v] as f64;
         py[j] = grid[v + 1] as f64;
         pz[j] = grid[v + 2] as f64;
-        j += 1;
     }
 }
 
-// The least weight of the allowed covers of a loop, or that it has none.
-#[derive(Clone, Copy)]
-pub enum Least {
-    Weight(u64),
-    Nothing,
-}
-
-// The table of a short loop. What is cleared for it is short too; and each of the two has arrays of its own, since only so does the
-// compiler see that they lie apart, and takes two places at a time.
-fn fill_short(grid: &[i32], ring: &[u16], bars: &[u64], table: &mut [f64])
-    requires { TableRoom grid.now ring.now bars.now table.old × (length ring.now ≤ short) }
+// The table of a loop of at most N edges. For a short loop N is small, so that little is cleared; and each N has arrays of its own, since
+// only so does the compiler see that they lie apart, and takes two places at a time.
+fn fill_within<const N: usize>(grid: &[i32], ring: &[u16], bars: &[u64], table: &mut [f64])
+    requires { TableRoom grid.now ring.now bars.now table.old × (length ring.now ≤ N) × (N ≤ longest) }
     ensures { FillsTable grid.now ring.now bars.now table.new }
 {
-    let mut px = [FAR; SHORT];
-    let mut py = [FAR; SHORT];
-    let mut pz = [FAR; SHORT];
-    let mut xs = [FAR; SHORT];
-    let mut ys = [FAR; SHORT];
-    let mut zs = [FAR; SHORT];
-    let mut column = [FAR; SHORT];
+    let mut px = [FAR; N];
+    let mut py = [FAR; N];
+    let mut pz = [FAR; N];
+    let mut xs = [FAR; N];
+    let mut ys = [FAR; N];
+    let mut zs = [FAR; N];
+    let mut column = [FAR; N];
     gather(grid, ring, &mut px, &mut py, &mut pz);
-    let n = ring.len();
     let quarter = table.len() / 4;
-    let mut k = 1;
-    while k < n {
+    for k in 1..ring.len() {
         cover_column::multiply(
             &px,
             &py,
@@ -123,41 +109,6 @@ fn fill_short(grid: &[i32], ring: &[u16], bars: &[u64], table: &mut [f64])
             quarter,
         );
         sweep(table, k, bars, &xs, &ys, &zs, &mut column, quarter);
-        k += 1;
-    }
-}
-
-// The table of any loop.
-fn fill_long(grid: &[i32], ring: &[u16], bars: &[u64], table: &mut [f64])
-    requires { TableRoom grid.now ring.now bars.now table.old }
-    ensures { FillsTable grid.now ring.now bars.now table.new }
-{
-    let mut px = [FAR; Loop::LONGEST];
-    let mut py = [FAR; Loop::LONGEST];
-    let mut pz = [FAR; Loop::LONGEST];
-    let mut xs = [FAR; Loop::LONGEST];
-    let mut ys = [FAR; Loop::LONGEST];
-    let mut zs = [FAR; Loop::LONGEST];
-    let mut column = [FAR; Loop::LONGEST];
-    gather(grid, ring, &mut px, &mut py, &mut pz);
-    let n = ring.len();
-    let quarter = table.len() / 4;
-    let mut k = 1;
-    while k < n {
-        cover_column::multiply(
-            &px,
-            &py,
-            &pz,
-            k,
-            &mut xs,
-            &mut ys,
-            &mut zs,
-            &mut column,
-            table,
-            quarter,
-        );
-        sweep(table, k, bars, &xs, &ys, &zs, &mut column, quarter);
-        k += 1;
     }
 }
 
@@ -167,20 +118,20 @@ fn fill(grid: &[i32], ring: &[u16], bars: &[u64], table: &mut [f64])
     ensures { FillsTable grid.now ring.now bars.now table.new }
 {
     if ring.len() <= SHORT {
-        return fill_short(grid, ring, bars, table);
+        return fill_within::<SHORT>(grid, ring, bars, table);
     }
-    fill_long(grid, ring, bars, table)
+    fill_within::<{ Loop::LONGEST }>(grid, ring, bars, table)
 }
 
-// Fills the table of the loop with this ring and these bars, and finds what its patch weighs.
-pub fn least_weight(grid: &[i32], ring: &[u16], bars: &[u64], table: &mut [f64]) -> Least
+// Fills the table of the loop with this ring and these bars, and finds what its patch weighs, if it has one.
+pub fn least_weight(grid: &[i32], ring: &[u16], bars: &[u64], table: &mut [f64]) -> Option<u64>
     requires { TableRoom grid.now ring.now bars.now table.old }
     ensures { Found grid.now ring.now bars.now result table.new }
 {
     fill(grid, ring, bars, table);
     let least = table[3 * (table.len() / 4) + cover_column::row_of(ring.len() - 1)];
     if least < FAR {
-        return Least::Weight(least as u64);
+        return Some(least as u64);
     }
-    Least::Nothing
+    None
 }

@@ -40,14 +40,12 @@ fn middle(table: &[f64], i: usize, k: usize, quarter: usize) -> usize
     requires { Weighable quarter table.now i k × (suc i < k) }
     ensures { (i < result) × (result < k) × Middle quarter table.now i k result }
 {
-    let mut m = i + 1;
-    while m + 1 < k {
+    for m in i + 1..k - 1 {
         if is_way(table, i, k, m, quarter) {
             return m;
         }
-        m += 1;
     }
-    m
+    k - 1
 }
 
 // One triangle.

@@ -2,7 +2,6 @@
 pub mod Sizes
 pub mod Held
 pub mod Near
-pub mod Turned
 pub mod Apart
 pub mod Components
 pub mod Weighed

@@ -41,7 +41,7 @@ fn extent(v: Vector) -> u64
     requires { Short v }
     ensures { result ≡ size v }
 {
-    size_of(v.x) + size_of(v.y) + size_of(v.z)
+    v.x.unsigned_abs() + v.y.unsigned_abs() + v.z.unsigned_abs()
 }
 
 // The point that the number names.
@@ -98,17 +98,5 @@ fn component(p: i64, q: i64, r: i64, s: i64) -> u64
     requires { Difference p × Difference q × Difference r × Difference s }
     ensures { result ≡ nat_abs (p *ℤ q -ℤ r *ℤ s) }
 {
-    size_of(p * q - r * s)
-}
-
-// The absolute value of a number whose negative fits as well.
-fn size_of(number: i64) -> u64
-    requires { nat_abs number < 2 ^ 63 }
-    ensures { result ≡ nat_abs number }
-{
-    if number < 0 {
-        (-number) as u64
-    } else {
-        number as u64
-    }
+    (p * q - r * s).unsigned_abs()
 }

@@ -7,7 +7,8 @@ use lib.Dec.{eqb}
 use lib.ListN.{length}
 use Rattle.base_answers.specs.Numbers.{refusing}
 use Rattle.base_answers.specs.declared.Answer.{Answer}
-use Rattle.base_answers.specs.declared.Answer.TheVariants.{Done, Buffer, Unnamed, States}
+use Rattle.base_answers.specs.Answers.{Buffer, Unnamed, States}
+use Rattle.base_answers.specs.declared.Answer.TheVariants.{Done}
 use Rattle.surface_rules.specs.Smallest.{least}
 use Rattle.surface_rules.specs.Refusals.{then_check, count_refusal, buffer_refusal, unnamed_refusal, refusal}
 use Rattle.surface_rules.specs.Buffers.{over}

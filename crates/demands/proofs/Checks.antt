@@ -1,4 +1,5 @@
 -- What a list of checks gives, and that the refusals of the entry points are what the checks of the table give.
+use Rattle.std.specs.Prelude.{Option, Some, None}
 use mathlib.Core.Path.{◌≡◌, refl, sym, ap, ap₂, ◌∙◌, subst}
 use mathlib.Core.Bool.{Bool, true, false, not, cond, true≢false}
 use mathlib.Core.Logic.{inl, inr}
@@ -7,12 +8,11 @@ use Prim.Native.Nat.{ℕ}
 use lib.ListN.{length}
 use Rattle.base_answers.specs.Numbers.{refusing}
 use Rattle.base_answers.specs.declared.Answer.{Answer}
-use Rattle.base_answers.specs.declared.Answer.TheVariants.{Done, Words, Corners, TooFar, NoPitch}
+use Rattle.base_answers.specs.Answers.{Words, Corners, TooFar, NoPitch}
+use Rattle.base_answers.specs.declared.Answer.TheVariants.{Done}
 use Rattle.base_types.specs.Counts.{threes}
 use Rattle.base_types.specs.Pitches.{is_pitch}
 use Rattle.base_limits.specs.Limits as limits
-use Rattle.surface_rules.specs.declared.Found.{Found}
-use Rattle.surface_rules.specs.declared.Found.TheVariants.{At, Nothing}
 use Rattle.surface_rules.specs.Smallest.{least}
 use Rattle.surface_rules.specs.Refusals.{too_far, refuse_at, then_check, pitch_refusal, count_refusal, buffer_refusal, corner_refusal, word_refusal, content_refusal, refusal}
 use Rattle.surface_rules.proofs.Laws.Smallest.{least_at, least_never, least_sound, least_first, never_least}
@@ -33,10 +33,10 @@ Refuses (c ∷ after) = ((i : ℕ) → refusing (c.gives i) ≡ true) × Refuses
 pub due_is : (checks : List Check) → Refuses checks → (a : Answer) → Due checks a → answer_of checks ≡ a
 due_is [] r a d = absurd d
 due_is (c ∷ after) r a (inl f) =
-    ap (λ (g : Found). then_check (refuse_at c.gives g) (answer_of after)) (least_at c.finds f.at c.places (never_least c.finds f.at f.smallest) f.finds_it f.there)
+    ap (λ (g : Option ℕ). then_check (refuse_at c.gives g) (answer_of after)) (least_at c.finds f.at c.places (never_least c.finds f.at f.smallest) f.finds_it f.there)
     ∙ then_refused (c.gives f.at) (answer_of after) (r.0 f.at)
     ∙ sym f.gives_it
-due_is (c ∷ after) r a (inr d) = ap (λ (g : Found). then_check (refuse_at c.gives g) (answer_of after)) (never_least c.finds c.places d.0) ∙ due_is after r.1 a d.1
+due_is (c ∷ after) r a (inr d) = ap (λ (g : Option ℕ). then_check (refuse_at c.gives g) (answer_of after)) (never_least c.finds c.places d.0) ∙ due_is after r.1 a d.1
 
 pub due_refuses : (checks : List Check) → Refuses checks → (a : Answer) → Due checks a → refusing a ≡ true
 due_refuses [] r a d = absurd d
@@ -47,16 +47,16 @@ pub is_due : (checks : List Check) → Refuses checks → refusing (answer_of ch
 is_due [] r h = absurd (true≢false (sym h))
 is_due (c ∷ after) r h = go (least c.finds c.places) refl (is_due after r.1)
   where
-    go : (f : Found) → least c.finds c.places ≡ f → (refusing (answer_of after) ≡ true → Due after (answer_of after)) → Due (c ∷ after) (answer_of (c ∷ after))
-    go (At i) e next = inl (record {
+    go : (f : Option ℕ) → least c.finds c.places ≡ f → (refusing (answer_of after) ≡ true → Due after (answer_of after)) → Due (c ∷ after) (answer_of (c ∷ after))
+    go (Some i) e next = inl (record {
       at = i;
       there = (least_sound c.finds c.places i e).0;
       finds_it = (least_sound c.finds c.places i e).1;
       smallest = least_first c.finds c.places i e;
-      gives_it = ap (λ (g : Found). then_check (refuse_at c.gives g) (answer_of after)) e ∙ then_refused (c.gives i) (answer_of after) (r.0 i);
+      gives_it = ap (λ (g : Option ℕ). then_check (refuse_at c.gives g) (answer_of after)) e ∙ then_refused (c.gives i) (answer_of after) (r.0 i);
     })
-    go Nothing e next =
-        let given : answer_of (c ∷ after) ≡ answer_of after = ap (λ (g : Found). then_check (refuse_at c.gives g) (answer_of after)) e in
+    go None e next =
+        let given : answer_of (c ∷ after) ≡ answer_of after = ap (λ (g : Option ℕ). then_check (refuse_at c.gives g) (answer_of after)) e in
         inr (least_never c.finds c.places e, subst (Due after) (sym given) (next (sym (ap refusing given) ∙ h)))
 
 -- an outcome that is the refusal given, or no refusal
@@ -83,9 +83,9 @@ then_then a b c = go (refusing a) refl
     go true e = ap (λ (x : Answer). then_check x c) (then_refused a b e) ∙ then_refused a c e ∙ sym (then_refused a (then_check b c) e)
     go false e = ap (λ (x : Answer). then_check x c) (then_next a b e) ∙ sym (then_next a (then_check b c) e)
 
-pub last_of : (gives : ℕ → Answer) → ((i : ℕ) → refusing (gives i) ≡ true) → (f : Found) → refuse_at gives f ≡ then_check (refuse_at gives f) Done
-last_of gives r (At i) = sym (then_refused (gives i) Done (r i))
-last_of gives r Nothing = refl
+pub last_of : (gives : ℕ → Answer) → ((i : ℕ) → refusing (gives i) ≡ true) → (f : Option ℕ) → refuse_at gives f ≡ then_check (refuse_at gives f) Done
+last_of gives r (Some i) = sym (then_refused (gives i) Done (r i))
+last_of gives r None = refl
 
 pub once_is : (t : Bool) (a : Answer) → cond t Done a ≡ refuse_at (λ i. a) (least (λ i. not t) 1)
 unfolding least

@@ -12,7 +12,7 @@ use lib.Ieee.{Float, binary32, of_bits}
 use lib.Ieee.Nearest.{closest}
 use Rattle.base_answers.specs.Numbers.{refusing}
 use Rattle.base_answers.specs.declared.Answer.{Answer}
-use Rattle.base_answers.specs.declared.Answer.TheVariants as answer
+use Rattle.base_answers.specs.Answers as answer
 use Rattle.base_types.specs.Pitches.{is_pitch}
 use Rattle.base_types.proofs.Laws.Pitches.{number_some, number_most}
 use Rattle.grid_coordinate.specs.Units.{one, signed, units}

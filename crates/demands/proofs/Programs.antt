@@ -11,7 +11,8 @@ use lib.ListN.{length, length-append}
 use borrow.Author.Tests.{leb-true, leb-false}
 use Rattle.base_answers.specs.Numbers.{refusing}
 use Rattle.base_answers.specs.declared.Answer.{Answer}
-use Rattle.base_answers.specs.declared.Answer.TheVariants.{Done, Words, Corners, Buffer, Unnamed, States, Line, NoPitch}
+use Rattle.base_answers.specs.Answers.{Words, Corners, Buffer, Unnamed, States, Line, NoPitch}
+use Rattle.base_answers.specs.declared.Answer.TheVariants.{Done}
 use Rattle.base_types.specs.Counts.{threes}
 use Rattle.base_types.specs.Pitches.{is_pitch}
 use Rattle.base_limits.specs.Limits as limits

@@ -10,7 +10,8 @@ use lib.IntN.{ℤ}
 use lib.ListN.{length, get_or, take, drop, length-map}
 use Rattle.base_answers.specs.Numbers.{refusing, number_of}
 use Rattle.base_answers.specs.declared.Answer.{Answer}
-use Rattle.base_answers.specs.declared.Answer.TheVariants.{Done, States}
+use Rattle.base_answers.specs.Answers.{States}
+use Rattle.base_answers.specs.declared.Answer.TheVariants.{Done}
 use Rattle.surface_rules.specs.Edges.{Sound}
 use Rattle.surface_rules.specs.Refusals.{refusal}
 use Rattle.surface_rules.proofs.Laws.Lists.{map_at}

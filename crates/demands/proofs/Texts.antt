@@ -1,4 +1,5 @@
 -- The demand of texts is kept, by every outcome that reading and writing may have.
+use Rattle.std.specs.Prelude.{Option, Some, None}
 use mathlib.Core.Path.{◌≡◌, refl, sym, ap, ap₂, ◌∙◌, subst}
 use mathlib.Core.Bool.{Bool, true, false, true≢false}
 use mathlib.Core.Logic.{inl, inr}
@@ -8,10 +9,9 @@ use native.Mathlib.Omega.{arith}
 use lib.ListN.{length, take}
 use Rattle.base_answers.specs.Numbers.{refusing}
 use Rattle.base_answers.specs.declared.Answer.{Answer}
-use Rattle.base_answers.specs.declared.Answer.TheVariants.{Done, Buffer, Unnamed, Line}
+use Rattle.base_answers.specs.Answers.{Buffer, Unnamed, Line}
+use Rattle.base_answers.specs.declared.Answer.TheVariants.{Done}
 use Rattle.base_limits.specs.Limits as limits
-use Rattle.surface_rules.specs.declared.Found.{Found}
-use Rattle.surface_rules.specs.declared.Found.TheVariants.{At, Nothing}
 use Rattle.surface_rules.specs.Smallest.{least}
 use Rattle.surface_rules.specs.Refusals.{short, unnamed, refuse_at, then_check, buffer_refusal, unnamed_refusal}
 use Rattle.surface_rules.specs.Threes.{threes, flat}
@@ -59,9 +59,9 @@ module _ (pitch : ℕ) (ws cs words corners : List ℕ) where
   unfolding deliver
   done_names d = go (refusing (then_check room names)) refl
     where
-      named : (f : Found) → refusing (refuse_at Unnamed f) ≡ false → refuse_at Unnamed f ≡ Done
-      named Nothing e = refl
-      named (At i) e = absurd (true≢false e)
+      named : (f : Option ℕ) → refusing (refuse_at Unnamed f) ≡ false → refuse_at Unnamed f ≡ Done
+      named None e = refl
+      named (Some i) e = absurd (true≢false e)
 
       go : (t : Bool) → refusing (then_check room names) ≡ t → names ≡ Done
       go true e = absurd (true≢false (sym e ∙ ap refusing (rw e at d)))
@@ -103,9 +103,9 @@ module _ (bytes words corners buffer : List ℕ) (o : ReadOutcome) (r : Reads by
 
 -- ---- a wrong line
 
-no_line_at : (F : ℕ → Answer) (l : ℕ) → ((i : ℕ) → F i ≡ Line l → ⊥) → (f : Found) → refuse_at F f ≡ Line l → ⊥
-no_line_at F l h (At i) e = h i e
-no_line_at F l h Nothing e = done_line (sym e)
+no_line_at : (F : ℕ → Answer) (l : ℕ) → ((i : ℕ) → F i ≡ Line l → ⊥) → (f : Option ℕ) → refuse_at F f ≡ Line l → ⊥
+no_line_at F l h (Some i) e = h i e
+no_line_at F l h None e = done_line (sym e)
 
 buffer_line : {i l : ℕ} → Buffer i ≡ Line l → ⊥
 buffer_line e = let z : ◌≡◌ {A = ℕ} 0 1 = cc in omega arith

@@ -3,7 +3,7 @@ use Rattle.std.specs.Prelude.{◌≡◌, Bool, false, cond, List, ℕ, ◌*◌, 
 use Rattle.std.specs.Float.{binary32}
 use Rattle.std.specs.Float.Ieee.{of_bits}
 use Rattle.base_answers.specs.Numbers.{refusing}
-use Rattle.base_answers.specs.declared.Answer.TheVariants as answer
+use Rattle.base_answers.specs.Answers as answer
 use Rattle.grid_coordinate.specs.Units.{one, signed, units}
 use Rattle.grid_coordinate.specs.Places.{Lands, Places, answer_of}
 use Rattle.grid_coordinate.specs.declared.Coordinate.{Coordinate}

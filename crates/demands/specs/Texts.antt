@@ -1,7 +1,8 @@
 -- Demand 2, of texts: "a sheet we write reads back as the same sheet, and a text we accept is the one we would write."
 use Rattle.std.specs.Prelude.{◌≡◌, true, false, List, ◌++◌, ℕ, suc, ◌^◌, ◌<◌, ◌≤◌, length, get_or, take}
 use Rattle.base_answers.specs.Numbers.{refusing}
-use Rattle.base_answers.specs.declared.Answer.TheVariants.{Done, Line}
+use Rattle.base_answers.specs.Answers.{Line}
+use Rattle.base_answers.specs.declared.Answer.TheVariants.{Done}
 use Rattle.base_types.specs.Pitches.{is_pitch}
 use Rattle.base_limits.specs.Limits as limits
 use Rattle.surface_rules.specs.Buffers.{over}

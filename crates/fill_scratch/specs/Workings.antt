@@ -2,3 +2,4 @@
 pub mod Rings
 pub mod Tray
 pub mod Scratch
+pub mod Lent

@@ -5,6 +5,15 @@ ghost use Rattle.std.specs.Prelude.{◌≤◌, length};
 ghost use Rattle.fill_scratch.specs.Workings.Rings.{Within};
 
 use base_types::{Loop, State};
+use cover_bars::{Bench, Chains};
+
+// The tray: what lies ready between two loops. The edges' links and ends and the table are lent.
+#[derive(Drop)]
+pub struct Tray<'c, 't> {
+    pub chains: Chains<'c>,
+    pub bench: Bench,
+    pub table: &'t mut [f64],
+}
 
 // A surface with no more points and no more corners than this is worked on with room for as many, and not for as many as a surface
 // may have: to clear that would take longer than the work.
@@ -17,23 +26,11 @@ pub fn longest_middling(lengths: &[u16], marks: &[u16]) -> usize
     ensures { Within result lengths.now marks.now }
 {
     let mut most = 3;
-    let mut l = 0;
-    while l < lengths.len() {
-        let n = lengths[l] as usize;
-        if n <= most {
-            l += 1;
-            continue;
+    for (l, &length) in lengths.iter().enumerate() {
+        let n = length as usize;
+        if most < n && !Loop::of(n).is_long() && marks[l] != State::RIM {
+            most = n;
         }
-        if Loop::of(n).is_long() {
-            l += 1;
-            continue;
-        }
-        if marks[l] == State::RIM {
-            l += 1;
-            continue;
-        }
-        most = n;
-        l += 1;
     }
     most
 }

@@ -5,7 +5,7 @@ use Rattle.std.specs.Float.Ieee.{fits}
 use Rattle.std.specs.Float.Ieee.Scale.{finite}
 use Rattle.std.specs.Float.Ieee.Nearest.{closest}
 use Rattle.base_answers.specs.declared.Answer.{Answer}
-use Rattle.base_answers.specs.declared.Answer.TheVariants as answer
+use Rattle.base_answers.specs.Answers as answer
 use Rattle.base_limits.specs.Limits.{greatest}
 use Rattle.grid_coordinate.specs.Units.{one, units}
 use Rattle.grid_coordinate.specs.declared.Coordinate.{Coordinate}

@@ -4,10 +4,11 @@
 ghost use Rattle.std.specs.Prelude.{◌≡◌, ◌/◌, ◌%◌, ◌^◌, ◌<◌};
 ghost use Rattle.std.specs.Float.{binary32};
 ghost use Rattle.std.specs.Float.Ieee.{of_bits};
+ghost use Rattle.base_answers.specs.Answers.{said};
 ghost use Rattle.grid_coordinate.specs.Units.{units};
 ghost use Rattle.grid_coordinate.specs.Places.{whole, answer_of};
 
-use base_answers::Answer;
+use base_answers::Refusal;
 
 // The answer for one coordinate. The float beside a whole number is what is left of the value.
 #[derive(Clone, Copy)]
@@ -20,14 +21,13 @@ pub enum Coordinate {
 
 impl Coordinate {
     // What it means for the sheet, the coordinate's word having this index: refusal 7 or 8 there, or no refusal.
-    pub fn answer(self, word: usize) -> Answer
-        ensures { result ≡ answer_of word self }
+    pub fn answer(self, word: usize) -> Result<(), Refusal>
+        ensures { said result ≡ answer_of word self }
     {
         match self {
-            Coordinate::Exact(_) => Answer::Done,
-            Coordinate::Shifted(_, _) => Answer::Done,
-            Coordinate::NotFinite => Answer::NotFinite(word),
-            Coordinate::TooFar(_) => Answer::TooFar(word),
+            Coordinate::Exact(_) | Coordinate::Shifted(_, _) => Ok(()),
+            Coordinate::NotFinite => Err(Refusal::NotFinite(word)),
+            Coordinate::TooFar(_) => Err(Refusal::TooFar(word)),
         }
     }
 }

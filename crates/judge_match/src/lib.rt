@@ -13,7 +13,7 @@ ghost use Rattle.judge_match.specs.Workings.Rows.{Matchable, SidesFree, Held, Co
 
 use base_types::{Loop, Surface};
 use cover_bits::{is_set, with};
-use judge_seat::Seat;
+use judge_seat::seat_at;
 
 // What a patch set is of a loop.
 #[derive(Clone, Copy)]
@@ -55,13 +55,11 @@ pub fn match_cover(
 
 // The sides j..j+1 of a loop of n are set in rows that were clear.
 fn sides(n: usize, has: &mut [u64; Loop::LONGEST])
-    requires { (n ≤ longest) × (length has.old ≡ longest) × ((j : ℕ) → j < longest → get_or has.old j 0 ≡ 0) }
+    requires { (0 < n) × (n ≤ longest) × (length has.old ≡ longest) × ((j : ℕ) → j < longest → get_or has.old j 0 ≡ 0) }
     ensures { (vertex : ℕ → ℕ) → Held n vertex [] has.new }
 {
-    let mut j = 0;
-    while j + 1 < n {
+    for j in 0..n - 1 {
         has[j] = with(0, j + 1);
-        j += 1;
     }
 }
 
@@ -75,14 +73,11 @@ fn collect(
     requires { Threes set.now × (length stamps.now ≡ points) × (length has.old ≡ longest) }
     ensures { Collects set.now stamps.now base has.old has.new result }
 {
-    let mut q = 0;
-    while q < set.len() {
-        let seat = judge_seat::seat_at(set, q, stamps, base);
-        let Seat::Of(i, k, _) = seat else {
+    for t in 0..set.len() / 3 {
+        let Some(seat) = seat_at(set, 3 * t, stamps, base) else {
             return false;
         };
-        has[i] = with(has[i], k);
-        q += 3;
+        has[seat.from] = with(has[seat.from], seat.to);
     }
     true
 }
@@ -97,30 +92,25 @@ fn closed(
     requires { Threes set.now × (length stamps.now ≡ points) × (length has.now ≡ longest) }
     ensures { Closes set.now stamps.now base has.now result }
 {
-    let mut q = 0;
-    while q < set.len() {
-        let seat = judge_seat::seat_at(set, q, stamps, base);
-        let Seat::Of(i, k, m) = seat else {
+    for t in 0..set.len() / 3 {
+        let Some(seat) = seat_at(set, 3 * t, stamps, base) else {
             return false;
         };
-        if !(is_set(has[i], m) & is_set(has[m], k)) {
+        if !(is_set(has[seat.from], seat.between) & is_set(has[seat.between], seat.to)) {
             return false;
         }
-        q += 3;
     }
     true
 }
 
 // Whether a stretch is set in the rows and in the bars.
 fn clash(n: usize, has: &[u64; Loop::LONGEST], bars: &[u64; Loop::LONGEST]) -> bool
-    requires { (n ≤ longest) × (length has.now ≡ longest) × (length bars.now ≡ longest) }
+    requires { (0 < n) × (n ≤ longest) × (length has.now ≡ longest) × (length bars.now ≡ longest) }
     ensures { Clashes n has.now bars.now result }
 {
     let mut both = 0u64;
-    let mut j = 0;
-    while j + 1 < n {
+    for j in 0..n - 1 {
         both = meet(both, has[j], bars[j]);
-        j += 1;
     }
     0 < both
 }

@@ -2,11 +2,12 @@
 // lightest.
 #![tactic(auto)]
 
+ghost use Rattle.base_answers.specs.Answers.{judged};
 ghost use Rattle.judge_part.specs.Workings.Parts.{PartRoom, FindsCover, WeightRoom, FindsWeight};
 
-use base_answers::Answer;
-use base_types::{Loop, Surface};
-use cover_table::Least;
+use base_answers::Verdict;
+use base_types::Loop;
+use cover_bars::Bench;
 use judge_match::Match;
 
 // What the part of the set is of the ring, which is stamped and has these bars.
@@ -15,19 +16,17 @@ pub fn judge_cover(
     ring: &[u16],
     part: &[u16],
     l: usize,
-    stamps: &[u16; Surface::POINTS],
+    bench: &Bench,
     base: u16,
-    rows: &[u64; Loop::LONGEST],
     table: &mut [f64],
-) -> Answer
-    requires { PartRoom grid.now ring.now part.now stamps.now base rows.now table.old }
-    ensures { FindsCover grid.now ring.now part.now l rows.now result }
+) -> Result<(), Verdict>
+    requires { PartRoom grid.now ring.now part.now bench.now.stamps base bench.now.rows table.old }
+    ensures { FindsCover grid.now ring.now part.now l bench.now.rows (judged result) }
 {
-    let read = judge_match::match_cover(ring, stamps, base, rows, part);
-    match read {
-        Match::NoCover => Answer::Uncovered(l),
-        Match::Barred => Answer::Barred(l),
-        Match::Allowed => judge_weight(grid, ring, part, l, rows, table),
+    match judge_match::match_cover(ring, &bench.stamps, base, &bench.rows, part) {
+        Match::NoCover => Err(Verdict::Uncovered(l)),
+        Match::Barred => Err(Verdict::Barred(l)),
+        Match::Allowed => judge_weight(grid, ring, part, l, &bench.rows, table),
     }
 }
 
@@ -39,16 +38,15 @@ fn judge_weight(
     l: usize,
     rows: &[u64; Loop::LONGEST],
     table: &mut [f64],
-) -> Answer
+) -> Result<(), Verdict>
     requires { WeightRoom grid.now ring.now part.now rows.now table.old }
-    ensures { FindsWeight grid.now ring.now part.now l rows.now result }
+    ensures { FindsWeight grid.now ring.now part.now l rows.now (judged result) }
 {
-    let least = cover_lay::least(grid, ring, rows, table);
-    let Least::Weight(weight) = least else {
-        return Answer::Done;
+    let Some(weight) = cover_lay::least(grid, ring, rows, table) else {
+        return Ok(());
     };
     if weight < cover_sum::weigh_set(grid, part) {
-        return Answer::Heavy(l);
+        return Err(Verdict::Heavy(l));
     }
-    Answer::Done
+    Ok(())
 }

@@ -10,7 +10,8 @@ use lib.IntN.{ℤ}
 use lib.ListN.{length, get_or, take, drop}
 use Rattle.base_answers.specs.Numbers.{refusing, number_of}
 use Rattle.base_answers.specs.declared.Answer.{Answer}
-use Rattle.base_answers.specs.declared.Answer.TheVariants.{Done, Misdeclared, Uncovered, Barred, Heavy}
+use Rattle.base_answers.specs.Answers.{Misdeclared, Uncovered, Barred, Heavy}
+use Rattle.base_answers.specs.declared.Answer.TheVariants.{Done}
 use Rattle.base_limits.specs.States as stated
 use Rattle.surface_rules.specs.Threes.{threes}
 use Rattle.cover_rules.specs.Covers.{Cover, Uses, vertex_of}

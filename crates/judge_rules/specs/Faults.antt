@@ -3,7 +3,7 @@
 -- left of the set.
 use Rattle.std.specs.Prelude.{◌≡◌, Bool, true, false, List, ℕ, ◌-◌, ◌*◌, ◌<◌, ◌≤◌, ℤ, length, take}
 use Rattle.base_answers.specs.declared.Answer.{Answer}
-use Rattle.base_answers.specs.declared.Answer.TheVariants.{Misdeclared, Uncovered, Barred, Heavy}
+use Rattle.base_answers.specs.Answers.{Misdeclared, Uncovered, Barred, Heavy}
 use Rattle.base_limits.specs.Limits as limits
 use Rattle.base_limits.specs.States as stated
 use Rattle.surface_rules.specs.Threes.{threes}

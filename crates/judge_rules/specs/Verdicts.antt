@@ -1,7 +1,8 @@
 -- The verdict on a patch set, over all loops in listed order.
 use Rattle.std.specs.Prelude.{◌≡◌, Bool, cond, ◌⊎◌, List, [], ◌∷◌, ◌++◌, ℕ, suc, ◌+◌, eqb, ℤ, take, drop}
 use Rattle.base_answers.specs.declared.Answer.{Answer}
-use Rattle.base_answers.specs.declared.Answer.TheVariants.{Done, LeftOver}
+use Rattle.base_answers.specs.Answers.{LeftOver}
+use Rattle.base_answers.specs.declared.Answer.TheVariants.{Done}
 use Rattle.base_limits.specs.States as stated
 use Rattle.judge_rules.specs.Faults.{share, RightIf, FaultIf}
 

@@ -1,76 +1,76 @@
 // The seat of a triangle of a patch set: the positions of its corners on a loop, turned so that the third lies between the other two.
 #![tactic(auto)]
 
-ghost use Rattle.std.specs.Prelude.{◌≡◌, List, ℕ, ◌+◌, ◌-◌, ◌≤◌, length};
-ghost use Rattle.base_limits.specs.Limits.{points};
+ghost use Rattle.std.specs.Prelude.{◌≡◌, List, ℕ, ◌+◌, ◌<◌, ◌≤◌, length, IfSome};
+ghost use Rattle.base_limits.specs.Limits.{points, longest};
 ghost use Rattle.cover_rules.specs.Covers.{on};
 ghost use Rattle.judge_seat.specs.Workings.Seats.{Ringed, Lies, SeatedAs, SeatFound};
 
 use base_types::{Loop, Surface};
 
-// The positions i, k and m of a triangle's corners, turned so that i < m < k; or that it has no such positions.
+// The positions of a triangle's corners, turned so that from < between < to.
 #[derive(Clone, Copy)]
-pub enum Seat {
-    Of(usize, usize, usize),
-    Not,
+pub struct Seat {
+    pub from: usize,
+    pub to: usize,
+    pub between: usize,
 }
 
-// The seat of the triangle whose corners stand from q on.
-pub fn seat_at(set: &[u16], q: usize, stamps: &[u16; Surface::POINTS], base: u16) -> Seat
+// The seat of the triangle whose corners stand from q on, if its corners lie on the ring and can be turned so.
+pub fn seat_at(set: &[u16], q: usize, stamps: &[u16; Surface::POINTS], base: u16) -> Option<Seat>
     requires { (q + 3 ≤ length set.now) × (length stamps.now ≡ points) }
     ensures { SeatFound set.now q stamps.now base result }
 {
-    let a = position(stamps, base, set[q]);
-    let b = position(stamps, base, set[q + 1]);
-    let c = position(stamps, base, set[q + 2]);
-    if Loop::LONGEST <= a || Loop::LONGEST <= b || Loop::LONGEST <= c {
-        return Seat::Not;
-    }
+    let a = position(stamps, base, set[q])?;
+    let b = position(stamps, base, set[q + 1])?;
+    let c = position(stamps, base, set[q + 2])?;
     seat_of(a, b, c)
 }
 
-// The position of a point on the ring, or LONGEST.
-fn position(stamps: &[u16; Surface::POINTS], base: u16, v: u16) -> usize
+// The position of a point on the ring, if it lies there.
+fn position(stamps: &[u16; Surface::POINTS], base: u16, v: u16) -> Option<usize>
     requires { length stamps.now ≡ points }
-    ensures { (ring : List ℕ) → Ringed ring base stamps.now → Lies ring v result }
+    ensures lies { (ring : List ℕ) → Ringed ring base stamps.now → Lies ring v result }
+    ensures fits { IfSome result (λ r. r < longest) }
 {
-    let point = v as usize;
-    if Surface::POINTS <= point {
-        return Loop::LONGEST;
+    let stamp = *stamps.get(v as usize)?;
+    let place = stamp.checked_sub(base)? as usize;
+    if Loop::LONGEST <= place {
+        return None;
     }
-    let stamp = stamps[point];
-    if stamp < base {
-        return Loop::LONGEST;
-    }
-    over(stamp, base)
-}
-
-// How far the stamp is over the base.
-fn over(stamp: u16, base: u16) -> usize
-    requires { base ≤ stamp }
-    ensures { result ≡ stamp - base }
-{
-    (stamp - base) as usize
+    Some(place)
 }
 
 // The three positions turned until the third lies between the other two, if they can be.
-fn seat_of(a: usize, b: usize, c: usize) -> Seat
+fn seat_of(a: usize, b: usize, c: usize) -> Option<Seat>
     ensures { SeatedAs (on a b c) result }
 {
     if a < c {
         if c < b {
-            return Seat::Of(a, b, c);
+            return Some(Seat {
+                from: a,
+                to: b,
+                between: c,
+            });
         }
         if b < a {
-            return Seat::Of(b, c, a);
+            return Some(Seat {
+                from: b,
+                to: c,
+                between: a,
+            });
         }
-        return Seat::Not;
+        return None;
     }
     if c < b {
         if b < a {
-            return Seat::Of(c, a, b);
+            return Some(Seat {
+                from: c,
+                to: a,
+                between: b,
+            });
         }
-        return Seat::Not;
+        return None;
     }
-    Seat::Not
+    None
 }

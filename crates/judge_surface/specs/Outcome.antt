@@ -1,8 +1,11 @@
 -- What the checker leaves and answers: the grid and the loops, with the verdict on the set; or a refusal, and everything as it was.
-use Rattle.std.specs.Prelude.{◌≡◌, Bool, true, false, List, [], ℕ, eqb, length}
+use Rattle.std.specs.Prelude.{◌≡◌, Bool, true, false, List, [], ℕ, eqb, length, Result, Ok, Err}
 use Rattle.base_answers.specs.Numbers.{refusing}
+use Rattle.base_answers.specs.declared.Refusal.{Refusal}
 use Rattle.base_answers.specs.declared.Answer.{Answer}
-use Rattle.base_answers.specs.declared.Answer.TheVariants.{States}
+use Rattle.base_answers.specs.declared.Answer.TheVariants.{Refused}
+use Rattle.base_answers.specs.Answers as answers
+use Rattle.base_answers.specs.Answers.{States}
 use Rattle.surface_rules.specs.Refusals.{refusal}
 use Rattle.loop_rules.specs.Loops.{loops}
 use Rattle.survey_grid.specs.Grid.{grid_of}
@@ -13,8 +16,9 @@ use Rattle.judge_rules.specs.Verdicts.{Verdict}
 use Rattle.judge_answer.specs.declared.Judged.{Judged}
 
 -- what is answered, with what is left
-abbrev pub outcome : Judged → Buffers → Outcome
-outcome r b = record { answer = r.answer; loops = r.loops; vertices = r.vertices; left = b }
+abbrev pub outcome : Result Judged Refusal → Buffers → Outcome
+outcome (Ok j) b = record { answer = answers.judged j.verdict; loops = j.loops; vertices = j.vertices; left = b }
+outcome (Err r) b = refused (Refused r) b
 
 -- "The checker is lent buffers 1 to 3 and leaves the same there, whatever its verdict": what a survey leaves, with the verdict a
 abbrev pub judged : Answer → ℕ → List ℕ → List ℕ → Buffers → Outcome

@@ -6,8 +6,6 @@ ghost use Rattle.surface_rules.specs.Buffers.{laid};
 ghost use Rattle.loop_rules.specs.Loops.{ring, starts_at};
 ghost use Rattle.loop_cut.specs.Workings.Growing.{Sought, part, RingRoom, ledger, CutRoom, WasCut, GrowRoom, Grew};
 
-use surface_rules::Found;
-
 // How many loops were listed, how many vertices their rings have in all, and how many edges the path has.
 #[derive(Clone, Copy)]
 pub struct Listed {
@@ -34,14 +32,12 @@ pub fn grow(
     let depth = at.path;
     path[depth] = e as u16;
     places[corners[e] as usize] = depth as u16;
-    let found = starts_at(corners, path, depth + 1, places, corners[f]);
-    match found {
-        Found::Nothing => Listed {
-            loops: at.loops,
-            vertices: at.vertices,
+    match starts_at(corners, path, depth + 1, places, corners[f]) {
+        None => Listed {
             path: depth + 1,
+            ..at
         },
-        Found::At(j) => cut(corners, path, j, depth + 1, rings, lengths, firsts, at),
+        Some(j) => cut(corners, path, j, depth + 1, rings, lengths, firsts, at),
     }
 }
 
@@ -72,19 +68,19 @@ fn cut(
 }
 
 // Where an edge of the path starts at x. A point's place counts only while the path has an edge there that starts at it.
-fn starts_at(corners: &[u16], path: &[u16], depth: usize, places: &[u16], x: u16) -> Found
+fn starts_at(corners: &[u16], path: &[u16], depth: usize, places: &[u16], x: u16) -> Option<usize>
     requires { Sought corners.now path.now depth places.now x }
     ensures { result ≡ starts_at corners.now (take depth path.now) x }
 {
     let i = places[x as usize] as usize;
     if depth <= i {
-        return Found::Nothing;
+        return None;
     }
     let e = path[i] as usize;
     if corners[e] == x {
-        return Found::At(i);
+        return Some(i);
     }
-    Found::Nothing
+    None
 }
 
 // The starts of the path's edges from j up to `end` are written to the rings from `from` on.
@@ -92,12 +88,7 @@ fn write_ring(corners: &[u16], path: &[u16], j: usize, end: usize, rings: &mut [
     requires { RingRoom corners.now path.now j end rings.old from }
     ensures { rings.new ≡ laid from (ring corners.now (part path.now j end)) rings.old }
 {
-    let mut i = j;
-    let mut o = from;
-    while i < end {
-        let e = path[i] as usize;
-        rings[o] = corners[e];
-        i += 1;
-        o += 1;
+    for (k, e) in path[j..end].iter().enumerate() {
+        rings[from + k] = corners[*e as usize];
     }
 }

@@ -59,6 +59,7 @@ pub fn list_with(
         path: 0,
     };
     let mut h = 0;
+    // no `for`: where h does not lead, it jumps to the next that does
     while h < corners.len() {
         if turns[h] < OPEN {
             h = loop_leaders::next_leader(turns, h, corners.len());

@@ -29,41 +29,36 @@ fn leading(turns: &[u16], from: usize, end: usize) -> usize
     requires { (from ≤ end) × (end ≤ length turns.now) }
     ensures { (from ≤ result) × (result ≤ end) × Quiet turns.now from result }
 {
-    let mut i = from;
-    while i < end {
+    for i in from..end {
         if OPEN <= turns[i] {
             return i;
         }
-        i += 1;
     }
-    i
+    end
 }
 
-// A half-edge from h on, and at most n, before which none from h on leads: eight are passed over at a time.
+// A half-edge from h on, and at most n, before which none from h on leads: eight are passed over at a time. (A `for` over chunks
+// would count chunks, and the answer is a half-edge.)
 fn skip_quiet(turns: &[u16], h: usize, n: usize) -> usize
     requires { (h ≤ n) × (n ≤ length turns.now) }
     ensures { (h ≤ result) × (result ≤ n) × Quiet turns.now h result }
 {
     let mut i = h;
-    while i + 8 <= n {
-        if !is_quiet(turns, i) {
-            return i;
-        }
+    while i + 8 <= n && is_quiet(turns, i) {
         i += 8;
     }
     i
 }
 
-// Whether none of the eight half-edges from h on leads.
+// Whether none of the eight half-edges from h on leads. (`iter().all(..)` would stop at the first: without a way out, the eight are
+// compared at once.)
 fn is_quiet(turns: &[u16], h: usize) -> bool
     requires { h + 8 ≤ length turns.now }
     ensures { result ≡ true → Quiet turns.now h (h + 8) }
 {
     let mut all = true;
-    let mut i = h;
-    while i < h + 8 {
-        all = all & (turns[i] < OPEN);
-        i += 1;
+    for i in h..h + 8 {
+        all &= turns[i] < OPEN;
     }
     all
 }

@@ -1,7 +1,5 @@
 -- Loops. A loop is the list of its half-edges, from the one that it is listed from; its ring is where they start.
-use Rattle.std.specs.Prelude.{Bool, true, ◌&&◌, cond, List, [], ◌∷◌, ◌++◌, map, ℕ, zero, suc, eqb, leb, length, get_or, take, drop}
-use Rattle.surface_rules.specs.declared.Found.{Found}
-use Rattle.surface_rules.specs.declared.Found.TheVariants.{At, Nothing}
+use Rattle.std.specs.Prelude.{Bool, true, ◌&&◌, cond, List, [], ◌∷◌, ◌++◌, map, ℕ, zero, suc, eqb, leb, length, get_or, take, drop, Option, Some, None}
 use Rattle.surface_rules.specs.Smallest.{least}
 use Rattle.surface_rules.specs.Edges.{start_of, end_of, is_open}
 use Rattle.loop_rules.specs.Next.{next}
@@ -29,13 +27,13 @@ pub record Split : Type 0 where
   pub listed : List (List ℕ)
 
 -- where "an edge of the path starts at x"
-unfoldable pub starts_at : List ℕ → List ℕ → ℕ → Found
+unfoldable pub starts_at : List ℕ → List ℕ → ℕ → Option ℕ
 starts_at corners path x = least (λ (i : ℕ). eqb (start_of corners (get_or path i 0)) x) (length path)
 
 -- "cut off the path from that edge on: that is a loop, listed now, from that edge"
-abbrev pub cut : Found → List ℕ → List (List ℕ) → Split
-cut (At j) path listed = record { path = take j path; listed = listed ++ (drop j path ∷ []) }
-cut Nothing path listed = record { path = path; listed = listed }
+abbrev pub cut : Option ℕ → List ℕ → List (List ℕ) → Split
+cut (Some j) path listed = record { path = take j path; listed = listed ++ (drop j path ∷ []) }
+cut None path listed = record { path = path; listed = listed }
 
 -- "After adding an edge that ends at x, if an edge of the path starts at x", the path is cut.
 unfoldable pub grow : List ℕ → Split → ℕ → Split

@@ -1,15 +1,13 @@
 -- Next. "From open u to v in triangle (u,v,w) take v to w. While the edge in hand, v to x, is not open, go to the triangle
 -- holding x to v and take the edge of it that leaves v. The first open one is the next."
-use Rattle.std.specs.Prelude.{List, ℕ, zero, suc, length}
-use Rattle.surface_rules.specs.declared.Found.{Found}
-use Rattle.surface_rules.specs.declared.Found.TheVariants.{At, Nothing}
+use Rattle.std.specs.Prelude.{List, ℕ, zero, suc, length, Option, Some, None}
 use Rattle.surface_rules.specs.Edges.{following, twin}
 
 -- The edge in hand, e, stays where it is open. Otherwise the triangle that holds its twin has an edge that leaves the same
 -- vertex: the one after the twin.
-abbrev pub across : Found → ℕ → ℕ
-across Nothing e = e
-across (At g) e = following g
+abbrev pub across : Option ℕ → ℕ → ℕ
+across None e = e
+across (Some g) e = following g
 
 unfoldable pub step : List ℕ → ℕ → ℕ
 step corners e = across (twin corners e) e

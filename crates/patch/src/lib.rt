@@ -2,6 +2,7 @@
 #![tactic(auto)]
 
 ghost use Rattle.std.specs.Prelude.{◌≡◌, ◌*◌, ◌/◌, ◌≤◌, length};
+ghost use Rattle.base_answers.specs.Answers.{said};
 ghost use Rattle.base_types.specs.Pitches.{pitch_of};
 ghost use Rattle.base_answers.specs.declared.Answer.TheVariants.{Done};
 ghost use Rattle.base_limits.specs.Limits as limits;
@@ -10,8 +11,8 @@ ghost use Rattle.fill_scratch.specs.Workings.Scratch.{few};
 ghost use Rattle.patch_surface.specs.Outcome.{outcome, buffers, Patches};
 ghost use Rattle.patch_surface.specs.Workings.Checking.{Checks, PatchRoom, Finishes};
 
-use base_answers::Answer;
-use base_types::{Named, Pitch, Surface};
+use base_answers::Refusal;
+use base_types::{Pitch, Sheet, Surface};
 use fill_scratch::FEW;
 use patch_surface::Patched;
 
@@ -25,71 +26,61 @@ pub fn patch(
     records: &mut [u64],
     patches: &mut [u16],
     pitch: u32,
-) -> Patched
+) -> Result<Patched, Refusal>
     ensures { Patches pitch words.now corners.now (buffers grid.old rings.old records.old patches.old)
         (outcome result (buffers grid.new rings.new records.new patches.new)) }
 {
-    match Pitch::of(pitch) {
-        Named::Nothing => patch_surface::refused(Answer::NoPitch),
-        Named::Is(step) => patch_at(words, corners, grid, rings, records, patches, step),
-    }
+    let step = Pitch::try_from(pitch)?;
+    let sheet = Sheet {
+        words,
+        corners,
+        pitch: step,
+    };
+    patch_at(sheet, grid, rings, records, patches)
 }
 
 // The same at one of the four pitches.
 fn patch_at(
-    words: &[u32],
-    corners: &[u16],
+    sheet: Sheet,
     grid: &mut [i32],
     rings: &mut [u16],
     records: &mut [u64],
     patches: &mut [u16],
-    pitch: Pitch,
-) -> Patched
-    ensures { Patches (pitch_of pitch) words.now corners.now (buffers grid.old rings.old records.old patches.old)
+) -> Result<Patched, Refusal>
+    ensures { Patches (pitch_of sheet.entry.pitch) sheet.entry.words.now sheet.entry.corners.now (buffers grid.old rings.old records.old patches.old)
         (outcome result (buffers grid.new rings.new records.new patches.new)) }
 {
-    let counted = check_shape::check_counts(words.len(), corners.len());
-    if counted.refuses() {
-        return patch_surface::refused(counted);
+    check_shape::check_counts(sheet.words.len(), sheet.corners.len())?;
+    let surface = Surface::of(sheet.words.len(), sheet.corners.len());
+    if surface.points <= FEW && sheet.corners.len() <= FEW {
+        return patch_few(sheet, grid, rings, records, patches);
     }
-    let surface = Surface::of(words.len(), corners.len());
-    if surface.points <= FEW {
-        if corners.len() <= FEW {
-            return patch_few(words, corners, grid, rings, records, patches, pitch);
-        }
-    }
-    patch_many(words, corners, grid, rings, records, patches, pitch)
+    patch_many(sheet, grid, rings, records, patches)
 }
 
-// Few points and corners.
+// Few points and corners. Not one function with `patch_many`, by const parameters: it would take three, ask of each that it be large enough, and have
+// no use for `patch_checked`, which others call.
 fn patch_few(
-    words: &[u32],
-    corners: &[u16],
+    sheet: Sheet,
     grid: &mut [i32],
     rings: &mut [u16],
     records: &mut [u64],
     patches: &mut [u16],
-    pitch: Pitch,
-) -> Patched
-    requires { (count_refusal (length words.now) (length corners.now) ≡ Done) × (length words.now / 3 ≤ few) × (length corners.now ≤ few) }
-    ensures { Patches (pitch_of pitch) words.now corners.now (buffers grid.old rings.old records.old patches.old)
+) -> Result<Patched, Refusal>
+    requires { (count_refusal (length sheet.words.now) (length sheet.corners.now) ≡ Done) × (length sheet.words.now / 3 ≤ few) × (length sheet.corners.now ≤ few) }
+    ensures { Patches (pitch_of sheet.entry.pitch) sheet.entry.words.now sheet.entry.corners.now (buffers grid.old rings.old records.old patches.old)
         (outcome result (buffers grid.new rings.new records.new patches.new)) }
 {
     let mut turns = [0u16; 2 * FEW];
-    let answer = patch_surface::check(
-        words, corners, &mut turns, grid, rings, records, patches, pitch,
-    );
-    if answer.refuses() {
-        return patch_surface::refused(answer);
-    }
+    patch_surface::check(sheet, &mut turns, grid, rings, records, patches)?;
     let mut path = [0u16; 2 * FEW];
     let mut places = [0u16; FEW];
     let mut lengths = [0u16; FEW];
     let mut states = [0u16; FEW];
     let mut firsts = [0u16; FEW];
     let mut runs = [0u32; FEW];
-    patch_surface::patch_checked(
-        corners,
+    Ok(patch_surface::patch_checked(
+        sheet.corners,
         &mut turns,
         &mut path,
         &mut places,
@@ -97,42 +88,35 @@ fn patch_few(
         &mut states,
         &mut firsts,
         &mut runs,
-        &grid[..words.len()],
+        &grid[..sheet.words.len()],
         rings,
         records,
         patches,
-    )
+    ))
 }
 
 // Any number of them.
 fn patch_many(
-    words: &[u32],
-    corners: &[u16],
+    sheet: Sheet,
     grid: &mut [i32],
     rings: &mut [u16],
     records: &mut [u64],
     patches: &mut [u16],
-    pitch: Pitch,
-) -> Patched
-    requires { count_refusal (length words.now) (length corners.now) ≡ Done }
-    ensures { Patches (pitch_of pitch) words.now corners.now (buffers grid.old rings.old records.old patches.old)
+) -> Result<Patched, Refusal>
+    requires { count_refusal (length sheet.words.now) (length sheet.corners.now) ≡ Done }
+    ensures { Patches (pitch_of sheet.entry.pitch) sheet.entry.words.now sheet.entry.corners.now (buffers grid.old rings.old records.old patches.old)
         (outcome result (buffers grid.new rings.new records.new patches.new)) }
 {
     let mut turns = [0u16; 2 * Surface::CORNERS];
-    let answer = patch_surface::check(
-        words, corners, &mut turns, grid, rings, records, patches, pitch,
-    );
-    if answer.refuses() {
-        return patch_surface::refused(answer);
-    }
-    patch_checked(
-        corners,
+    patch_surface::check(sheet, &mut turns, grid, rings, records, patches)?;
+    Ok(patch_checked(
+        sheet.corners,
         &mut turns,
-        &grid[..words.len()],
+        &grid[..sheet.words.len()],
         rings,
         records,
         patches,
-    )
+    ))
 }
 
 // Patches a surface of any size that passed the checks, on its grid, with the table of turns that they filled.
@@ -181,33 +165,31 @@ pub fn check(
     records: &[u64],
     patches: &[u16],
     pitch: u32,
-) -> Answer
+) -> Result<(), Refusal>
     requires { limits.corners ≤ length turns.old }
-    ensures { Checks pitch words.now corners.now (buffers grid.old rings.now records.now patches.now) result turns.new grid.new }
+    ensures { Checks pitch words.now corners.now (buffers grid.old rings.now records.now patches.now) (said result) turns.new grid.new }
 {
-    match Pitch::of(pitch) {
-        Named::Nothing => Answer::NoPitch,
-        Named::Is(step) => check_at(words, corners, turns, grid, rings, records, patches, step),
-    }
+    let step = Pitch::try_from(pitch)?;
+    let sheet = Sheet {
+        words,
+        corners,
+        pitch: step,
+    };
+    check_at(sheet, turns, grid, rings, records, patches)
 }
 
 // The same at one of the four pitches.
 fn check_at(
-    words: &[u32],
-    corners: &[u16],
+    sheet: Sheet,
     turns: &mut [u16],
     grid: &mut [i32],
     rings: &[u16],
     records: &[u64],
     patches: &[u16],
-    pitch: Pitch,
-) -> Answer
+) -> Result<(), Refusal>
     requires { limits.corners ≤ length turns.old }
-    ensures { Checks (pitch_of pitch) words.now corners.now (buffers grid.old rings.now records.now patches.now) result turns.new grid.new }
+    ensures { Checks (pitch_of sheet.entry.pitch) sheet.entry.words.now sheet.entry.corners.now (buffers grid.old rings.now records.now patches.now) (said result) turns.new grid.new }
 {
-    let counted = check_shape::check_counts(words.len(), corners.len());
-    if counted.refuses() {
-        return counted;
-    }
-    patch_surface::check(words, corners, turns, grid, rings, records, patches, pitch)
+    check_shape::check_counts(sheet.words.len(), sheet.corners.len())?;
+    patch_surface::check(sheet, turns, grid, rings, records, patches)
 }

@@ -1,13 +1,19 @@
 // The course over all loops, in listed order.
 #![tactic(auto)]
 
-ghost use Rattle.fill_scratch.specs.Workings.Rings.{AtSight, Within};
+ghost use Rattle.std.specs.Prelude.{◌≡◌, List, Float, ◌≤◌, length};
+ghost use Rattle.fill_scratch.specs.Workings.Rings.{AtSight};
 ghost use Rattle.fill_scratch.specs.Workings.Tray.{EdgeRoom, Serves};
 ghost use Rattle.patch_all.specs.Workings.Courses.{docket, CourseRoom, CourseDone};
 
 use base_types::{Loop, State, Surface};
+use cover_bars::{Bench, Chains};
 use cover_column::{PLACES, SHORT, SHORT_PLACES};
+use fill_scratch::Tray;
 use patch_sight::Spot;
+
+// Loops of up to four edges take no table.
+const NO_PLACES: usize = 0;
 
 // Rims, loops of three and long ones only.
 fn patch_at_sight(
@@ -24,30 +30,24 @@ fn patch_at_sight(
     ensures { CourseDone grid.now corners.now rings.now lengths.now (docket states.old weights.old patches.old)
         result (docket states.new weights.new patches.new) }
 {
-    let mut r = 0;
+    let mut end = 0;
     let mut p = 0;
-    let mut l = 0;
-    while l < lengths.len() {
-        let end = r + lengths[l] as usize;
+    for (l, &length) in lengths.iter().enumerate() {
+        let r = end;
+        end += length as usize;
         if states[l] == State::RIM {
             weights[l] = 0;
-            r = end;
-            l += 1;
             continue;
         }
-        if 3 < lengths[l] {
+        if 3 < length {
             states[l] = State::LONG;
             weights[l] = 0;
-            r = end;
-            l += 1;
             continue;
         }
         let done = patch_sight::patch_three(grid, &rings[r..end], patches, p, 0);
         states[l] = done.state;
         weights[l] = done.weight;
         p = done.corners;
-        r = end;
-        l += 1;
     }
     p
 }
@@ -70,31 +70,33 @@ fn patch_each(
     ensures { CourseDone grid.now corners.now rings.now lengths.now (docket states.old weights.old patches.old)
         result (docket states.new weights.new patches.new) }
 {
-    let mut heads = [0u16; Surface::POINTS];
-    let mut stamps = [0u16; Surface::POINTS];
-    let mut rows = [0u64; Loop::LONGEST];
-    cover_bars::chain_input(corners, &mut heads, links, ends);
-    let mut r = 0;
+    let mut tray = Tray {
+        chains: Chains {
+            heads: [0; Surface::POINTS],
+            links,
+            ends,
+        },
+        bench: Bench {
+            stamps: [0; Surface::POINTS],
+            rows: [0; Loop::LONGEST],
+        },
+        table,
+    };
+    tray.chains.chain_input(corners);
+    let mut end = 0;
     let mut p = 0;
     let mut e = corners.len();
-    let mut l = 0;
-    while l < lengths.len() {
-        let end = r + lengths[l] as usize;
+    for (l, &length) in lengths.iter().enumerate() {
+        let r = end;
+        end += length as usize;
         if states[l] == State::RIM {
             weights[l] = 0;
-            r = end;
-            l += 1;
             continue;
         }
         let done = patch_loop::patch_loop(
             grid,
             &rings[r..end],
-            &mut heads,
-            links,
-            ends,
-            &mut stamps,
-            &mut rows,
-            table,
+            &mut tray,
             patches,
             Spot {
                 corners: p,
@@ -106,14 +108,13 @@ fn patch_each(
         weights[l] = done.weight;
         p = done.corners;
         e = done.edges;
-        r = end;
-        l += 1;
     }
     p
 }
 
-// All loops, with a table for any that is not long.
-fn patch_long(
+// All loops, with a table of so many places. Kept apart, so that a table is on the stack only where it is used.
+#[inline(never)]
+fn patch_tabled<const TABLE: usize>(
     grid: &[i32],
     corners: &[u16],
     rings: &[u16],
@@ -124,56 +125,16 @@ fn patch_long(
     links: &mut [u16],
     ends: &mut [u16],
 ) -> usize
-    requires { CourseRoom grid.now corners.now rings.now lengths.now (docket states.old weights.old patches.old)
-        × EdgeRoom corners.now links.old ends.old }
+    requires course_room { CourseRoom grid.now corners.now rings.now lengths.now (docket states.old weights.old patches.old) }
+    requires edge_room { EdgeRoom corners.now links.old ends.old }
+    requires serves { (table : List Float) → length table ≡ TABLE → Serves lengths.now states.old table }
+    requires table_in_bounds { TABLE ≤ PLACES }
     ensures { CourseDone grid.now corners.now rings.now lengths.now (docket states.old weights.old patches.old)
         result (docket states.new weights.new patches.new) }
 {
-    let mut table = [0.0; PLACES];
+    let mut table = [0.0; TABLE];
     patch_each(
         grid, corners, rings, lengths, states, weights, patches, links, ends, &mut table,
-    )
-}
-
-// All loops, of which those that are patched have at most so many edges. Up to four no table is needed; up to so many as are short the one
-// that is lent will do, or if that is too short another one, with which the function calls itself. It does so also in order that the
-// compiler keeps it apart from `patch_long`: the long table is then on the stack only where it is used.
-fn patch_tabled(
-    grid: &[i32],
-    corners: &[u16],
-    rings: &[u16],
-    lengths: &[u16],
-    states: &mut [u16],
-    weights: &mut [u64],
-    patches: &mut [u16],
-    links: &mut [u16],
-    ends: &mut [u16],
-    table: &mut [f64],
-    most: usize,
-) -> usize
-    requires { CourseRoom grid.now corners.now rings.now lengths.now (docket states.old weights.old patches.old)
-        × EdgeRoom corners.now links.old ends.old × Within most lengths.now states.old }
-    ensures { CourseDone grid.now corners.now rings.now lengths.now (docket states.old weights.old patches.old)
-        result (docket states.new weights.new patches.new) }
-{
-    if most <= 4 {
-        return patch_each(
-            grid, corners, rings, lengths, states, weights, patches, links, ends, table,
-        );
-    }
-    if SHORT < most {
-        return patch_long(
-            grid, corners, rings, lengths, states, weights, patches, links, ends,
-        );
-    }
-    if table.len() < SHORT_PLACES {
-        let mut short = [0.0; SHORT_PLACES];
-        return patch_tabled(
-            grid, corners, rings, lengths, states, weights, patches, links, ends, &mut short, most,
-        );
-    }
-    patch_each(
-        grid, corners, rings, lengths, states, weights, patches, links, ends, table,
     )
 }
 
@@ -197,10 +158,18 @@ pub fn patch_all(
 {
     let most = fill_scratch::longest_middling(lengths, states);
     if most <= 3 {
-        return patch_at_sight(grid, corners, rings, lengths, states, weights, patches);
+        patch_at_sight(grid, corners, rings, lengths, states, weights, patches)
+    } else if most <= 4 {
+        patch_tabled::<NO_PLACES>(
+            grid, corners, rings, lengths, states, weights, patches, links, ends,
+        )
+    } else if most <= SHORT {
+        patch_tabled::<SHORT_PLACES>(
+            grid, corners, rings, lengths, states, weights, patches, links, ends,
+        )
+    } else {
+        patch_tabled::<PLACES>(
+            grid, corners, rings, lengths, states, weights, patches, links, ends,
+        )
     }
-    let mut none = [0.0; 0];
-    patch_tabled(
-        grid, corners, rings, lengths, states, weights, patches, links, ends, &mut none, most,
-    )
 }

@@ -92,8 +92,7 @@ pub fn lay(
 {
     let n = lengths.len();
     let weights = (Loop::RECORD - 1) * n;
-    let mut l = 0;
-    while l < n {
+    for l in 0..n {
         let kept = row(
             lengths[l],
             states[l],
@@ -103,6 +102,5 @@ pub fn lay(
             runs[l],
         );
         lay_one(kept, records, Loop::RECORD * l);
-        l += 1;
     }
 }

@@ -1,7 +1,9 @@
 -- What the patcher leaves and answers: the grid, the loops, and what became of each; or a refusal, and everything as it was.
-use Rattle.std.specs.Prelude.{◌≡◌, Bool, true, false, List, [], ◌∷◌, ℕ, ◌*◌, ◌/◌, ℤ, length}
+use Rattle.std.specs.Prelude.{◌≡◌, Bool, true, false, List, [], ◌∷◌, ℕ, ◌*◌, ◌/◌, ℤ, length, Result, Ok, Err}
 use Rattle.base_answers.specs.Numbers.{refusing}
+use Rattle.base_answers.specs.declared.Refusal.{Refusal}
 use Rattle.base_answers.specs.declared.Answer.{Answer}
+use Rattle.base_answers.specs.declared.Answer.TheVariants.{Refused}
 use Rattle.base_answers.specs.declared.Answer.TheVariants.{Done}
 use Rattle.base_limits.specs.Limits as limits
 use Rattle.surface_rules.specs.Buffers.{over}
@@ -30,16 +32,17 @@ pub record Outcome : Type 0 where
   pub corners : ℕ
   pub left : Buffers
 
--- what is answered, with what is left
-abbrev pub outcome : Patched → Buffers → Outcome
-outcome r b = record { answer = r.answer; loops = r.loops; vertices = r.vertices; corners = r.corners; left = b }
-
 abbrev pub buffers : List ℤ → List ℕ → List ℕ → List ℕ → Buffers
 buffers grid rings records patches = record { grid = grid; rings = rings; records = records; patches = patches }
 
 -- "A refusal ... leaves all buffers untouched and has zero in every count."
 abbrev pub refused : Answer → Buffers → Outcome
 refused a b = record { answer = a; loops = 0; vertices = 0; corners = 0; left = b }
+
+-- what is answered, with what is left
+abbrev pub outcome : Result Patched Refusal → Buffers → Outcome
+outcome (Ok p) b = record { answer = Done; loops = p.loops; vertices = p.vertices; corners = p.corners; left = b }
+outcome (Err r) b = refused (Refused r) b
 
 -- "Each is written from its start, grid wholly, the rest as far as used; everything after that stays."
 abbrev pub done : ℕ → List ℕ → List ℕ → List Fate → Buffers → Outcome

@@ -2,7 +2,8 @@
 // records.
 #![tactic(auto)]
 
-ghost use Rattle.std.specs.Prelude.{◌≡◌, ◌/◌, length};
+ghost use Rattle.std.specs.Prelude.{◌/◌, length};
+ghost use Rattle.base_answers.specs.Answers.{said};
 ghost use Rattle.base_types.specs.Pitches.{pitch_of};
 ghost use Rattle.check_surface.specs.Workings.Checks.{Fitted};
 ghost use Rattle.fill_scratch.specs.Workings.Tray.{EdgeRoom};
@@ -12,14 +13,12 @@ ghost use Rattle.patch_surface.specs.Workings.Checking.{GridFirst, ChecksWith, B
 ghost use Rattle.patch_surface.specs.Workings.Filling.{FoundLoops, FillRoom, Fills};
 ghost use Rattle.patch_surface.specs.Workings.Weighing.{weighing, WeighRoom, Weighs};
 
-use base_answers::Answer;
-use base_types::{Loop, Pitch};
+use base_answers::Refusal;
+use base_types::{Loop, Sheet};
 
-// What the patcher answers: done or a refusal, how many loops there are, how many vertices their rings have, and how many corners
-// were laid.
+// How many loops there are, how many vertices their rings have, and how many corners were laid.
 #[derive(Clone, Copy)]
 pub struct Patched {
-    pub answer: Answer,
     pub loops: usize,
     pub vertices: usize,
     pub corners: usize,
@@ -28,43 +27,36 @@ pub struct Patched {
 // Refusals 3 to 8 at that pitch, with a table of turns that is long enough. Where none is given, the table is filled and the grid is laid:
 // from then on nobody needs the words.
 pub fn check(
-    words: &[u32],
-    corners: &[u16],
+    sheet: Sheet,
     turns: &mut [u16],
     grid: &mut [i32],
     rings: &[u16],
     records: &[u64],
     patches: &[u16],
-    pitch: Pitch,
-) -> Answer
-    requires { Fitted words.now corners.now turns.old }
-    ensures { Checks (pitch_of pitch) words.now corners.now (buffers grid.old rings.now records.now patches.now) result turns.new grid.new }
+) -> Result<(), Refusal>
+    requires { Fitted sheet.words.now sheet.corners.now turns.old }
+    ensures { Checks (pitch_of sheet.entry.pitch) sheet.entry.words.now sheet.entry.corners.now (buffers grid.old rings.now records.now patches.now) (said result) turns.new grid.new }
 {
-    let n = corners.len();
+    let n = sheet.corners.len();
     let lent = [grid.len(), rings.len(), records.len(), patches.len()];
-    let needs = [words.len(), n, Loop::RECORD * (n / 3), 3 * n];
-    check_with(words, corners, &lent, &needs, turns, grid, pitch)
+    let needs = [sheet.words.len(), n, Loop::RECORD * (n / 3), 3 * n];
+    check_with(sheet, &lent, &needs, turns, grid)
 }
 
 // The same with any list of lent buffers, of which the grid is the first, and how long each need be.
 pub fn check_with(
-    words: &[u32],
-    corners: &[u16],
+    sheet: Sheet,
     lent: &[usize],
     needs: &[usize],
     turns: &mut [u16],
     grid: &mut [i32],
-    pitch: Pitch,
-) -> Answer
-    requires { Fitted words.now corners.now turns.old × GridFirst words.now lent.now needs.now grid.old }
-    ensures { ChecksWith (pitch_of pitch) words.now corners.now lent.now needs.now grid.old result turns.new grid.new }
+) -> Result<(), Refusal>
+    requires { Fitted sheet.words.now sheet.corners.now turns.old × GridFirst sheet.words.now lent.now needs.now grid.old }
+    ensures { ChecksWith (pitch_of sheet.entry.pitch) sheet.entry.words.now sheet.entry.corners.now lent.now needs.now grid.old (said result) turns.new grid.new }
 {
-    let checked = check_surface::check(words, corners, lent, needs, turns, pitch);
-    if checked.refuses() {
-        return checked;
-    }
-    survey_grid::lay_grid(words, grid, pitch);
-    checked
+    check_surface::check(sheet, lent, needs, turns)?;
+    survey_grid::lay_grid(sheet.words, grid, sheet.pitch);
+    Ok(())
 }
 
 // Patches a surface that passed the checks, on its grid, which ends with the last point: the loops are listed, the rims marked, the course
@@ -119,7 +111,6 @@ pub fn patch_checked(
         path,
     );
     Patched {
-        answer: Answer::Done,
         loops,
         vertices,
         corners: laid,
@@ -183,16 +174,4 @@ fn run_course(
         links,
         ends,
     )
-}
-
-// A refusal has zero in every count.
-pub fn refused(answer: Answer) -> Patched
-    ensures { (result.answer ≡ answer) × (result.loops ≡ 0) × (result.vertices ≡ 0) × (result.corners ≡ 0) }
-{
-    Patched {
-        answer,
-        loops: 0,
-        vertices: 0,
-        corners: 0,
-    }
 }

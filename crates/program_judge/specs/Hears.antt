@@ -3,7 +3,7 @@
 use Rattle.std.specs.Prelude.{◌≡◌, Bool, true, false, List, [], ℕ, ◌+◌, eqb, length}
 use Rattle.base_answers.specs.Numbers.{refusing}
 use Rattle.base_answers.specs.declared.Answer.{Answer}
-use Rattle.base_answers.specs.declared.Answer.TheVariants.{States, Line}
+use Rattle.base_answers.specs.Answers.{States, Line}
 use Rattle.surface_rules.specs.Refusals.{sheet_refusal}
 use Rattle.surface_rules.specs.Threes.{Three, flat}
 use Rattle.loop_rules.specs.Loops.{loops}

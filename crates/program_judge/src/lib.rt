@@ -6,46 +6,32 @@ ghost use Rattle.base_limits.specs.Limits as limits;
 ghost use Rattle.text_sheet.specs.Sheet.{head};
 ghost use Rattle.program_lines.specs.Printout.{print_outcome, PrintsOver};
 ghost use Rattle.program_judge.specs.Hears.{Answers, Hears, HearsLine};
-ghost use Rattle.program_judge.specs.Workings.Taken.{Full, Few, Before, TakesText, TakesSet, Taken, SetTaken, HearsTaken, Somehow, HearsOf};
+ghost use Rattle.program_judge.specs.Workings.Taken.{Few, TakesSet, SheetIn, SetIn, Taken, SetTaken, HearsTaken, Somehow, HearsOf};
 
-use base_answers::Answer;
+use base_answers::{Answer, Refusal};
 use base_types::{PatchSet, Surface};
-use judge_answer::Judged;
-use program_lines::{LINE, Printout};
+use program_lines::LINE;
 use text_read::Intake;
 use text_read_set::ReadSet;
 
-// Which text is taken in: the sheet's, or the set's, behind a sheet that was taken in.
-#[derive(Clone, Copy)]
-pub enum Text {
-    OfSheet,
-    OfSet(Intake),
-}
-
-// What was taken in: the sheet, and what reading the set answered.
+// What was taken in: the sheet, or the line of its fault; and the set behind it, or why it was not read.
 #[derive(Clone, Copy)]
 pub struct Hearing {
-    pub sheet: Intake,
-    pub set: ReadSet,
+    pub sheet: Result<Intake, usize>,
+    pub set: Result<ReadSet, Refusal>,
 }
 
 // Prints the line of the answer on two texts, a sheet's and a patch set's, from the start of a buffer; or refuses a buffer that is too
 // short for some answer's line.
-pub fn print(sheet: &[u8], set: &[u8], out: &mut [u8]) -> Printout
+pub fn print(sheet: &[u8], set: &[u8], out: &mut [u8]) -> Result<usize, Refusal>
     ensures { PrintsOver LINE (HearsLine sheet.now set.now) out.old (print_outcome result out.new) }
 {
     if out.len() < LINE {
-        return Printout {
-            answer: Answer::Buffer(1),
-            bytes: 0,
-        };
+        return Err(Refusal::Buffer(1));
     }
     let answer: Answer = hear_texts(sheet, set);
     let bytes = program_lines::put_answer(out, answer);
-    Printout {
-        answer: Answer::Done,
-        bytes,
-    }
+    Ok(bytes)
 }
 
 // The answer on the two texts.
@@ -56,8 +42,8 @@ fn hear_texts(sheet: &[u8], set: &[u8]) -> Answer
     let mut corners = [0u16; Surface::CORNERS];
     let mut states = [0u16; PatchSet::STATES];
     let mut parts = [0u16; PatchSet::CORNERS];
-    let intake: Intake = text_read::take_in(sheet, &mut words, &mut corners);
-    let read: ReadSet = take_set(set, &mut states, &mut parts, intake);
+    let intake = text_read::take_in(sheet, &mut words, &mut corners);
+    let read = read_behind(set, &mut states, &mut parts, intake);
     hear_taken(
         &words,
         &corners,
@@ -70,56 +56,54 @@ fn hear_texts(sheet: &[u8], set: &[u8]) -> Answer
     )
 }
 
-// Takes in a text: a program's input, or as much of it as its room holds, the first n bytes. The room is longer than the longest text, so
-// that a longer one is seen to be longer. The sheet's corners may name no point: a wrong line of the set comes first.
-pub fn take(
+// Takes in the text of a sheet: a program's input, or as much of it as its room holds, the first n bytes. The room is longer than the longest
+// text, so that a longer one is seen to be longer. The sheet's corners may name no point: a wrong line of the set comes first.
+pub fn take_sheet(
     room: &[u8],
     words: &mut [u32],
     corners: &mut [u16],
+    n: usize,
+) -> Result<Intake, usize>
+    requires sheet_text_in_bounds { (limits.sheet_text < length room.now) × (n ≤ length room.now) }
+    requires full { (limits.words ≤ length words.old) × (limits.corners ≤ length corners.old) }
+    ensures { SheetIn room.now n result words.new corners.new }
+{
+    text_read::take_in(&room[..n], words, corners)
+}
+
+// Takes in the text of a set behind a sheet that was taken in, in the same way.
+pub fn take_set(
+    room: &[u8],
     states: &mut [u16],
     set: &mut [u16],
     n: usize,
-    text: Text,
+    sheet: Result<Intake, usize>,
 ) -> Hearing
     requires set_text_in_bounds { (limits.set_text < length room.now) × (n ≤ length room.now) }
-    requires full { Full words.old corners.old states.old set.old × Before text words.old corners.old }
-    ensures { TakesText text room.now n result words.new corners.new states.new set.new words.old corners.old }
+    requires full { (limits.states ≤ length states.old) × (limits.set_corners ≤ length set.old) }
+    requires few { Few sheet }
+    ensures { (result.sheet ≡ sheet) × SetIn room.now n result states.new set.new }
 {
-    match text {
-        Text::OfSheet => {
-            let sheet: Intake = text_read::take_in(&room[..n], words, corners);
-            Hearing {
-                sheet,
-                set: unread(),
-            }
-        }
-        Text::OfSet(sheet) => {
-            let read: ReadSet = take_set(&room[..n], states, set, sheet);
-            Hearing { sheet, set: read }
-        }
-    }
+    let read = read_behind(&room[..n], states, set, sheet);
+    Hearing { sheet, set: read }
 }
 
-// Of a set that is not there yet.
-fn unread() -> ReadSet {
-    ReadSet {
-        answer: Answer::Done,
-        states: 0,
-        corners: 0,
-    }
-}
-
-// Takes in a set behind a sheet. Its lines are counted on after the sheet's last; behind a wrong line nothing is read.
-fn take_set(text: &[u8], states: &mut [u16], set: &mut [u16], sheet: Intake) -> ReadSet
+// Reads a set behind a sheet. Its lines are counted on after the sheet's last; behind a wrong line nothing is read.
+fn read_behind(
+    text: &[u8],
+    states: &mut [u16],
+    set: &mut [u16],
+    sheet: Result<Intake, usize>,
+) -> Result<ReadSet, Refusal>
     requires { Few sheet }
     ensures { TakesSet sheet text.now result states.new set.new states.old set.old }
 {
     match sheet {
-        Intake::Wrong(_) => unread(),
-        Intake::Whole(pitch, points, triangles) => {
-            let last = last_line(points, triangles, pitch);
+        Ok(intake) => {
+            let last = last_line(intake.points, intake.triangles, intake.pitch);
             text_read_set::read_set(text, last, states, set)
         }
+        Err(line) => Err(Refusal::Line(line)),
     }
 }
 
@@ -143,7 +127,7 @@ pub fn hear(words: &[u32], corners: &[u16], states: &[u16], set: &[u16], hearing
     hear_taken(words, corners, states, set, hearing)
 }
 
-// The same, whatever texts they were taken in from.
+// The same, whatever texts they were taken in from. No `?` hands a refusal on: what is answered may be a verdict, so it is no `Result`.
 fn hear_taken(
     words: &[u32],
     corners: &[u16],
@@ -154,26 +138,23 @@ fn hear_taken(
     requires { Somehow hearing words.now corners.now states.now set.now }
     ensures { HearsOf hearing words.now corners.now states.now set.now result }
 {
-    let sheet: Intake = hearing.sheet;
-    match sheet {
-        Intake::Wrong(line) => Answer::Line(line),
-        Intake::Whole(pitch, points, triangles) => {
-            let read: ReadSet = hearing.set;
-            let answer = read.answer;
-            if answer.refuses() {
-                return answer;
-            }
-            let w = 3 * points;
-            let c = 3 * triangles;
-            judge(
-                &words[..w],
-                &corners[..c],
-                &states[..read.states],
-                &set[..read.corners],
-                pitch,
-            )
-        }
-    }
+    let sheet = match hearing.sheet {
+        Ok(sheet) => sheet,
+        Err(line) => return Answer::Refused(Refusal::Line(line)),
+    };
+    let read = match hearing.set {
+        Ok(read) => read,
+        Err(refusal) => return Answer::Refused(refusal),
+    };
+    let w = 3 * sheet.points;
+    let c = 3 * sheet.triangles;
+    judge(
+        &words[..w],
+        &corners[..c],
+        &states[..read.states],
+        &set[..read.corners],
+        sheet.pitch,
+    )
 }
 
 // The checker's answer, which no buffer is too short for.
@@ -184,7 +165,7 @@ fn judge(words: &[u32], corners: &[u16], states: &[u16], set: &[u16], pitch: u32
     let mut grid = [0i32; Surface::WORDS];
     let mut rings = [0u16; Surface::CORNERS];
     let mut lengths = [0u16; Surface::TRIANGLES];
-    let judged: Judged = judge::judge(
+    let judged = judge::judge(
         words,
         corners,
         states,
@@ -194,5 +175,11 @@ fn judge(words: &[u32], corners: &[u16], states: &[u16], set: &[u16], pitch: u32
         &mut lengths,
         pitch,
     );
-    judged.answer
+    match judged {
+        Ok(found) => match found.verdict {
+            Ok(()) => Answer::Done,
+            Err(verdict) => Answer::Failed(verdict),
+        },
+        Err(refusal) => Answer::Refused(refusal),
+    }
 }

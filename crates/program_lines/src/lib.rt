@@ -28,13 +28,6 @@ pub struct Progress {
     pub bytes: usize,
 }
 
-// What a call answers that prints into a lent buffer, with the count of the bytes that it printed.
-#[derive(Clone, Copy)]
-pub struct Printout {
-    pub answer: Answer,
-    pub bytes: usize,
-}
-
 // How many digits a number has.
 fn size_of(n: u64) -> usize
     ensures { result ≡ size n }
@@ -53,10 +46,8 @@ fn put_digits(out: &mut [u8], at: usize, n: u64, size: usize)
     requires { (at + size ≤ length out.old) × (n < 10 ^ size) }
     ensures { out.new ≡ laid at (places 10 size n) out.old }
 {
-    let mut k = size;
     let mut v = n;
-    while 0 < k {
-        k -= 1;
+    for k in (0..size).rev() {
         out[at + k] = b'0' + (v % 10) as u8;
         v /= 10;
     }
@@ -73,58 +64,18 @@ pub fn put_number(out: &mut [u8], at: usize, n: u64, end: u8) -> usize
     at + size + 1
 }
 
-// Puts a line of a key and one number.
-pub fn put_one(out: &mut [u8], at: usize, key: &[u8], a: u64) -> usize
-    requires { at + length (line key.now (a ∷ [])) ≤ length out.old }
-    ensures { PutAt at (line key.now (a ∷ [])) out.old result out.new }
+// Puts a line of a key and numbers.
+pub fn put_line(out: &mut [u8], at: usize, key: &[u8], numbers: &[u64]) -> usize
+    requires { at + length (line key.now numbers.now) ≤ length out.old }
+    ensures { PutAt at (line key.now numbers.now) out.old result out.new }
 {
     text_figures::put_bytes(out, at, key);
-    put_number(out, at + key.len(), a, b'\n')
-}
-
-// Puts a line of a key and two numbers.
-pub fn put_two(out: &mut [u8], at: usize, key: &[u8], a: u64, b: u64) -> usize
-    requires { at + length (line key.now (a ∷ b ∷ [])) ≤ length out.old }
-    ensures { PutAt at (line key.now (a ∷ b ∷ [])) out.old result out.new }
-{
-    text_figures::put_bytes(out, at, key);
-    let i = put_number(out, at + key.len(), a, b',');
-    put_number(out, i, b, b'\n')
-}
-
-// Puts a line of a key and three numbers.
-fn put_three(out: &mut [u8], at: usize, key: &[u8], a: u64, b: u64, c: u64) -> usize
-    requires { at + length (line key.now (a ∷ b ∷ c ∷ [])) ≤ length out.old }
-    ensures { PutAt at (line key.now (a ∷ b ∷ c ∷ [])) out.old result out.new }
-{
-    text_figures::put_bytes(out, at, key);
-    let i = put_number(out, at + key.len(), a, b',');
-    let j = put_number(out, i, b, b',');
-    put_number(out, j, c, b'\n')
-}
-
-// Puts a line of a key and six numbers.
-fn put_six(
-    out: &mut [u8],
-    at: usize,
-    key: &[u8],
-    a: u64,
-    b: u64,
-    c: u64,
-    d: u64,
-    e: u64,
-    f: u64,
-) -> usize
-    requires { at + length (line key.now (a ∷ b ∷ c ∷ d ∷ e ∷ f ∷ [])) ≤ length out.old }
-    ensures { PutAt at (line key.now (a ∷ b ∷ c ∷ d ∷ e ∷ f ∷ [])) out.old result out.new }
-{
-    text_figures::put_bytes(out, at, key);
-    let i = put_number(out, at + key.len(), a, b',');
-    let j = put_number(out, i, b, b',');
-    let k = put_number(out, j, c, b',');
-    let l = put_number(out, k, d, b',');
-    let m = put_number(out, l, e, b',');
-    put_number(out, m, f, b'\n')
+    let mut place = at + key.len();
+    for (i, number) in numbers.iter().enumerate() {
+        let end = if i + 1 < numbers.len() { b',' } else { b'\n' };
+        place = put_number(out, place, *number, end);
+    }
+    place
 }
 
 // Puts the line `answer=`, and answers how many bytes it has.
@@ -135,7 +86,7 @@ pub fn put_answer(out: &mut [u8], answer: Answer) -> usize
 {
     let number = answer.number() as u64;
     let place = answer.place() as u64;
-    put_two(out, 0, b"answer=", number, place)
+    put_line(out, 0, b"answer=", &[number, place])
 }
 
 // Puts the line `loops=`.
@@ -144,21 +95,20 @@ pub fn put_count(out: &mut [u8], at: usize, loops: usize) -> usize
     ensures put_at { PutAt at (line loops= (loops ∷ [])) out.old result out.new }
     ensures upper_bound { result ≤ at + LINE }
 {
-    put_one(out, at, b"loops=", loops as u64)
+    put_line(out, at, b"loops=", &[loops as u64])
 }
 
-// Puts the line `ring=`.
+// Puts the line `ring=`. It is not left to `put_line`, since a ring has numbers of two bytes: one function for both would have the numbers'
+// values in its contract, and every caller would prove what these are.
 fn put_ring(out: &mut [u8], at: usize, ring: &[u16]) -> usize
     requires { at + length (line ring= ring.now) ≤ length out.old }
     ensures { PutAt at (line ring= ring.now) out.old result out.new }
 {
     text_figures::put_bytes(out, at, b"ring=");
     let mut place = at + 5;
-    let mut i: usize = 0;
-    while i < ring.len() {
+    for (i, vertex) in ring.iter().enumerate() {
         let end = if i + 1 < ring.len() { b',' } else { b'\n' };
-        place = put_number(out, place, ring[i] as u64, end);
-        i += 1;
+        place = put_number(out, place, *vertex as u64, end);
     }
     place
 }
@@ -169,17 +119,11 @@ fn put_patch(out: &mut [u8], at: usize, patch: &[u16]) -> usize
     ensures { PutAt at (patch_lines patch.now) out.old result out.new }
 {
     let mut place = at;
-    let mut i: usize = 0;
-    while i < patch.len() / 3 {
-        place = put_three(
-            out,
-            place,
-            b"patch=",
-            patch[3 * i] as u64,
-            patch[3 * i + 1] as u64,
-            patch[3 * i + 2] as u64,
-        );
-        i += 1;
+    for i in 0..patch.len() / 3 {
+        let a = patch[3 * i] as u64;
+        let b = patch[3 * i + 1] as u64;
+        let c = patch[3 * i + 2] as u64;
+        place = put_line(out, place, b"patch=", &[a, b, c]);
     }
     place
 }
@@ -189,17 +133,15 @@ fn put_loop(out: &mut [u8], at: usize, ring: &[u16], kept: Record, patch: &[u16]
     requires { at + length (loop_lines (shown ring.now kept patch.now)) ≤ length out.old }
     ensures { PutAt at (loop_lines (shown ring.now kept patch.now)) out.old result out.new }
 {
-    let i = put_six(
-        out,
-        at,
-        b"loop=",
+    let counts = [
         kept.length,
         kept.state,
         kept.weight,
         kept.first,
         kept.piece,
         kept.run,
-    );
+    ];
+    let i = put_line(out, at, b"loop=", &counts);
     let j = put_ring(out, i, ring);
     put_patch(out, j, patch)
 }

@@ -1,5 +1,6 @@
 -- What is promised of a text leaves nothing open; what was left in buffers of the full size tells what is to be printed; and what the
 -- program has no room for changes nothing.
+use Rattle.std.specs.Prelude.{Result}
 use mathlib.Core.Path.{◌≡◌, refl, sym, ap, subst, ◌∙◌}
 use mathlib.Core.Bool.{Bool, true, false, true≢false}
 use mathlib.Core.Logic.{inl, inr}
@@ -9,6 +10,7 @@ use lib.IntN.{ℤ}
 use lib.ListN.{length, take}
 use Rattle.base_answers.specs.Numbers.{refusing}
 use Rattle.base_answers.specs.declared.Answer.{Answer}
+use Rattle.base_answers.specs.declared.Refusal.{Refusal}
 use Rattle.base_limits.specs.Limits as limits
 use Rattle.surface_rules.specs.Refusals.{sheet_refusal}
 use Rattle.survey_grid.specs.Grid.{grid_of}
@@ -84,7 +86,7 @@ sections_printed bytes loops sections p q = subst (Prints bytes) (sym (sections_
 no_longer : (bytes : List ℕ) (s : Sheet) → TextOf sheet bytes s → length bytes ≤ limits.sheet_text
 no_longer bytes s t = longest t
 
-pub takes_front : {room input : List ℕ} {n : ℕ} {b : Buffers} {r : Taken} {corners turns : List ℕ} {grid : List ℤ} → limits.sheet_text < length room → ReadInto room n input
+pub takes_front : {room input : List ℕ} {n : ℕ} {b : Buffers} {r : Result Taken Refusal} {corners turns : List ℕ} {grid : List ℤ} → limits.sheet_text < length room → ReadInto room n input
     → TakesUp (take n room) b r corners turns grid → TakesUp input b r corners turns grid
 takes_front roomy held p =
     record {

@@ -3,7 +3,7 @@
 use Rattle.std.specs.Prelude.{◌≡◌, Bool, true, false, List, [], map, ℕ, ℤ, length}
 use Rattle.base_answers.specs.Numbers.{refusing}
 use Rattle.base_answers.specs.declared.Answer.{Answer}
-use Rattle.base_answers.specs.declared.Answer.TheVariants.{Line}
+use Rattle.base_answers.specs.Answers.{Line}
 use Rattle.surface_rules.specs.Refusals.{sheet_refusal}
 use Rattle.survey_grid.specs.Grid.{grid_of}
 use Rattle.loop_rules.specs.Loops.{loops, ring}

@@ -1,13 +1,12 @@
 -- What is promised of the printed bytes leaves nothing open, and what the program has no room for changes nothing.
+use Rattle.std.specs.Prelude.{Option, Some, None}
 use mathlib.Core.Path.{◌≡◌, refl, sym, ap, ◌∙◌}
 use mathlib.Core.Logic.{inl, inr}
 use mathlib.Core.List.{List}
 use Prim.Native.Nat.{ℕ, ◌/◌, ◌<◌, ◌≤◌}
 use lib.ListN.{length, take}
-use Rattle.base_answers.specs.declared.Answer.TheVariants.{Unnamed}
+use Rattle.base_answers.specs.Answers.{Unnamed}
 use Rattle.base_limits.specs.Limits as limits
-use Rattle.surface_rules.specs.declared.Found.{Found}
-use Rattle.surface_rules.specs.declared.Found.TheVariants.{At, Nothing}
 use Rattle.surface_rules.specs.Buffers.{over}
 use Rattle.surface_rules.specs.Smallest.{least}
 use Rattle.surface_rules.specs.Refusals.{unnamed, refuse_at, unnamed_refusal}
@@ -24,9 +23,9 @@ use Rattle.program_rewrite.specs.Rewriting.{Rewrites, RewritesIn}
 pub rewrites_once : (bytes out out' : List ℕ) → Rewrites bytes out → Rewrites bytes out' → out ≡ out'
 rewrites_once bytes out out' p q = go (text_or_fault bytes)
   where
-    of_text : (s : Sheet) → TextOf sheet bytes s → (f : Found) → unnamed_refusal (corners_said s) (length (words_said s) / 3) ≡ refuse_at Unnamed f → out ≡ out'
-    of_text s t Nothing e = p.of_sheet s t e ∙ sym (q.of_sheet s t e)
-    of_text s t (At i) e = p.of_unnamed s i t e ∙ sym (q.of_unnamed s i t e)
+    of_text : (s : Sheet) → TextOf sheet bytes s → (f : Option ℕ) → unnamed_refusal (corners_said s) (length (words_said s) / 3) ≡ refuse_at Unnamed f → out ≡ out'
+    of_text s t None e = p.of_sheet s t e ∙ sym (q.of_sheet s t e)
+    of_text s t (Some i) e = p.of_unnamed s i t e ∙ sym (q.of_unnamed s i t e)
 
     go : Known sheet bytes → out ≡ out'
     go (inl t) = let s = t.0 in of_text s t.1 (least (unnamed (corners_said s) (length (words_said s) / 3)) (length (corners_said s))) refl

@@ -1,7 +1,8 @@
 -- What is printed for a text: "reads a text from standard input and prints it written again, or an answer line".
 use Rattle.std.specs.Prelude.{◌≡◌, cond, List, ℕ, ◌/◌, length, take}
 use Rattle.base_answers.specs.Numbers.{refusing}
-use Rattle.base_answers.specs.declared.Answer.TheVariants.{Done, Unnamed, Line}
+use Rattle.base_answers.specs.Answers.{Unnamed, Line}
+use Rattle.base_answers.specs.declared.Answer.TheVariants.{Done}
 use Rattle.surface_rules.specs.Buffers.{over}
 use Rattle.surface_rules.specs.Refusals.{unnamed_refusal}
 use Rattle.text_rules.specs.Text.{TextOf}

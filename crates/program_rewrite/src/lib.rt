@@ -8,60 +8,50 @@ ghost use Rattle.text_write.specs.Outcome.{writes};
 ghost use Rattle.program_lines.specs.Printout.{print_outcome, PrintsOver};
 ghost use Rattle.program_rewrite.specs.Rewriting.{printed, Rewrites, RewritesIn};
 
-use base_answers::Answer;
+use base_answers::{Answer, Refusal};
 use base_types::Surface;
-use program_lines::{LINE, Printout};
+use program_lines::LINE;
 
-// Prints the sheet that a text says, written again, or the answer's line, from the start of a buffer; or refuses a buffer that is too
-// short for some sheet.
-pub fn print(text: &[u8], out: &mut [u8]) -> Printout
+// Prints the sheet that a text says, written again, or the answer's line, from the start of a buffer, and answers how many bytes that has; or
+// refuses a buffer that is too short for some sheet.
+pub fn print(text: &[u8], out: &mut [u8]) -> Result<usize, Refusal>
     ensures { PrintsOver sheet_text (Rewrites text.now) out.old (print_outcome result out.new) }
 {
     if out.len() < Surface::TEXT {
-        return Printout {
-            answer: Answer::Buffer(1),
-            bytes: 0,
-        };
+        return Err(Refusal::Buffer(1));
     }
     let mut words = [0u32; Surface::WORDS];
     let mut corners = [0u16; Surface::CORNERS];
-    let read = text_read::read(text, &mut words, &mut corners);
-    let refused = read.answer;
-    let bytes = if refused.refuses() {
-        program_lines::put_answer(out, refused)
-    } else {
-        write(
+    let bytes = match text_read::read(text, &mut words, &mut corners) {
+        Ok(read) => write(
             &words[..read.words],
             &corners[..read.corners],
             out,
             read.pitch,
-        )
+        ),
+        Err(refusal) => program_lines::put_answer(out, Answer::Refused(refusal)),
     };
-    Printout {
-        answer: Answer::Done,
-        bytes,
-    }
+    Ok(bytes)
 }
 
 // Puts what is to be printed over the start of the room, the first n bytes of which are the input or as much of it as the room holds, and
-// answers how many bytes that has. The room is longer than the longest text, so that a longer one is seen to be longer.
+// answers how many bytes that has. The room is longer than the longest text, so that a longer one is seen to be longer. The text lies in the
+// room that is printed into, so that `print`, which is lent two buffers, cannot call this.
 pub fn rewrite(room: &mut [u8], n: usize) -> usize
     requires { (sheet_text < length room.old) × (n ≤ length room.old) }
     ensures { RewritesIn room.old n result room.new }
 {
     let mut words = [0u32; Surface::WORDS];
     let mut corners = [0u16; Surface::CORNERS];
-    let read = text_read::read(&room[..n], &mut words, &mut corners);
-    let answer = read.answer;
-    if answer.refuses() {
-        return program_lines::put_answer(room, answer);
+    match text_read::read(&room[..n], &mut words, &mut corners) {
+        Ok(read) => write(
+            &words[..read.words],
+            &corners[..read.corners],
+            room,
+            read.pitch,
+        ),
+        Err(refusal) => program_lines::put_answer(room, Answer::Refused(refusal)),
     }
-    write(
-        &words[..read.words],
-        &corners[..read.corners],
-        room,
-        read.pitch,
-    )
 }
 
 // Puts the text of words and corners at that pitch into the room, or the answer that refuses them.
@@ -70,10 +60,8 @@ fn write(words: &[u32], corners: &[u16], room: &mut [u8], pitch: u32) -> usize
     ensures { (room.new ≡ over (printed (writes pitch words.now corners.now room.old)) room.old)
         × (result ≡ length (printed (writes pitch words.now corners.now room.old))) }
 {
-    let written = text_write::write(words, corners, room, pitch);
-    let answer = written.answer;
-    if answer.refuses() {
-        return program_lines::put_answer(room, answer);
+    match text_write::write(words, corners, room, pitch) {
+        Ok(bytes) => bytes,
+        Err(refusal) => program_lines::put_answer(room, Answer::Refused(refusal)),
     }
-    written.bytes
 }

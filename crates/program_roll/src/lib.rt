@@ -62,6 +62,7 @@ pub fn fill(
     ensures { FillsOn WIDEST (inventory rings.now records.now patches.now) loops progress result out.old out.new }
 {
     let mut m = progress;
+    // The count of the loops told is a part of the progress that each call hands back, so that no `for` counts it.
     while m.loops < loops {
         if out.len() < m.bytes + WIDEST {
             return m;

@@ -19,6 +19,9 @@ const RIVAL: u32 = 1;
 // So many loops are few: to clear room for the runs of as many as a surface may have would take longer than to mark them.
 const FEW_LOOPS: usize = 16;
 
+// As many as a surface may have.
+const MOST_LOOPS: usize = Surface::TRIANGLES;
+
 // A mark for each loop, a rim's or another's, where its first half-edge stood. The table of turns may be as it was before the loops were
 // listed or as it is after that; it is used up, and so are path and places.
 pub fn mark(
@@ -43,10 +46,10 @@ pub fn mark(
         return;
     }
     if lengths.len() <= FEW_LOOPS {
-        mark_few(grid, corners, rings, lengths, turns, path, places, marks);
-        return;
+        mark_within::<FEW_LOOPS>(grid, corners, rings, lengths, turns, path, places, marks);
+    } else {
+        mark_within::<MOST_LOOPS>(grid, corners, rings, lengths, turns, path, places, marks);
     }
-    mark_many(grid, corners, rings, lengths, turns, path, places, marks);
 }
 
 // For every loop a mark, its piece and its run. The first half-edges and the table of turns stay. The pieces come to stand where the places
@@ -71,13 +74,11 @@ pub fn mark_all(
         return;
     }
     // a loop without another is a rim; if it begins on triangle 0, it lies in piece 0
-    if n == 1 {
-        if firsts[0] < 3 {
-            measure_all(grid, rings, lengths, runs);
-            pieces[0] = 0;
-            marks[0] = State::RIM;
-            return;
-        }
+    if n == 1 && firsts[0] < 3 {
+        measure_all(grid, rings, lengths, runs);
+        pieces[0] = 0;
+        marks[0] = State::RIM;
+        return;
     }
     mark_counted(
         grid, corners, rings, lengths, firsts, turns, path, pieces, runs, marks,
@@ -110,8 +111,8 @@ pub fn mark_counted(
     count
 }
 
-// The same for a few loops, with a short list of runs.
-fn mark_few(
+// The same for loops of which there are no more than MOST.
+fn mark_within<const MOST: usize>(
     grid: &[i32],
     corners: &[u16],
     rings: &[u16],
@@ -122,30 +123,11 @@ fn mark_few(
     marks: &mut [u16],
 )
     requires mark_room { MarkRoom grid.now corners.now rings.now lengths.now turns.old path.old places.old marks.old }
-    requires lengths_len_bound { length lengths.now ≤ FEW_LOOPS }
+    requires lengths_in_bounds { length lengths.now ≤ MOST }
+    requires most_in_bounds { MOST ≤ MOST_LOOPS }
     ensures { Marked grid.now corners.now marks.old marks.new }
 {
-    let mut runs = [0u32; FEW_LOOPS];
-    mark_some(
-        grid, corners, rings, lengths, turns, path, places, marks, &mut runs,
-    );
-}
-
-// The same for any number of loops.
-fn mark_many(
-    grid: &[i32],
-    corners: &[u16],
-    rings: &[u16],
-    lengths: &[u16],
-    turns: &mut [u16],
-    path: &mut [u16],
-    places: &mut [u16],
-    marks: &mut [u16],
-)
-    requires { MarkRoom grid.now corners.now rings.now lengths.now turns.old path.old places.old marks.old }
-    ensures { Marked grid.now corners.now marks.old marks.new }
-{
-    let mut runs = [0u32; Surface::TRIANGLES];
+    let mut runs = [0u32; MOST];
     mark_some(
         grid, corners, rings, lengths, turns, path, places, marks, &mut runs,
     );
@@ -186,10 +168,8 @@ pub fn run_of(grid: &[i32], ring: &[u16]) -> u32
 {
     let last = ring.len() - 1;
     let mut run: u64 = cover_weight::stride(grid, ring[last] as usize, ring[0] as usize);
-    let mut i = 0;
-    while i < last {
+    for i in 0..last {
         run += cover_weight::stride(grid, ring[i] as usize, ring[i + 1] as usize);
-        i += 1;
     }
     run as u32
 }
@@ -200,18 +180,15 @@ fn find_rivals(homes: &[u16], n: usize, firsts: &mut [u16], runs: &mut [u32])
     requires { RankRoom homes.now runs.old n firsts.old }
     ensures { Rivals homes.now n runs.new }
 {
-    let mut l = 0;
-    while l < n {
+    for l in 0..n {
         let p = homes[l] as usize;
         let b = firsts[p] as usize;
         if b < n {
             runs[b] = RIVAL;
             runs[l] = RIVAL;
-            l += 1;
-            continue;
+        } else {
+            firsts[p] = l as u16;
         }
-        firsts[p] = l as u16;
-        l += 1;
     }
 }
 
@@ -221,32 +198,25 @@ fn measure(grid: &[i32], rings: &[u16], lengths: &[u16], runs: &mut [u32])
     ensures { Measures grid.now rings.now lengths.now runs.old runs.new }
 {
     let mut r = 0;
-    let mut l = 0;
-    while l < lengths.len() {
-        let end = r + lengths[l] as usize;
-        if runs[l] == 0 {
-            r = end;
-            l += 1;
-            continue;
+    for (l, &length) in lengths.iter().enumerate() {
+        let end = r + length as usize;
+        if runs[l] != 0 {
+            runs[l] = run_of(grid, &rings[r..end]);
         }
-        runs[l] = run_of(grid, &rings[r..end]);
         r = end;
-        l += 1;
     }
 }
 
-// The run of each loop; their rings stand one after the other.
+// The run of each loop; their rings stand one after the other. Not `measure` with a switch: its contract would have to say both.
 fn measure_all(grid: &[i32], rings: &[u16], lengths: &[u16], runs: &mut [u32])
     requires { MeasureRoom grid.now rings.now lengths.now runs.old }
     ensures { MeasuresAll grid.now rings.now lengths.now runs.new }
 {
     let mut r = 0;
-    let mut l = 0;
-    while l < lengths.len() {
-        let end = r + lengths[l] as usize;
+    for (l, &length) in lengths.iter().enumerate() {
+        let end = r + length as usize;
         runs[l] = run_of(grid, &rings[r..end]);
         r = end;
-        l += 1;
     }
 }
 
@@ -255,10 +225,8 @@ fn house(firsts: &[u16], pieces: &[u16], n: usize, homes: &mut [u16])
     requires { HouseRoom firsts.now pieces.now n homes.old }
     ensures { Houses firsts.now pieces.now n homes.new }
 {
-    let mut l = 0;
-    while l < n {
+    for l in 0..n {
         homes[l] = pieces[firsts[l] as usize / 3];
-        l += 1;
     }
 }
 
@@ -268,18 +236,12 @@ fn rank(homes: &[u16], runs: &[u32], n: usize, best: &mut [u16])
     requires { RankRoom homes.now runs.now n best.old }
     ensures { Ranks homes.now runs.now n best.new }
 {
-    let mut l = 0;
-    while l < n {
+    for l in 0..n {
         let home = homes[l] as usize;
         let b = best[home] as usize;
-        if b < n {
-            if runs[l] <= runs[b] {
-                l += 1;
-                continue;
-            }
+        if n <= b || runs[b] < runs[l] {
+            best[home] = l as u16;
         }
-        best[home] = l as u16;
-        l += 1;
     }
 }
 
@@ -288,13 +250,11 @@ fn tell(homes: &[u16], best: &[u16], n: usize, marks: &mut [u16])
     requires { TellRoom homes.now best.now n marks.old }
     ensures { marks.new ≡ over (told_marks homes.now best.now n) marks.old }
 {
-    let mut l = 0;
-    while l < n {
-        if best[homes[l] as usize] as usize == l {
-            marks[l] = State::RIM;
+    for l in 0..n {
+        marks[l] = if best[homes[l] as usize] as usize == l {
+            State::RIM
         } else {
-            marks[l] = OTHER;
-        }
-        l += 1;
+            OTHER
+        };
     }
 }

@@ -3,7 +3,6 @@ pub mod Pushing
 pub mod Spreading
 pub mod Numbering
 pub mod Visiting
-pub mod Clearing
 pub mod Floods
 pub mod OnePiece
 pub mod Many

@@ -1,8 +1,6 @@
 -- The smallest triangle of each piece, and from it the piece's number, computed: at first each triangle is a piece by itself, and then, half-edge by
 -- half-edge, the pieces on its two sides are made one. `proofs/Theorems.antt` has that these are the numbers of the pieces.
-use Rattle.std.specs.Prelude.{Bool, cond, List, [], ◌∷◌, ◌++◌, map, ℕ, zero, suc, ◌/◌, eqb, leb, length, get_or}
-use Rattle.surface_rules.specs.declared.Found.{Found}
-use Rattle.surface_rules.specs.declared.Found.TheVariants.{At, Nothing}
+use Rattle.std.specs.Prelude.{Bool, cond, List, [], ◌∷◌, ◌++◌, map, ℕ, zero, suc, ◌/◌, eqb, leb, length, get_or, Option, Some, None}
 use Rattle.surface_rules.specs.Edges.{twin}
 use Rattle.rim_pieces.specs.Pieces.{triangle_count}
 
@@ -26,9 +24,9 @@ greater a b = cond (leb a b) b a
 unfoldable pub unite : ℕ → ℕ → List ℕ → List ℕ
 unite a b smallest = map (λ x. cond (eqb x (greater a b)) (lesser a b) x) smallest
 
-abbrev pub unite_across : Found → ℕ → List ℕ → List ℕ
-unite_across (At g) h smallest = unite (get_or smallest (h / 3) 0) (get_or smallest (g / 3) 0) smallest
-unite_across Nothing h smallest = smallest
+abbrev pub unite_across : Option ℕ → ℕ → List ℕ → List ℕ
+unite_across (Some g) h smallest = unite (get_or smallest (h / 3) 0) (get_or smallest (g / 3) 0) smallest
+unite_across None h smallest = smallest
 
 -- for each triangle the smallest that half-edges below k join it to
 unfoldable pub smallest_by : List ℕ → ℕ → List ℕ

@@ -19,17 +19,14 @@ pub fn number(corners: &[u16], turns: &[u16], queue: &mut [u16], pieces: &mut [u
     clear(pieces, triangles);
     let mut p: u16 = 0;
     let mut count = 0;
-    let mut t = 0;
-    while t < triangles {
+    for t in 0..triangles {
         if pieces[t] != NONE {
-            t += 1;
             continue;
         }
         pieces[t] = p;
         queue[count] = t as u16;
         count = spread(turns, count, p, queue, count + 1, pieces);
         p += 1;
-        t += 1;
     }
     p as usize
 }
@@ -39,11 +36,7 @@ pub fn clear(pieces: &mut [u16], n: usize)
     requires { n ≤ length pieces.old }
     ensures { Cleared pieces.old n pieces.new }
 {
-    let mut i = 0;
-    while i < n {
-        pieces[i] = NONE;
-        i += 1;
-    }
+    pieces[..n].fill(NONE);
 }
 
 // Piece p is flooded: the queue has its first triangle at `from`, and each one's neighbours come behind it.
@@ -60,6 +53,7 @@ fn spread(
 {
     let mut done = from;
     let mut end = count;
+    // no range: the queue grows as it is worked off
     while done < end {
         let t = queue[done] as usize;
         end = around(turns, t, p, queue, end, pieces);

@@ -15,7 +15,7 @@ use Rattle.surface_rules.proofs.Laws.Over.{over_snoc}
 use Rattle.surface_rules.proofs.Laws.Tests.{eq_or_not}
 use Rattle.stl_facets.specs.declared.Corner.{Corner}
 use Rattle.stl_facets.specs.declared.Facet.{Facet}
-use Rattle.stl_facets.specs.declared.Step.TheVariants.{Given, End}
+use Rattle.std.specs.Prelude.{Some, None}
 use Rattle.stl_facets.specs.Facets.{facet_bytes, word_at, plain_zero, plain_at, corner_at, facet_of, holds_facet, facet_at, behind, floats_of}
 
 only_nan : (x : Float) → is_nan x ≡ true → nan ≡ x
@@ -55,27 +55,17 @@ module _ (l : List ℕ) (at : ℕ) where
   unfolding facet_of
   facet_is e f g = rw (e, f, g)
 
-  -- the place is held against a difference, since a sum might not fit a word
-  pub held_is : facet_bytes ≤ length l → leb at (length l - facet_bytes) ≡ holds_facet l at
-  held_is h = go (holds_facet l at) refl where
-    go : (r : Bool) → holds_facet l at ≡ r → leb at (length l - facet_bytes) ≡ r
-    go true e = le-leb at (length l - facet_bytes) (omega (arith, leb-true (at + facet_bytes) (length l) e))
-    go false e = lt-leb at (length l - facet_bytes) (omega (arith, leb-false (at + facet_bytes) (length l) e))
-
-  pub held_none : length l < facet_bytes → leb facet_bytes (length l) ≡ holds_facet l at
-  held_none h = lt-leb _ _ h ∙ sym (lt-leb (at + facet_bytes) (length l) (omega arith))
-
   pub held_room : {r : Bool} → r ≡ holds_facet l at → r ≡ true → at + facet_bytes ≤ length l
   held_room e t = leb-true _ _ (sym e ∙ t)
 
   pub held_ends : {r : Bool} → r ≡ holds_facet l at → r ≡ false → length l < at + facet_bytes
   held_ends e t = leb-false _ _ (sym e ∙ t)
 
-  pub at_end : length l < at + 50 → End ≡ facet_at l at
+  pub at_end : length l < at + 50 → None ≡ facet_at l at
   unfolding facet_at
   at_end h = rw (lt-leb _ _ h)
 
-  pub is_given : {f : Facet} → at + 50 ≤ length l → f ≡ facet_of l at → Given f ≡ facet_at l at
+  pub is_given : {f : Facet} → at + 50 ≤ length l → f ≡ facet_of l at → Some f ≡ facet_at l at
   unfolding facet_at
   is_given h e = rw (le-leb _ _ h, e)
 

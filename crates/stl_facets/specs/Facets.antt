@@ -1,11 +1,9 @@
 -- What stands at a place of a file of facets: a word of four bytes, the lowest first; the count; a corner of three floats; a facet of three corners.
-use Rattle.std.specs.Prelude.{Bool, cond, List, [], ◌∷◌, ℕ, ◌+◌, ◌*◌, ◌^◌, eqb, leb, length, get_or, Float}
+use Rattle.std.specs.Prelude.{Bool, cond, Option, Some, None, List, [], ◌∷◌, ℕ, ◌+◌, ◌*◌, ◌^◌, eqb, leb, length, get_or, Float}
 use Rattle.std.specs.Float.{binary32}
 use Rattle.std.specs.Float.Ieee.{of_bits}
 use Rattle.stl_facets.specs.declared.Corner.{Corner}
 use Rattle.stl_facets.specs.declared.Facet.{Facet}
-use Rattle.stl_facets.specs.declared.Step.{Step}
-use Rattle.stl_facets.specs.declared.Step.TheVariants.{Given, End}
 
 -- "80 header bytes, a little-endian 32-bit count, then 50 bytes a triangle: normal, three corners of three floats, a 16-bit attribute"
 abbrev pub front : ℕ
@@ -41,9 +39,9 @@ facet_of b at = record { a = corner_at b (at + 12); b = corner_at b (at + 24); c
 abbrev pub holds_facet : List ℕ → ℕ → Bool
 holds_facet b at = leb (at + facet_bytes) (length b)
 
--- "hands out one facet at a time": that at a place, or the end
-unfoldable pub facet_at : List ℕ → ℕ → Step
-facet_at b at = cond (holds_facet b at) (Given (facet_of b at)) End
+-- "hands out one facet at a time": that at a place, or nothing at the end
+unfoldable pub facet_at : List ℕ → ℕ → Option Facet
+facet_at b at = cond (holds_facet b at) (Some (facet_of b at)) None
 
 -- the place behind the facet at a place, or that place itself at the end
 unfoldable pub behind : List ℕ → ℕ → ℕ

@@ -33,13 +33,6 @@ pub struct Facet {
     pub c: Corner,
 }
 
-// What is handed out: one facet, or that there is none left.
-#[derive(Clone, Copy)]
-pub enum Step {
-    Given(Facet),
-    End,
-}
-
 // A byte as a word.
 fn wide(byte: u8) -> u32
     ensures { (result ≡ byte) × (result < 256) }
@@ -124,14 +117,14 @@ pub fn holds_facet(file: &[u8], at: usize) -> bool
     FACET <= file.len() && at <= file.len() - FACET
 }
 
-// The facet that begins at a place, or the end.
-pub fn facet_at(file: &[u8], at: usize) -> Step
+// The facet that begins at a place, or nothing at the end.
+pub fn facet_at(file: &[u8], at: usize) -> Option<Facet>
     ensures { result ≡ facet_at file.now at }
 {
     if holds_facet(file, at) {
-        return Step::Given(facet_of(file, at));
+        return Some(facet_of(file, at));
     }
-    Step::End
+    None
 }
 
 // The place behind the facet that begins at a place, or that place at the end.
@@ -160,7 +153,8 @@ pub fn lay(facet: Facet, floats: &mut [f32])
     floats[8] = facet.c.z;
 }
 
-// The reader holds on to the bytes and its own place in them.
+// The reader holds on to the bytes and its own place in them. It is no `Iterator`: it is a value that is copied, and those who read by it keep
+// the place themselves, across calls from another language.
 #[derive(Clone, Copy)]
 pub struct Reader<'a> {
     pub file: &'a [u8],
@@ -181,8 +175,8 @@ pub fn resumed<'a>(file: &'a [u8], at: usize) -> Reader<'a>
     Reader { file, at }
 }
 
-// The facet at the reader's place, or the end.
-pub fn next<'a>(reader: Reader<'a>) -> Step
+// The facet at the reader's place, or nothing at the end.
+pub fn next<'a>(reader: Reader<'a>) -> Option<Facet>
     ensures { result ≡ facet_at reader.entry.file.now reader.entry.at }
 {
     facet_at(reader.file, reader.at)
@@ -200,7 +194,7 @@ pub fn past<'a>(reader: Reader<'a>) -> Reader<'a>
 }
 
 // What a reader at a place hands out, for callers that have the bytes and a place.
-pub fn hand_out(file: &[u8], at: usize) -> Step
+pub fn hand_out(file: &[u8], at: usize) -> Option<Facet>
     ensures { result ≡ facet_at file.now at }
 {
     next(resumed(file, at))

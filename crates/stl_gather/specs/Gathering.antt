@@ -1,11 +1,9 @@
 -- What gathering a file's points is lent and leaves.
-use Rattle.std.specs.Prelude.{◌≡◌, List, ℕ, ◌+◌, ◌*◌, ◌<◌, ◌≤◌, length, take, replicate}
+use Rattle.std.specs.Prelude.{◌≡◌, Option, Some, None, List, ℕ, ◌+◌, ◌*◌, ◌<◌, ◌≤◌, length, take, replicate}
 use Rattle.base_limits.specs.Limits as limits
 use Rattle.surface_rules.specs.Threes.{flat}
 use Rattle.stl_facets.specs.Facets.{front, facet_bytes, facets}
 use Rattle.stl_rules.specs.Reading.{points_in, corners_in}
-use Rattle.stl_gather.specs.declared.Met.{Met}
-use Rattle.stl_gather.specs.declared.Met.TheVariants.{Points, TooMany}
 
 -- A whole file; as many points may be met as there are links, and there is room for their words and for every corner's number.
 pub record GatherRoom (file ws cs heads links : List ℕ) : Type 0 where
@@ -24,6 +22,6 @@ pub record Gathered (file : List ℕ) (most n : ℕ) (ws cs : List ℕ) : Type 0
   pub words_are : take (3 * n) ws ≡ flat (points_in file)
   pub corners_are : take (3 * facets file) cs ≡ corners_in file
 
-unfoldable pub Gathers : List ℕ → ℕ → Met → List ℕ → List ℕ → Type 0
-Gathers file most (Points n) ws cs = Gathered file most n ws cs
-Gathers file most TooMany ws cs = most < length (points_in file)
+unfoldable pub Gathers : List ℕ → ℕ → Option ℕ → List ℕ → List ℕ → Type 0
+Gathers file most (Some n) ws cs = Gathered file most n ws cs
+Gathers file most None ws cs = most < length (points_in file)

@@ -9,38 +9,24 @@ ghost use Rattle.surface_rules.specs.Threes.{three};
 ghost use Rattle.stl_rules.specs.File.{agree};
 ghost use Rattle.stl_gather.specs.Workings.Racks.{bucket_of, point_in, SeekRoom, Seeks, rack, SettleRoom, Settled, FacetRoom};
 
-use surface_rules::Found;
-
-// How many points were met, or that there are more than there are links.
-#[derive(Clone, Copy)]
-pub enum Met {
-    Points(usize),
-    TooMany,
-}
-
-// The file's points and the number of each corner's point are laid into two buffers from their starts.
+// The file's points and the number of each corner's point are laid into two buffers from their starts. How many points were met is
+// answered here and below, or nothing where there are more than there are links.
 pub fn gather(
     file: &[u8],
     ws: &mut [u32],
     cs: &mut [u16],
     heads: &mut [u16],
     links: &mut [u16],
-) -> Met
+) -> Option<usize>
     requires { GatherRoom file.now ws.old cs.old heads.old links.old }
     ensures { Gathers file.now (length links.old) result ws.new cs.new }
 {
-    let mut at = stl_facets::FRONT;
-    let mut i = 0;
     let mut n = 0;
-    while stl_facets::holds_facet(file, at) {
-        let Met::Points(m) = settle_facet(file, ws, cs, heads, links, at + 12, i, n) else {
-            return Met::TooMany;
-        };
-        n = m;
-        i += 3;
-        at = stl_facets::after(file, at);
+    for facet in 0..stl_facets::count(file) as usize {
+        let at = stl_facets::FRONT + stl_facets::FACET * facet;
+        n = settle_facet(file, ws, cs, heads, links, at + 12, 3 * facet, n)?;
     }
-    Met::Points(n)
+    Some(n)
 }
 
 // The three corners of one facet, the first of which is corner i and stands at a place.
@@ -53,22 +39,15 @@ fn settle_facet(
     at: usize,
     i: usize,
     n: usize,
-) -> Met
+) -> Option<usize>
     requires { FacetRoom file.now (rack ws.old cs.old heads.old links.old) at i n }
     ensures { Settled file.now (rack ws.new cs.new heads.new links.new) (i + 3) result }
 {
-    let mut place = at;
-    let mut corner = i;
     let mut points = n;
-    while corner < i + 3 {
-        let Met::Points(m) = settle(file, ws, cs, heads, links, place, corner, points) else {
-            return Met::TooMany;
-        };
-        points = m;
-        place += 12;
-        corner += 1;
+    for k in 0..3 {
+        points = settle(file, ws, cs, heads, links, at + 12 * k, i + k, points)?;
     }
-    Met::Points(points)
+    Some(points)
 }
 
 // Corner i stands at a place: its point is one of the n met and has a number already, or gets the next.
@@ -81,7 +60,7 @@ fn settle(
     at: usize,
     i: usize,
     n: usize,
-) -> Met
+) -> Option<usize>
     requires { SettleRoom file.now (rack ws.old cs.old heads.old links.old) at i n }
     ensures { Settled file.now (rack ws.new cs.new heads.new links.new) (i + 1) result }
 {
@@ -90,12 +69,12 @@ fn settle(
     let c = stl_facets::plain_at(file, at + 8);
     let h = bucket(a, b, c, heads.len());
     let last = heads[h];
-    if let Found::At(k) = seek(ws, links, last, a, b, c) {
+    if let Some(k) = seek(ws, links, last, a, b, c) {
         cs[i] = k as u16;
-        return Met::Points(n);
+        return Some(n);
     }
     if links.len() <= n {
-        return Met::TooMany;
+        return None;
     }
     ws[3 * n] = a;
     ws[3 * n + 1] = b;
@@ -103,31 +82,31 @@ fn settle(
     links[n] = last;
     heads[h] = (n + 1) as u16;
     cs[i] = n as u16;
-    Met::Points(n + 1)
+    Some(n + 1)
 }
 
 // The point with these words in the chain from `last` on. Nearly always it is the first one looked at, or there is none to look at, so
 // that one is looked at before the loop.
-fn seek(ws: &[u32], links: &[u16], last: u16, a: u32, b: u32, c: u32) -> Found
+fn seek(ws: &[u32], links: &[u16], last: u16, a: u32, b: u32, c: u32) -> Option<usize>
     requires { SeekRoom ws.now links.now last a b c }
     ensures { Seeks ws.now a b c last result }
 {
     if last == 0 {
-        return Found::Nothing;
+        return None;
     }
     let e = last as usize - 1;
     if has_words(ws, e, a, b, c) {
-        return Found::At(e);
+        return Some(e);
     }
     let mut g = links[e] as usize;
     while 0 < g {
         let k = g - 1;
         if has_words(ws, k, a, b, c) {
-            return Found::At(k);
+            return Some(k);
         }
         g = links[k] as usize;
     }
-    Found::Nothing
+    None
 }
 
 // Whether point k has these words.
@@ -135,13 +114,7 @@ fn has_words(ws: &[u32], k: usize, a: u32, b: u32, c: u32) -> bool
     requires { 3 * k + 2 < length ws.now }
     ensures { result ≡ agree (point_in ws.now k) (three a b c) }
 {
-    if ws[3 * k] != a {
-        return false;
-    }
-    if ws[3 * k + 1] != b {
-        return false;
-    }
-    ws[3 * k + 2] == c
+    ws[3 * k] == a && ws[3 * k + 1] == b && ws[3 * k + 2] == c
 }
 
 // Of `size` buckets, that of a point with these words. The words of a mesh differ in their high bits or in their low ones, and the

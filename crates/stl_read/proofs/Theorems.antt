@@ -16,7 +16,7 @@ use Rattle.text_rules.specs.Text.{TextOf}
 use Rattle.text_sheet.specs.Sheet.{sheet_of, sheet}
 use Rattle.text_read.specs.Outcome.{ReadOutcome, not_read, deliver, Reads}
 use Rattle.stl_facets.specs.declared.Corner.{Corner}
-use Rattle.stl_facets.specs.declared.Step.TheVariants.{Given, End}
+use Rattle.std.specs.Prelude.{Some, None}
 use Rattle.stl_facets.specs.Facets.{front, facet_bytes, facets, corner_at, facet_of, facet_at, behind}
 use Rattle.stl_facets.proofs.Laws.{at_end, is_given, stays, goes_on}
 use Rattle.stl_rules.specs.File.{fits, point_at, corner_place, agree}
@@ -51,11 +51,11 @@ module _ (b : List ℕ) (well : fits (length b) (facets b) ≡ true) where
       ∙ sym (stays b (front + facet_bytes * facets b) (omega arith))
 
   -- past k facets the reader hands out facet k
-  pub reader_gives : (k : ℕ) → k < facets b → facet_at b (walked b k) ≡ Given (facet_of b (front + facet_bytes * k))
+  pub reader_gives : (k : ℕ) → k < facets b → facet_at b (walked b k) ≡ Some (facet_of b (front + facet_bytes * k))
   reader_gives k l = let e = long in ap (facet_at b) (walked_to k (omega arith)) ∙ sym (is_given b (front + facet_bytes * k) (omega arith) refl)
 
   -- and from the count on the end
-  pub reader_ends : (d : ℕ) → facet_at b (walked b (facets b + d)) ≡ End
+  pub reader_ends : (d : ℕ) → facet_at b (walked b (facets b + d)) ≡ None
   reader_ends d = let e = long in ap (facet_at b) (walked_past d) ∙ sym (at_end b (front + facet_bytes * facets b) (omega arith))
 
 -- ---- the reader and the surface

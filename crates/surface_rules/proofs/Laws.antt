@@ -5,6 +5,7 @@ pub mod Threes
 pub mod Smallest
 pub mod Edges
 pub mod Passes
+pub mod Positions
 pub mod Over
 pub mod Laid
 pub mod Thens

@@ -1,7 +1,5 @@
 -- A surface and its edges. The corners are the list of all triangles' corners, three a triangle.
-use Rattle.std.specs.Prelude.{◌≡◌, Bool, not, ◌&&◌, ◌||◌, List, ℕ, ◌+◌, ◌*◌, ◌/◌, ◌%◌, eqb, length, get_or}
-use Rattle.surface_rules.specs.declared.Found.{Found}
-use Rattle.surface_rules.specs.declared.Found.TheVariants.{Nothing}
+use Rattle.std.specs.Prelude.{◌≡◌, Bool, not, ◌&&◌, ◌||◌, List, ℕ, ◌+◌, ◌*◌, ◌/◌, ◌%◌, eqb, length, get_or, Option, None}
 use Rattle.surface_rules.specs.Smallest.{least, any}
 
 -- "Corner c of triangle t is half-edge 3t+c; it runs from that corner to the next one of t, the third corner being followed by
@@ -20,7 +18,7 @@ unfoldable pub goes : List ℕ → ℕ → ℕ → ℕ → Bool
 goes corners u v h = eqb (start_of corners h) u && eqb (end_of corners h) v
 
 -- a half-edge that goes the other way
-unfoldable pub twin : List ℕ → ℕ → Found
+unfoldable pub twin : List ℕ → ℕ → Option ℕ
 twin corners h = least (goes corners (end_of corners h) (start_of corners h)) (length corners)
 
 -- Open edge. "A half-edge u to v is open if no half-edge runs v to u."
@@ -39,5 +37,5 @@ twice corners t =
 -- What holds of the corners once the refusals 2, 5 and 6 were not given.
 pub record Sound (corners : List ℕ) : Type 0 where
   pub triples : length corners % 3 ≡ 0
-  pub proper : least (twice corners) (length corners / 3) ≡ Nothing
-  pub single : least (repeats corners) (length corners) ≡ Nothing
+  pub proper : least (twice corners) (length corners / 3) ≡ None
+  pub single : least (repeats corners) (length corners) ≡ None

@@ -1,18 +1,17 @@
 -- The refusals 17 and 1 to 8, in their order: "each over the whole input before the next, the smallest index reported".
-use Rattle.std.specs.Prelude.{Bool, not, cond, ◌&&◌, ◌||◌, List, [], ℕ, ◌+◌, ◌/◌, leb, ltb, nat_abs, length, get_or}
+use Rattle.std.specs.Prelude.{Bool, not, cond, ◌&&◌, ◌||◌, List, [], ℕ, ◌+◌, ◌/◌, leb, ltb, nat_abs, length, get_or, Option, Some, None}
 use Rattle.std.specs.Float.{binary32}
 use Rattle.std.specs.Float.Ieee.{of_bits}
 use Rattle.std.specs.Float.Ieee.Scale.{finite}
 use Rattle.base_answers.specs.Numbers.{refusing}
 use Rattle.base_answers.specs.declared.Answer.{Answer}
-use Rattle.base_answers.specs.declared.Answer.TheVariants.{Done, Words, Corners, Buffer, Unnamed, Twice, Repeated, NotFinite, TooFar, NoPitch}
+use Rattle.base_answers.specs.Answers.{Words, Corners, Buffer, Unnamed, Twice, Repeated, NotFinite, TooFar, NoPitch}
+use Rattle.base_answers.specs.declared.Answer.TheVariants.{Done}
 use Rattle.base_types.specs.Counts.{threes}
 use Rattle.base_types.specs.Pitches.{is_pitch}
 use Rattle.base_limits.specs.Limits as limits
 use Rattle.grid_coordinate.specs.Units.{units}
 use Rattle.grid_coordinate.specs.Places.{whole}
-use Rattle.surface_rules.specs.declared.Found.{Found}
-use Rattle.surface_rules.specs.declared.Found.TheVariants.{At, Nothing}
 use Rattle.surface_rules.specs.Smallest.{least}
 use Rattle.surface_rules.specs.Edges.{twice, repeats}
 
@@ -38,9 +37,9 @@ unfolding not_finite too_far
 off_grid pitch words i = not_finite words i || too_far pitch words i
 
 -- a refusal where a place was found
-abbrev pub refuse_at : (ℕ → Answer) → Found → Answer
-refuse_at f (At i) = f i
-refuse_at f Nothing = Done
+abbrev pub refuse_at : (ℕ → Answer) → Option ℕ → Answer
+refuse_at f (Some i) = f i
+refuse_at f None = Done
 
 -- the first check that refuses decides
 abbrev pub then_check : Answer → Answer → Answer

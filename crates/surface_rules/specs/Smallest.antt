@@ -1,19 +1,17 @@
 -- "The smallest index reported": the smallest index with a property, or none.
-use Rattle.std.specs.Prelude.{Bool, true, false, cond, ℕ, zero, suc}
-use Rattle.surface_rules.specs.declared.Found.{Found}
-use Rattle.surface_rules.specs.declared.Found.TheVariants.{At, Nothing}
+use Rattle.std.specs.Prelude.{Bool, true, false, cond, ℕ, zero, suc, Option, Some, None}
 
 -- the first of two
-abbrev pub or_else : Found → Found → Found
-or_else (At i) g = At i
-or_else Nothing g = g
+abbrev pub or_else : Option ℕ → Option ℕ → Option ℕ
+or_else (Some i) g = Some i
+or_else None g = g
 
 -- the smallest index below n at which p holds
-unfoldable pub least : (ℕ → Bool) → ℕ → Found
-least p zero = Nothing
-least p (suc n) = or_else (least p n) (cond (p n) (At n) Nothing)
+unfoldable pub least : (ℕ → Bool) → ℕ → Option ℕ
+least p zero = None
+least p (suc n) = or_else (least p n) (cond (p n) (Some n) None)
 
 -- there is one
-abbrev pub any : Found → Bool
-any (At i) = true
-any Nothing = false
+abbrev pub any : Option ℕ → Bool
+any (Some i) = true
+any None = false

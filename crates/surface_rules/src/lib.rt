@@ -1,8 +1,2 @@
-// A surface's edges, the table of refusals, and what a search finds: the smallest index, or nothing. It has no function.
+// A surface's edges, the table of refusals, and the smallest index that a search finds. It has no code of its own.
 #![tactic(auto)]
-
-#[derive(Clone, Copy)]
-pub enum Found {
-    At(usize),
-    Nothing,
-}

@@ -19,7 +19,7 @@ enum Met {
 }
 
 // Half-edge h, from u to v and followed by f, is paired with its twin if that was met, and chained in one of `size` buckets;
-// false if it repeats an earlier one.
+// false if it repeats an earlier one. (A bool: there is nothing to tell of the earlier one.)
 pub fn pair(
     corners: &[u16],
     h: usize,
@@ -87,15 +87,11 @@ fn meet(corners: &[u16], links: &[u16], ends: &[u16], last: u16, u: u16, v: u16)
     let mut g = last as usize;
     while 0 < g {
         let e = g - 1;
-        if corners[e] == v {
-            if ends[e] == u {
-                return Met::Twin(e);
-            }
+        if corners[e] == v && ends[e] == u {
+            return Met::Twin(e);
         }
-        if corners[e] == u {
-            if ends[e] == v {
-                return Met::Like;
-            }
+        if corners[e] == u && ends[e] == v {
+            return Met::Like;
         }
         g = links[e] as usize;
     }

@@ -5,8 +5,8 @@ ghost use Rattle.std.specs.Prelude.{◌≡◌};
 ghost use Rattle.base_types.specs.Pitches.{pitch_of};
 ghost use Rattle.survey_rules.specs.Outcome.{outcome, buffers, survey_of};
 
-use base_answers::Answer;
-use base_types::{Named, Pitch, Surface};
+use base_answers::Refusal;
+use base_types::{Pitch, Sheet, Surface};
 use survey_rules::Surveyed;
 
 // Finds the loops of the surface with these words and corners, and leaves at that pitch the grid, the ring vertices and the ring lengths; or
@@ -18,46 +18,40 @@ pub fn survey(
     rings: &mut [u16],
     lengths: &mut [u16],
     pitch: u32,
-) -> Surveyed
+) -> Result<Surveyed, Refusal>
     ensures { outcome result (buffers grid.new rings.new lengths.new)
         ≡ survey_of pitch words.now corners.now (buffers grid.old rings.old lengths.old) }
 {
-    match Pitch::of(pitch) {
-        Named::Nothing => survey_rules::refused(Answer::NoPitch),
-        Named::Is(step) => survey_at(words, corners, grid, rings, lengths, step),
-    }
+    let step = Pitch::try_from(pitch)?;
+    let sheet = Sheet {
+        words,
+        corners,
+        pitch: step,
+    };
+    survey_at(sheet, grid, rings, lengths)
 }
 
 // The same at one of the four.
 fn survey_at(
-    words: &[u32],
-    corners: &[u16],
+    sheet: Sheet,
     grid: &mut [i32],
     rings: &mut [u16],
     lengths: &mut [u16],
-    pitch: Pitch,
-) -> Surveyed
+) -> Result<Surveyed, Refusal>
     ensures { outcome result (buffers grid.new rings.new lengths.new)
-        ≡ survey_of (pitch_of pitch) words.now corners.now (buffers grid.old rings.old lengths.old) }
+        ≡ survey_of (pitch_of sheet.entry.pitch) sheet.entry.words.now sheet.entry.corners.now (buffers grid.old rings.old lengths.old) }
 {
-    let counted = check_shape::check_counts(words.len(), corners.len());
-    if counted.refuses() {
-        return survey_rules::refused(counted);
-    }
-    let n = corners.len();
+    let n = sheet.corners.len();
+    check_shape::check_counts(sheet.words.len(), n)?;
     let lent = [grid.len(), rings.len(), lengths.len()];
-    let needs = [words.len(), n, n / 3];
+    let needs = [sheet.words.len(), n, n / 3];
     let mut turns = [0u16; Surface::CORNERS];
-    let checked = check_surface::check(words, corners, &lent, &needs, &mut turns, pitch);
-    if checked.refuses() {
-        return survey_rules::refused(checked);
-    }
+    check_surface::check(sheet, &lent, &needs, &mut turns)?;
     let mut firsts = [0u16; Surface::TRIANGLES];
-    survey_grid::lay_grid(words, grid, pitch);
-    let listed = loop_find::list_loops(corners, &mut turns, rings, lengths, &mut firsts);
-    Surveyed {
-        answer: Answer::Done,
+    survey_grid::lay_grid(sheet.words, grid, sheet.pitch);
+    let listed = loop_find::list_loops(sheet.corners, &mut turns, rings, lengths, &mut firsts);
+    Ok(Surveyed {
         loops: listed.loops,
         vertices: listed.vertices,
-    }
+    })
 }

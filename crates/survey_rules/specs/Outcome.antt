@@ -1,7 +1,9 @@
 -- What a survey leaves and answers: the grid, and the rings and lengths of all loops; or a refusal, and everything as it was.
-use Rattle.std.specs.Prelude.{cond, List, [], ◌∷◌, map, ℕ, ◌/◌, ℤ, length}
+use Rattle.std.specs.Prelude.{cond, List, [], ◌∷◌, map, ℕ, ◌/◌, ℤ, length, Result, Ok, Err}
 use Rattle.base_answers.specs.Numbers.{refusing}
+use Rattle.base_answers.specs.declared.Refusal.{Refusal}
 use Rattle.base_answers.specs.declared.Answer.{Answer}
+use Rattle.base_answers.specs.declared.Answer.TheVariants.{Refused}
 use Rattle.base_answers.specs.declared.Answer.TheVariants.{Done}
 use Rattle.surface_rules.specs.Buffers.{over}
 use Rattle.surface_rules.specs.Refusals.{refusal}
@@ -23,16 +25,17 @@ pub record Outcome : Type 0 where
   pub vertices : ℕ
   pub left : Buffers
 
--- what is answered, with what is left
-abbrev pub outcome : Surveyed → Buffers → Outcome
-outcome r b = record { answer = r.answer; loops = r.loops; vertices = r.vertices; left = b }
-
 abbrev pub buffers : List ℤ → List ℕ → List ℕ → Buffers
 buffers grid rings lengths = record { grid = grid; rings = rings; lengths = lengths }
 
 -- "A refusal ... leaves all buffers untouched and has zero in every count."
 abbrev pub refused : Answer → Buffers → Outcome
 refused a b = record { answer = a; loops = 0; vertices = 0; left = b }
+
+-- what is answered, with what is left
+abbrev pub outcome : Result Surveyed Refusal → Buffers → Outcome
+outcome (Ok s) b = record { answer = Done; loops = s.loops; vertices = s.vertices; left = b }
+outcome (Err r) b = refused (Refused r) b
 
 -- the grid, and the rings and lengths of all loops, each from its buffer's start
 abbrev pub done : ℕ → List ℕ → List ℕ → Buffers → Outcome

@@ -5,19 +5,15 @@ ghost use Rattle.std.specs.Prelude.{◌≡◌, ◌+◌, ◌≤◌, length, get_o
 ghost use Rattle.text_digits.specs.Workings.Reading.{read_hex, seen, UpTo};
 ghost use Rattle.text_hex.specs.Workings.Tables.{Marked, half};
 
-use text_digits::Number;
-
 // What each byte stands for as a digit, and behind all of them sixteen times that.
 pub fn mark_digits(values: &mut [u32])
     requires { Marked 0 values.old }
     ensures { Marked 16 values.new }
 {
-    let mut d: u8 = 0;
-    while d < 16 {
+    for d in 0..16 {
         let b = text_digits::byte_of(d) as usize;
         values[b] = d as u32;
         values[256 + b] = 16 * d as u32;
-        d += 1;
     }
 }
 
@@ -34,20 +30,20 @@ fn half_at(text: &[u8], at: usize, values: &[u32]) -> u32
 }
 
 // Eight hexadecimal digits at a place, and the byte `end` after them.
-pub fn hex_at(text: &[u8], at: usize, end: u8, values: &[u32]) -> Number
+pub fn hex_at(text: &[u8], at: usize, end: u8, values: &[u32]) -> Option<(u32, usize)>
     requires { (at + 9 ≤ length text.now) × Marked 16 values.now }
     ensures { (seen text.now result ≡ read_hex end (drop at text.now)) × UpTo (at + 9) result }
 {
     let high = half_at(text, at, values);
     let low = half_at(text, at + 4, values);
     if 65536 <= high {
-        return Number::Wrong;
+        return None;
     }
     if 65536 <= low {
-        return Number::Wrong;
+        return None;
     }
     if text[at + 8] != end {
-        return Number::Wrong;
+        return None;
     }
-    Number::Is(65536 * high + low, at + 9)
+    Some((65536 * high + low, at + 9))
 }

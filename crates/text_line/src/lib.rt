@@ -97,10 +97,8 @@ fn corner_digits(corners: &[u16]) -> usize
     ensures { result ≡ length (flatten (map decimal corners.now)) }
 {
     let mut sum: u16 = 0;
-    let mut i: usize = 0;
-    while i < corners.len() {
-        sum += corner_size(corners[i]);
-        i += 1;
+    for c in corners {
+        sum += corner_size(*c);
     }
     sum as usize
 }

@@ -1,9 +1,11 @@
 -- What reading a sheet text answers and leaves: "Reading may give, in this order, 10, 3 (words 1, corners 2) and 4 ... Reading answers
 -- the counts of words and corners ...; what lies past them stays"; and the pitch, which is 0 at a refusal.
-use Rattle.std.specs.Prelude.{◌≡◌, cond, List, [], ◌∷◌, ℕ, ◌/◌, length}
+use Rattle.std.specs.Prelude.{◌≡◌, cond, List, [], ◌∷◌, ℕ, ◌/◌, length, Result, Ok, Err}
 use Rattle.base_answers.specs.Numbers.{refusing}
 use Rattle.base_answers.specs.declared.Answer.{Answer}
-use Rattle.base_answers.specs.declared.Answer.TheVariants.{Done, Line}
+use Rattle.base_answers.specs.Answers.{Line}
+use Rattle.base_answers.specs.declared.Answer.TheVariants.{Done, Refused}
+use Rattle.base_answers.specs.declared.Refusal.{Refusal}
 use Rattle.surface_rules.specs.Buffers.{over}
 use Rattle.surface_rules.specs.Refusals.{then_check, buffer_refusal, unnamed_refusal}
 use Rattle.text_rules.specs.Text.{TextOf}
@@ -19,11 +21,12 @@ pub record ReadOutcome : Type 0 where
   pub words : List ℕ
   pub corners : List ℕ
 
-abbrev pub read_outcome : ReadSheet → List ℕ → List ℕ → ReadOutcome
-read_outcome r words corners = record { answer = r.answer; pitch = r.pitch; word_count = r.words; corner_count = r.corners; words = words; corners = corners }
-
 abbrev pub not_read : Answer → List ℕ → List ℕ → ReadOutcome
 not_read a words corners = record { answer = a; pitch = 0; word_count = 0; corner_count = 0; words = words; corners = corners }
+
+abbrev pub read_outcome : Result ReadSheet Refusal → List ℕ → List ℕ → ReadOutcome
+read_outcome (Ok r) words corners = record { answer = Done; pitch = r.pitch; word_count = r.words; corner_count = r.corners; words = words; corners = corners }
+read_outcome (Err r) words corners = not_read (Refused r) words corners
 
 -- the words ws and corners cs of a text go into the lent buffers, if these are long enough and every corner names a point
 unfoldable pub deliver : ℕ → List ℕ → List ℕ → List ℕ → List ℕ → ReadOutcome

@@ -1,9 +1,11 @@
 -- What reading the text of a patch set answers and leaves. It is "ruled as the sheet text is": reading may give 10 and 3 (states 1,
 -- corners 2), what lies past the counts stays, and a refusal changes nothing; "a wrong line is counted on after the sheet's last".
-use Rattle.std.specs.Prelude.{◌≡◌, cond, List, [], ◌∷◌, ℕ, ◌+◌, length}
+use Rattle.std.specs.Prelude.{◌≡◌, cond, List, [], ◌∷◌, ℕ, ◌+◌, length, Result, Ok, Err}
 use Rattle.base_answers.specs.Numbers.{refusing}
 use Rattle.base_answers.specs.declared.Answer.{Answer}
-use Rattle.base_answers.specs.declared.Answer.TheVariants.{Done, Line}
+use Rattle.base_answers.specs.Answers.{Line}
+use Rattle.base_answers.specs.declared.Answer.TheVariants.{Done, Refused}
+use Rattle.base_answers.specs.declared.Refusal.{Refusal}
 use Rattle.surface_rules.specs.Buffers.{over}
 use Rattle.surface_rules.specs.Refusals.{buffer_refusal}
 use Rattle.surface_rules.specs.Threes.{Three, flat}
@@ -19,11 +21,12 @@ pub record SetOutcome : Type 0 where
   pub states : List ℕ
   pub corners : List ℕ
 
-abbrev pub set_outcome : ReadSet → List ℕ → List ℕ → SetOutcome
-set_outcome r states corners = record { answer = r.answer; state_count = r.states; corner_count = r.corners; states = states; corners = corners }
-
 abbrev pub not_read : Answer → List ℕ → List ℕ → SetOutcome
 not_read a states corners = record { answer = a; state_count = 0; corner_count = 0; states = states; corners = corners }
+
+abbrev pub set_outcome : Result ReadSet Refusal → List ℕ → List ℕ → SetOutcome
+set_outcome (Ok r) states corners = record { answer = Done; state_count = r.states; corner_count = r.corners; states = states; corners = corners }
+set_outcome (Err r) states corners = not_read (Refused r) states corners
 
 -- the states ss and corners cs of a text go into the lent buffers, if these are long enough
 unfoldable pub deliver : List ℕ → List ℕ → List ℕ → List ℕ → SetOutcome

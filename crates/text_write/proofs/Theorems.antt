@@ -1,5 +1,6 @@
 -- What writing promises beyond its one equation: it has one outcome, what it writes is the text of its pitch, words and corners, and a
 -- number that is no pitch is refused before all else.
+use Rattle.std.specs.Prelude.{Option, Some, None}
 use mathlib.Core.Path.{◌≡◌, refl, sym, ap, ◌∙◌}
 use mathlib.Core.Bool.{Bool, true, false, true≢false}
 use mathlib.Core.List.{List, [], ◌∷◌}
@@ -9,11 +10,10 @@ use lib.ListN.{length, get_or, take, drop}
 use lib.Seq.{take-append_seam}
 use borrow.Author.Tests.{leb-false}
 use Rattle.base_answers.specs.Numbers.{refusing}
-use Rattle.base_answers.specs.declared.Answer.TheVariants.{Done, Unnamed, NoPitch}
+use Rattle.base_answers.specs.Answers.{Unnamed, NoPitch}
+use Rattle.base_answers.specs.declared.Answer.TheVariants.{Done}
 use Rattle.base_types.specs.Pitches.{is_pitch}
 use Rattle.base_limits.specs.Limits as limits
-use Rattle.surface_rules.specs.declared.Found.{Found}
-use Rattle.surface_rules.specs.declared.Found.TheVariants.{At, Nothing}
 use Rattle.surface_rules.specs.Smallest.{least}
 use Rattle.surface_rules.specs.Buffers.{over}
 use Rattle.surface_rules.specs.Refusals.{unnamed, then_check, refuse_at, pitch_refusal, count_refusal, buffer_refusal, unnamed_refusal}
@@ -39,9 +39,9 @@ no_pitch_first pitch words corners buffer e = rw (pitch_refused pitch e)
 
 -- ---- where the answer is `Done`, each check was passed
 
-all_named : (found : Found) → refusing (refuse_at Unnamed found) ≡ false → found ≡ Nothing
-all_named Nothing h = refl
-all_named (At i) h = absurd (true≢false h)
+all_named : (found : Option ℕ) → refusing (refuse_at Unnamed found) ≡ false → found ≡ None
+all_named None h = refl
+all_named (Some i) h = absurd (true≢false h)
 
 module _ (pitch : ℕ) (words corners buffer : List ℕ) where
   passes : (writes pitch words corners buffer).answer ≡ Done → refusing (write_refusal pitch words corners buffer) ≡ false
@@ -57,7 +57,7 @@ module _ (pitch : ℕ) (words corners buffer : List ℕ) where
   done_bytes d = rw (passes d) (take-append_seam (text pitch words corners) (drop (length (text pitch words corners)) buffer))
 
   pub checks : (writes pitch words corners buffer).answer ≡ Done
-      → (is_pitch pitch ≡ true) × (count_refusal (length words) (length corners) ≡ Done) × (least (unnamed corners (length words / 3)) (length corners) ≡ Nothing)
+      → (is_pitch pitch ≡ true) × (count_refusal (length words) (length corners) ≡ Done) × (least (unnamed corners (length words / 3)) (length corners) ≡ None)
   unfolding write_refusal
   checks d =
       let room = buffer_refusal (length buffer ∷ []) (length (text pitch words corners) ∷ []) in

@@ -1,22 +1,23 @@
 -- What writing a sheet text answers and leaves: 17 for a pitch that is none, "between 10 and 1"; then "writing gives 1, 2, 3 (text
 -- buffer too short for this text, each corner in its own digits; number 1) and 4 ... writing [answers the count] of bytes; what lies past
 -- them stays."
-use Rattle.std.specs.Prelude.{cond, List, [], ◌∷◌, ℕ, ◌/◌, length}
+use Rattle.std.specs.Prelude.{cond, List, [], ◌∷◌, ℕ, ◌/◌, length, Result, Ok, Err}
 use Rattle.base_answers.specs.Numbers.{refusing}
 use Rattle.base_answers.specs.declared.Answer.{Answer}
-use Rattle.base_answers.specs.declared.Answer.TheVariants.{Done}
+use Rattle.base_answers.specs.declared.Answer.TheVariants.{Done, Refused}
+use Rattle.base_answers.specs.declared.Refusal.{Refusal}
 use Rattle.surface_rules.specs.Buffers.{over}
 use Rattle.surface_rules.specs.Refusals.{then_check, pitch_refusal, count_refusal, buffer_refusal, unnamed_refusal}
 use Rattle.text_sheet.specs.Sheet.{text}
-use Rattle.text_write.specs.declared.Written.{Written}
 
 pub record WriteOutcome : Type 0 where
   pub answer : Answer
   pub count : ℕ
   pub bytes : List ℕ
 
-abbrev pub write_outcome : Written → List ℕ → WriteOutcome
-write_outcome r bytes = record { answer = r.answer; count = r.bytes; bytes = bytes }
+abbrev pub write_outcome : Result ℕ Refusal → List ℕ → WriteOutcome
+write_outcome (Ok n) bytes = record { answer = Done; count = n; bytes = bytes }
+write_outcome (Err r) bytes = record { answer = Refused r; count = 0; bytes = bytes }
 
 unfoldable pub write_refusal : ℕ → List ℕ → List ℕ → List ℕ → Answer
 write_refusal pitch words corners buffer =

@@ -2,34 +2,25 @@
 #![tactic(auto)]
 
 ghost use Rattle.std.specs.Prelude.{◌≡◌, ◌+◌, ◌*◌, ◌/◌, ◌<◌, ◌≤◌, length};
+ghost use Rattle.base_limits.specs.Limits as limits;
 ghost use Rattle.surface_rules.specs.Buffers.{laid, over};
 ghost use Rattle.text_sheet.specs.Sheet.{text};
 ghost use Rattle.text_write.specs.Outcome.{write_outcome, writes};
 ghost use Rattle.text_write.specs.Workings.Means.{Numbered, Serves, point_lines, triangle_lines, Ready};
 
-use base_answers::Answer;
-use base_types::{Named, Pitch, Surface};
-use surface_rules::Found;
+use base_answers::Refusal;
+use base_types::{Pitch, Surface};
 
 // How many points a sheet has that is written with little scratch.
 const FEW: usize = 16;
-
-// What writing answers, with the count of bytes.
-#[derive(Clone, Copy)]
-pub struct Written {
-    pub answer: Answer,
-    pub bytes: usize,
-}
 
 // The four digits of every point.
 fn number_points(points: usize, fours: &mut [u32])
     requires { (points < 10000) × (points ≤ length fours.old) }
     ensures { Numbered points fours.new }
 {
-    let mut i: usize = 0;
-    while i < points {
+    for i in 0..points {
         fours[i] = text_figures::four_of(i as u16);
-        i += 1;
     }
 }
 
@@ -42,8 +33,7 @@ fn put_points(buffer: &mut [u8], at: usize, words: &[u32], n: usize) -> usize
     let mut pairs = [0u16; 256];
     text_figures::spell_bytes(&mut pairs);
     let mut place = at;
-    let mut k: usize = 0;
-    while k < n {
+    for k in 0..n {
         text_line::put_point(
             buffer,
             place,
@@ -53,7 +43,6 @@ fn put_points(buffer: &mut [u8], at: usize, words: &[u32], n: usize) -> usize
             &pairs,
         );
         place += 29;
-        k += 1;
     }
     place
 }
@@ -66,8 +55,7 @@ fn put_triangles(buffer: &mut [u8], at: usize, corners: &[u16], n: usize, fours:
         × (result ≡ at + length (triangle_lines corners.now)) }
 {
     let mut place = at;
-    let mut k: usize = 0;
-    while k < n {
+    for k in 0..n {
         place = text_line::put_triangle(
             buffer,
             place,
@@ -76,7 +64,6 @@ fn put_triangles(buffer: &mut [u8], at: usize, corners: &[u16], n: usize, fours:
             corners[3 * k + 2],
             fours,
         );
-        k += 1;
     }
     place
 }
@@ -102,45 +89,29 @@ fn put_sheet(
     put_triangles(buffer, second, corners, sheet.triangles, fours)
 }
 
-// The same of few points.
-fn put_small(words: &[u32], corners: &[u16], buffer: &mut [u8], pitch: u32) -> usize
-    requires { Ready pitch words.now corners.now buffer.old × (length words.now / 3 ≤ FEW) }
+// The same with scratch for the digits of so many points.
+fn put_by<const POINTS: usize>(
+    words: &[u32],
+    corners: &[u16],
+    buffer: &mut [u8],
+    pitch: u32,
+) -> usize
+    requires ready { Ready pitch words.now corners.now buffer.old }
+    requires few { (length words.now / 3 ≤ POINTS) × (POINTS ≤ limits.points) }
     ensures { (buffer.new ≡ over (text pitch words.now corners.now) buffer.old)
         × (result ≡ length (text pitch words.now corners.now)) }
 {
-    let mut fours = [0u32; FEW];
+    let mut fours = [0u32; POINTS];
     put_sheet(words, corners, buffer, &mut fours, pitch)
 }
 
-// The same of as many as there can be.
-fn put_large(words: &[u32], corners: &[u16], buffer: &mut [u8], pitch: u32) -> usize
-    requires { Ready pitch words.now corners.now buffer.old }
-    ensures { (buffer.new ≡ over (text pitch words.now corners.now) buffer.old)
-        × (result ≡ length (text pitch words.now corners.now)) }
-{
-    let mut fours = [0u32; Surface::POINTS];
-    put_sheet(words, corners, buffer, &mut fours, pitch)
-}
-
-// What a refusal answers.
-fn unwritten(answer: Answer) -> Written
-    ensures { (result.answer ≡ answer) × (result.bytes ≡ 0) }
-{
-    Written { answer, bytes: 0 }
-}
-
-// Writes the text of words and corners, of points on a grid of that pitch, into a lent buffer. Everything past the text stays, and a
-// refusal changes nothing.
-pub fn write(words: &[u32], corners: &[u16], text: &mut [u8], pitch: u32) -> Written
+// Writes the text of words and corners, of points on a grid of that pitch, into a lent buffer, and answers the count of its bytes.
+// Everything past the text stays, and a refusal changes nothing.
+pub fn write(words: &[u32], corners: &[u16], text: &mut [u8], pitch: u32) -> Result<usize, Refusal>
     ensures { write_outcome result text.new ≡ writes pitch words.now corners.now text.old }
 {
-    if let Named::Nothing = Pitch::of(pitch) {
-        return unwritten(Answer::NoPitch);
-    }
-    let counts = check_shape::check_counts(words.len(), corners.len());
-    if counts.refuses() {
-        return unwritten(counts);
-    }
+    Pitch::try_from(pitch)?;
+    check_shape::check_counts(words.len(), corners.len())?;
     let sheet = Surface::of(words.len(), corners.len());
     if !text_line::has_room(
         text.len(),
@@ -148,18 +119,15 @@ pub fn write(words: &[u32], corners: &[u16], text: &mut [u8], pitch: u32) -> Wri
         corners,
         text_line::head_bytes(pitch),
     ) {
-        return unwritten(Answer::Buffer(1));
+        return Err(Refusal::Buffer(1));
     }
-    if let Found::At(i) = check_shape::first_unnamed(corners, sheet.points as u16) {
-        return unwritten(Answer::Unnamed(i));
+    if let Some(i) = check_shape::first_unnamed(corners, sheet.points as u16) {
+        return Err(Refusal::Unnamed(i));
     }
     let bytes = if sheet.points <= FEW {
-        put_small(words, corners, text, pitch)
+        put_by::<FEW>(words, corners, text, pitch)
     } else {
-        put_large(words, corners, text, pitch)
+        put_by::<{ Surface::POINTS }>(words, corners, text, pitch)
     };
-    Written {
-        answer: Answer::Done,
-        bytes,
-    }
+    Ok(bytes)
 }

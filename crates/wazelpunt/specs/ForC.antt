@@ -3,7 +3,7 @@ use Rattle.std.specs.Prelude.{ℕ, ◌≡◌, Bool, true, false, List, ℤ, pos,
 use Rattle.std.specs.Float.{binary32}
 use Rattle.std.specs.Float.Ieee.{to_bits}
 use Rattle.base_answers.specs.Numbers.{number_of, place_of}
-use Rattle.base_answers.specs.declared.Answer.TheVariants.{NoPitch}
+use Rattle.base_answers.specs.Answers.{NoPitch}
 use Rattle.base_types.specs.Pitches.{is_pitch}
 use Rattle.grid_coordinate.specs.Places.{Places, answer_of}
 use Rattle.grid_coordinate.specs.declared.Coordinate.{Coordinate}

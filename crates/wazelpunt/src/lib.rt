@@ -4,7 +4,9 @@
 ghost use Rattle.std.specs.Prelude.{◌≡◌};
 ghost use Rattle.std.specs.Float.{binary32};
 ghost use Rattle.std.specs.Float.Ieee.{of_bits};
-ghost use Rattle.base_answers.specs.Numbers.{number_of};
+ghost use Rattle.std.specs.Result.{result_unwrap_or};
+ghost use Rattle.base_answers.specs.Answers.{said};
+ghost use Rattle.base_answers.specs.Numbers.{number_of, place_of};
 ghost use Rattle.base_types.specs.Pitches.{pitch_of};
 ghost use Rattle.survey_rules.specs.Outcome.{buffers, survey_of};
 ghost use Rattle.patch_surface.specs.Outcome as patcher;
@@ -22,13 +24,12 @@ ghost use Rattle.wazelpunt.specs.Texts.{text_told, sheet_read, ReadsTold, ReadsS
 ghost use Rattle.wazelpunt.specs.Prints.{PrintsTold};
 ghost use Rattle.wazelpunt.specs.Facets.{handed, hands_out};
 
-use base_answers::Answer;
-use base_types::{Named, Pitch};
+use base_answers::{Answer, Refusal};
+use base_types::Pitch;
 use grid_coordinate::Coordinate;
 use program_chart::REPORT;
 use program_lines::LINE;
 use program_roll::LISTING;
-use stl_facets::Step;
 
 // How many floats a facet has.
 const FLOATS: usize = 9;
@@ -39,12 +40,12 @@ const FLOATS: usize = 9;
 pub fn wazelpunt_coordinate(word: u32, whole: &mut i32, rest: &mut u32, pitch: u32) -> u32
     ensures { Tells pitch (of_bits binary32 word) result whole.new rest.new }
 {
-    match Pitch::of(pitch) {
-        Named::Is(step) => tell(word, whole, rest, step),
-        Named::Nothing => {
+    match Pitch::try_from(pitch) {
+        Ok(step) => tell(word, whole, rest, step),
+        Err(refusal) => {
             *whole = 0;
             *rest = 0;
-            Answer::NoPitch.number()
+            refusal.number()
         }
     }
 }
@@ -54,7 +55,7 @@ fn tell(word: u32, whole: &mut i32, rest: &mut u32, pitch: Pitch) -> u32
     ensures { TellsPlace (pitch_of pitch) (of_bits binary32 word) result whole.new rest.new }
 {
     let found = grid_place::place(word, pitch);
-    let number = found.answer(0).number();
+    let number = Answer::from(found.answer(0)).number();
     match found {
         Coordinate::Exact(k) => {
             *whole = k;
@@ -95,12 +96,20 @@ pub fn wazelpunt_survey(
     ensures { told result place.new loops.new vertices.new (buffers grid.new rings.new lengths.new)
         ≡ surveyed (survey_of pitch words.now corners.now (buffers grid.old rings.old lengths.old)) }
 {
-    let found = survey::survey(words, corners, grid, rings, lengths, pitch);
-    let said = found.answer;
-    *place = said.place();
-    *loops = found.loops;
-    *vertices = found.vertices;
-    said.number()
+    match survey::survey(words, corners, grid, rings, lengths, pitch) {
+        Ok(found) => {
+            *place = 0;
+            *loops = found.loops;
+            *vertices = found.vertices;
+            0
+        }
+        Err(refusal) => {
+            *place = refusal.place();
+            *loops = 0;
+            *vertices = 0;
+            refusal.number()
+        }
+    }
 }
 
 // Patches a surface at that pitch, as `patch` does: the grid, the ring vertices, the records of the loops and the patch corners are left
@@ -122,13 +131,22 @@ pub fn wazelpunt_patch(
         (patch_told result place.new loops.new vertices.new laid.new
         (patcher.buffers grid.new rings.new records.new patches.new)) }
 {
-    let done = patch::patch(words, corners, grid, rings, records, patches, pitch);
-    let answer = done.answer;
-    *place = answer.place();
-    *loops = done.loops;
-    *vertices = done.vertices;
-    *laid = done.corners;
-    answer.number()
+    match patch::patch(words, corners, grid, rings, records, patches, pitch) {
+        Ok(done) => {
+            *place = 0;
+            *loops = done.loops;
+            *vertices = done.vertices;
+            *laid = done.corners;
+            0
+        }
+        Err(refusal) => {
+            *place = refusal.place();
+            *loops = 0;
+            *vertices = 0;
+            *laid = 0;
+            refusal.number()
+        }
+    }
 }
 
 // Charts a surface at that pitch, as `chart` does: the grid, the ring vertices, the records of the loops and the entries of the report are left
@@ -150,13 +168,22 @@ pub fn wazelpunt_chart(
         (chart_told result place.new loops.new vertices.new entries.new
         (charter.buffers grid.new rings.new records.new report.new)) }
 {
-    let charted = chart::chart(words, corners, grid, rings, records, report, pitch);
-    let answer = charted.answer;
-    *place = answer.place();
-    *loops = charted.loops;
-    *vertices = charted.vertices;
-    *entries = charted.entries;
-    answer.number()
+    match chart::chart(words, corners, grid, rings, records, report, pitch) {
+        Ok(charted) => {
+            *place = 0;
+            *loops = charted.loops;
+            *vertices = charted.vertices;
+            *entries = charted.entries;
+            0
+        }
+        Err(refusal) => {
+            *place = refusal.place();
+            *loops = 0;
+            *vertices = 0;
+            *entries = 0;
+            refusal.number()
+        }
+    }
 }
 
 // Judges a patch set for a surface at that pitch, as `judge` does: the grid, the ring vertices and the ring lengths are left in the lent
@@ -178,12 +205,28 @@ pub fn wazelpunt_judge(
     ensures { JudgesTold pitch words.now corners.now states.now set.now (buffers grid.old rings.old lengths.old)
         (told result place.new loops.new vertices.new (buffers grid.new rings.new lengths.new)) }
 {
-    let judged = judge::judge(words, corners, states, set, grid, rings, lengths, pitch);
-    let verdict = judged.answer;
-    *place = verdict.place();
-    *loops = judged.loops;
-    *vertices = judged.vertices;
-    verdict.number()
+    match judge::judge(words, corners, states, set, grid, rings, lengths, pitch) {
+        Ok(judged) => {
+            *loops = judged.loops;
+            *vertices = judged.vertices;
+            match judged.verdict {
+                Ok(()) => {
+                    *place = 0;
+                    0
+                }
+                Err(verdict) => {
+                    *place = verdict.place();
+                    verdict.number()
+                }
+            }
+        }
+        Err(refusal) => {
+            *place = refusal.place();
+            *loops = 0;
+            *vertices = 0;
+            refusal.number()
+        }
+    }
 }
 
 // Reads a sheet text, as `read` does: words and corners are left in the lent buffers; the number of the answer is returned, and its place
@@ -200,13 +243,33 @@ pub fn wazelpunt_read(
     ensures { ReadsTold text.now words.old corners.old
         (text_told result place.new words_read.new corners_read.new words.new corners.new) pitch.new }
 {
-    let read = text_read::read(text, words, corners);
-    let told = read.answer;
-    *place = told.place();
-    *words_read = read.words;
-    *corners_read = read.corners;
-    *pitch = read.pitch;
-    told.number()
+    match text_read::read(text, words, corners) {
+        Ok(read) => {
+            *place = 0;
+            *words_read = read.words;
+            *corners_read = read.corners;
+            *pitch = read.pitch;
+            0
+        }
+        Err(refusal) => {
+            *place = refusal.place();
+            *words_read = 0;
+            *corners_read = 0;
+            *pitch = 0;
+            refusal.number()
+        }
+    }
+}
+
+// The number of the answer on what was written or printed, or refused; its place and how many bytes there are are left too.
+fn tell_bytes(outcome: Result<usize, Refusal>, place: &mut usize, bytes: &mut usize) -> u32
+    ensures told { (result ≡ number_of (said outcome)) × (place.new ≡ place_of (said outcome)) }
+    ensures counted { bytes.new ≡ result_unwrap_or outcome 0 }
+{
+    let answer = Answer::from(outcome);
+    *place = answer.place();
+    *bytes = outcome.unwrap_or(0);
+    answer.number()
 }
 
 // Writes the text of a sheet of that pitch, as `write` does: it is left in the lent buffer; the number of the answer is returned, and its
@@ -222,10 +285,7 @@ pub fn wazelpunt_write(
     ensures { write_told result place.new bytes.new text.new ≡ written (writes pitch words.now corners.now text.old) }
 {
     let done = text_write::write(words, corners, text, pitch);
-    let result = done.answer;
-    *place = result.place();
-    *bytes = done.bytes;
-    result.number()
+    tell_bytes(done, place, bytes)
 }
 
 // Reads the text of a patch set that comes after so many lines, as `read_set` does: states and corners are left in the lent buffers; the
@@ -242,12 +302,20 @@ pub fn wazelpunt_read_set(
     ensures { ReadsSetTold text.now before states.old corners.old
         (text_told result place.new states_read.new corners_read.new states.new corners.new) }
 {
-    let read = text_read_set::read_set(text, before, states, corners);
-    let met = read.answer;
-    *place = met.place();
-    *states_read = read.states;
-    *corners_read = read.corners;
-    met.number()
+    match text_read_set::read_set(text, before, states, corners) {
+        Ok(read) => {
+            *place = 0;
+            *states_read = read.states;
+            *corners_read = read.corners;
+            0
+        }
+        Err(refusal) => {
+            *place = refusal.place();
+            *states_read = 0;
+            *corners_read = 0;
+            refusal.number()
+        }
+    }
 }
 
 // Prints the listing of a sheet's text, or an answer's line, as the listing program does, into the lent buffer; the number of the call's own
@@ -256,10 +324,7 @@ pub fn wazelpunt_list_text(text: &[u8], out: &mut [u8], place: &mut usize, bytes
     ensures { PrintsTold LISTING (Prints text.now) out.old (write_told result place.new bytes.new out.new) }
 {
     let listed = program_list::print(text, out);
-    let own = listed.answer;
-    *place = own.place();
-    *bytes = listed.bytes;
-    own.number()
+    tell_bytes(listed, place, bytes)
 }
 
 // Prints the report of a sheet's text, or an answer's line, as the charting program does, into the lent buffer; the number of the call's own
@@ -273,10 +338,7 @@ pub fn wazelpunt_chart_text(
     ensures { PrintsTold REPORT (charting.Prints text.now) out.old (write_told result place.new bytes.new out.new) }
 {
     let charted = program_chart::print(text, out);
-    let own = charted.answer;
-    *place = own.place();
-    *bytes = charted.bytes;
-    own.number()
+    tell_bytes(charted, place, bytes)
 }
 
 // Prints the line of the answer on a sheet's text and a patch set's, as the judging program does, into the lent buffer; the number of the
@@ -291,10 +353,7 @@ pub fn wazelpunt_judge_texts(
     ensures { PrintsTold LINE (HearsLine sheet.now set.now) out.old (write_told result place.new bytes.new out.new) }
 {
     let heard = program_judge::print(sheet, set, out);
-    let own = heard.answer;
-    *place = own.place();
-    *bytes = heard.bytes;
-    own.number()
+    tell_bytes(heard, place, bytes)
 }
 
 // Prints a sheet's text written again, or an answer's line, as the rewriting program does, into the lent buffer; the number of the call's
@@ -308,10 +367,7 @@ pub fn wazelpunt_rewrite_text(
     ensures { PrintsTold sheet_text (Rewrites text.now) out.old (write_told result place.new bytes.new out.new) }
 {
     let rewritten = program_rewrite::print(text, out);
-    let own = rewritten.answer;
-    *place = own.place();
-    *bytes = rewritten.bytes;
-    own.number()
+    tell_bytes(rewritten, place, bytes)
 }
 
 // Reads a file of facets, as `read` of `stl_read` does: words and corners are left in the lent buffers; the number of the answer is
@@ -327,19 +383,27 @@ pub fn wazelpunt_read_stl(
     ensures { text_told result place.new words_read.new corners_read.new words.new corners.new
         ≡ sheet_read (reads_file file.now words.old corners.old) }
 {
-    let taken = stl_read::read(file, words, corners);
-    let met = taken.answer;
-    *place = met.place();
-    *words_read = taken.words;
-    *corners_read = taken.corners;
-    met.number()
+    match stl_read::read(file, words, corners) {
+        Ok(taken) => {
+            *place = 0;
+            *words_read = taken.words;
+            *corners_read = taken.corners;
+            0
+        }
+        Err(refusal) => {
+            *place = refusal.place();
+            *words_read = 0;
+            *corners_read = 0;
+            refusal.number()
+        }
+    }
 }
 
 // The number of the answer that a file of so many bytes with such a count of facets gets by its size alone.
 pub fn wazelpunt_size_stl(length: usize, count: u32) -> u32
     ensures { result ≡ number_of (size_refusal length count) }
 {
-    stl_read::sized(length, count).number()
+    Answer::from(stl_read::sized(length, count)).number()
 }
 
 // Prints the text of a file's sheet, or an answer's line, as the importing program does, into the lent buffer; the number of the call's own
@@ -353,10 +417,7 @@ pub fn wazelpunt_import_stl(
     ensures { PrintsTold sheet_text (Imports file.now) out.old (write_told result place.new bytes.new out.new) }
 {
     let imported = program_import::print(file, out);
-    let own = imported.answer;
-    *place = own.place();
-    *bytes = imported.bytes;
-    own.number()
+    tell_bytes(imported, place, bytes)
 }
 
 // Hands out the facet that begins at a place of a file: its nine floats are left at the start of the lent buffer, the place behind it is left in
@@ -368,8 +429,8 @@ pub fn wazelpunt_facet(file: &[u8], at: &mut usize, floats: &mut [f32]) -> usize
         return 0;
     }
     match stl_facets::hand_out(file, *at) {
-        Step::End => 0,
-        Step::Given(facet) => {
+        None => 0,
+        Some(facet) => {
             stl_facets::lay(facet, floats);
             *at = stl_facets::move_on(file, *at);
             FLOATS

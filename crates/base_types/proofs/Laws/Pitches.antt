@@ -4,11 +4,12 @@ use mathlib.Core.Bool.{Bool, true, false, true≢false}
 use Prim.Native.Nat.{ℕ, ◌≤◌, ◌<◌}
 use lib.Dec.{eqb, lit≤}
 use borrow.Author.Tests.{ne_eqb, eqb-true, eqb-false}
+use Rattle.std.specs.Prelude.{Result, Ok, Err}
+use Rattle.base_answers.specs.declared.Refusal.{Refusal}
+use Rattle.base_answers.specs.declared.Refusal.TheVariants.{NoPitch}
 use Rattle.base_types.specs.Pitches.{pitch_of, is_pitch, Names}
 use Rattle.base_types.specs.declared.Pitch.{Pitch}
 use Rattle.base_types.specs.declared.Pitch.TheVariants.{One, Two, Five, Ten}
-use Rattle.base_types.specs.declared.Named.{Named}
-use Rattle.base_types.specs.declared.Named.TheVariants.{Is, Nothing}
 
 pub pitch_none : {n : ℕ} → (n ≡ 1 → ⊥) → (n ≡ 2 → ⊥) → (n ≡ 5 → ⊥) → (n ≡ 10 → ⊥) → is_pitch n ≡ false
 unfolding is_pitch
@@ -55,8 +56,11 @@ pub number_most : {n : ℕ} → is_pitch n ≡ true → n ≤ 10
 number_most h = let p = pitch_named h in subst (λ (n : ℕ). n ≤ 10) (sym p.1) (pitch_most p.0)
 
 -- what a number was found to name
-pub named_none : (n : ℕ) {m : Named} → Names n m → m ≡ Nothing → is_pitch n ≡ false
-named_none n h e = subst (Names n) e h
+pub named_none : (n : ℕ) {m : Result Pitch Refusal} {r : Refusal} → Names n m → m ≡ Err r → is_pitch n ≡ false
+named_none n h e = (subst (Names n) e h).0
 
-pub named_is : (n : ℕ) {m : Named} (p : Pitch) → Names n m → m ≡ Is p → n ≡ pitch_of p
+pub named_refuses : (n : ℕ) {m : Result Pitch Refusal} {r : Refusal} → Names n m → m ≡ Err r → r ≡ NoPitch
+named_refuses n h e = (subst (Names n) e h).1
+
+pub named_is : (n : ℕ) {m : Result Pitch Refusal} (p : Pitch) → Names n m → m ≡ Ok p → n ≡ pitch_of p
 named_is n p h e = subst (Names n) e h

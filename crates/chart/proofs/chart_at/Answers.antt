@@ -1,24 +1,15 @@
 -- `chart_at` refuses by the counts, or hands on what they let pass.
-use mathlib.Core.Path.{sym, ◌∙◌}
-use Rattle.surface_rules.proofs.Laws.Deciding.{counts_pass}
+use Rattle.std.proofs.Common.{sym}
+use Rattle.std.proofs.lemmas.Result.{err_from_is_err_and}
 use Rattle.chart_surface.specs.Outcome.{buffers}
 use Rattle.chart_surface.proofs.Laws.Answering.{counts_refuse}
 use Rattle.chart.proofs.chart_at.Goals as goal
 
-pub check_counts-counted-requires : goal.check_counts-counted-requires
-check_counts-counted-requires c = tt
-
-pub refuses-requires : goal.refuses-requires
-refuses-requires c = tt
-
-pub refused-requires : goal.refused-requires
-refused-requires c = tt
-
-pub returns-then-refuses : goal.returns-then-refuses
-returns-then-refuses c =
+pub returns-in_err-check_counts : goal.returns-in_err-check_counts
+returns-in_err-check_counts c =
     let a = c.args in
-    counts_refuse a.pitch a.words.now a.corners.now (buffers a.grid.now a.rings.now a.records.now a.report.now)
-    c.refused.ensures (sym c.refuses.ensures ∙ c.if-refuses.true) c.check_counts-counted.ensures
+    let p = err_from_is_err_and c.from_residual.result c.from_residual.ensures.1 in
+    rw (p.1, p.2) (counts_refuse a.sheet.pitch a.sheet.words.now a.sheet.corners.now (buffers a.grid.now a.rings.now a.records.now a.report.now) c.in_err-check_counts.ensures)
 
 pub chart_fitting-requires : goal.chart_fitting-requires
-chart_fitting-requires c = search (counts_pass, c.check_counts-counted.ensures, sym c.refuses.ensures ∙ c.if-refuses.false)
+chart_fitting-requires c = sym c.in_ok-check_counts.ensures

@@ -4,7 +4,7 @@ use mathlib.Core.List.{List, [], ◌∷◌, ◌++◌, map, map-append}
 use Prim.Native.Nat.{ℕ, ◌+◌, ◌*◌, ◌≤◌, ◌<◌}
 use native.Mathlib.Omega.{arith}
 use lib.ListN.{length, get_or, take, length-append}
-use lib.Seq.{take-suc, take_all}
+use lib.Seq.{take-suc}
 use native.Mathlib.Numerals.{add-one}
 use Rattle.surface_rules.specs.Buffers.{laid}
 use Rattle.surface_rules.proofs.Laws.Laid.{laid_none, laid_then, laid_length}
@@ -62,14 +62,7 @@ module _ {lakes report₀ : List ℕ} {from : ℕ} (room : 2 * (from + length la
   sinking_begins = record { within = omega arith; kept = refl; sunk = record { counted = refl; laid_are = (enters_none from report₀).laid_are } }
 
   module _ {i : ℕ} {report : List ℕ} (m : Sinking lakes report₀ from i report) where
-    pub sinking_ends : length lakes ≤ i → Enters from (map (entry 3) lakes) report₀ (from + length lakes) report
-    sinking_ends h = let w = m.within in
-        enters_same (ap (map (entry 3)) (take_all i lakes h)) (let e : from + i ≡ from + length lakes = omega arith in e) m.sunk
-
     module _ (h : i < length lakes) where
-      pub lake_in : 2 * (from + i) + 2 ≤ length report
-      lake_in = let k = m.kept in omega arith
-
       pub sinking_more : {report' : List ℕ} → report' ≡ laid (2 * (from + i)) (numbers (entry 3 (get_or lakes i 0))) report → Sinking lakes report₀ from (i + 1) report'
       sinking_more {report'} q =
           let x = enters_then (omega arith) m.sunk (enters_one (entry 3 (get_or lakes i 0)) q) in

@@ -21,7 +21,7 @@ use Rattle.chart_rules.proofs.Laws.Picking.{many_few}
 use Rattle.chart_rules.proofs.Theorems.{home_below}
 use Rattle.chart_lay.specs.Workings.Coast.{coast_of}
 use Rattle.chart_lay.specs.Workings.Chaining.{First, is_marked, marked_in, unmarked_in, ChainRoom, Chains}
-use Rattle.chart_lay.specs.Workings.Locating.{LocateRoom, Locates}
+use Rattle.chart_lay.specs.Workings.Locating.{Locates}
 use Rattle.chart_lay.specs.Workings.Others.{is_rim_of, is_other_of, Chained}
 use Rattle.chart_lay.specs.Workings.Pieces.{Piece}
 use Rattle.chart_lay.specs.Workings.Laying.{Shores}
@@ -72,17 +72,6 @@ module _ {grid : List ℤ} {corners rings lengths marks pieces : List ℕ} {coun
     links_long = let x = as_loops in let y = few_loops in omega arith;
     rims_there = λ l h. let x = as_loops in let y = home_in l (omega arith) in let z = few_pieces in omega arith;
     heads_there = λ l h. let x = as_loops in let y = home_in l (omega arith) in let z = few_pieces in omega arith;
-  }
-
-  pub locate_room : (starts : List ℕ) → length starts ≡ limits.triangles → LocateRoom lengths starts
-  locate_room starts a = record {
-    grid = grid;
-    input = corners;
-    rs = ring_list corners;
-    rings = rings;
-    loops = s.listed;
-    few = s.input.few;
-    room = let b = s.listed.few_loops in omega arith;
   }
 
   -- ---- and what they leave

@@ -1,5 +1,6 @@
 -- Vertex after vertex of a ring is stamped.
-use mathlib.Core.Path.{◌≡◌, refl, sym, ap, ◌∙◌}
+use Rattle.std.specs.Prelude.{None}
+use mathlib.Core.Path.{◌≡◌, sym, ap, ◌∙◌}
 use mathlib.Core.Bool.{Bool, true, false}
 use mathlib.Core.Logic.{⊎_elim}
 use mathlib.Core.List.{List}
@@ -8,12 +9,11 @@ use native.Mathlib.Omega.{arith}
 use lib.ListN.{length, get_or, set, length-set}
 use lib.Seq.{get_or-set_same, get_or-set_other}
 use borrow.Author.Tests.{eq-eqb, ne_eqb, eqb-false}
-use Rattle.surface_rules.specs.declared.Found.TheVariants.{Nothing}
 use Rattle.surface_rules.specs.Smallest.{least, any}
 use Rattle.surface_rules.proofs.Laws.Smallest.{least_none, least_more, least_at, any_never}
 use Rattle.surface_rules.proofs.Laws.Tests.{eq_or_not}
 use Rattle.chart_rules.specs.Report.{stands}
-use Rattle.chart_lay.specs.Workings.Stamping.{Inside, Stamps, has_stamp, any_stamp}
+use Rattle.chart_lay.specs.Workings.Stamping.{Inside, has_stamp, any_stamp}
 
 -- the first i vertices have the stamp, and those that are no vertices of the ring theirs
 pub record Stamping (ring stamps₀ : List ℕ) (stamp i : ℕ) (stamps : List ℕ) : Type 0 where
@@ -22,13 +22,7 @@ pub record Stamping (ring stamps₀ : List ℕ) (stamp i : ℕ) (stamps : List �
   pub others : (v : ℕ) → stands ring v ≡ false → get_or stamps v 0 ≡ get_or stamps₀ v 0
 
 module _ {ring stamps₀ : List ℕ} {stamp : ℕ} (room : Inside ring stamps₀) where
-  pub stamping_begins : Stamping ring stamps₀ stamp 0 stamps₀
-  stamping_begins = record { kept = refl; so_far = λ j h. absurd (omega arith); others = λ v e. refl }
-
   module _ {i : ℕ} {stamps : List ℕ} (m : Stamping ring stamps₀ stamp i stamps) where
-    pub stamping_ends : length ring ≤ i → Stamps ring stamps₀ stamp stamps
-    stamping_ends h = record { stamped = λ j k. m.so_far j (omega arith); others = m.others }
-
     module _ (h : i < length ring) where
       pub stamp_in : get_or ring i 0 < length stamps
       stamp_in = let a = room i h in let k = m.kept in omega arith
@@ -55,7 +49,7 @@ tested ring stamps stamp i = has_stamp stamps stamp (get_or ring i 0)
 -- the first i vertices have not got it
 pub record Unstamped (ring stamps : List ℕ) (stamp i : ℕ) : Type 0 where
   pub within : i ≤ length ring
-  pub not_yet : least (tested ring stamps stamp) i ≡ Nothing
+  pub not_yet : least (tested ring stamps stamp) i ≡ None
 
 pub unstamped_begins : {ring stamps : List ℕ} {stamp : ℕ} → Unstamped ring stamps stamp 0
 unstamped_begins {ring} {stamps} {stamp} = record { within = omega arith; not_yet = least_none (tested ring stamps stamp) }

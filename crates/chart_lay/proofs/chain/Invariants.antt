@@ -4,6 +4,3 @@ use Rattle.chart_lay.proofs.chain.Given as goal
 
 abbrev pub invariant-loop-l : goal.invariant-loop-l
 invariant-loop-l l = Chaining l.marks l.pieces l.initial.rims l.initial.heads l.initial.links l.n l.l l.rims l.heads l.links
-
-abbrev pub decreases-loop-l : goal.decreases-loop-l
-decreases-loop-l l = l.l

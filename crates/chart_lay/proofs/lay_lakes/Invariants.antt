@@ -1,11 +1,6 @@
 -- `lay_lakes` lays lake after lake.
-use Prim.Native.Nat.{◌-◌}
-use lib.ListN.{length}
 use Rattle.chart_lay.proofs.Laws.Entering.{Sinking}
 use Rattle.chart_lay.proofs.lay_lakes.Given as goal
 
 abbrev pub invariant-loop-i : goal.invariant-loop-i
 invariant-loop-i l = Sinking l.lakes l.initial.report l.from l.i l.report
-
-abbrev pub decreases-loop-i : goal.decreases-loop-i
-decreases-loop-i l = length l.lakes - l.i

@@ -1,9 +1,6 @@
 -- `lay_others` walks along the loops of a piece that are no rims: it lays the tide pools on the way, and the lakes at the end.
-use Prim.Native.Nat.{◌-◌}
-use lib.ListN.{get_or}
 use native.Mathlib.Omega.{arith}
 use Rattle.surface_rules.proofs.Laws.Lists.{as_long}
-use Rattle.fill_scratch.specs.Workings.Rings.{RingPlace}
 use Rattle.chart_lay.proofs.Laws.Walking as laws
 use Rattle.chart_lay.proofs.lay_others.Goals as goal
 use Rattle.chart_lay.proofs.lay_others.Goals.{then-is_stamped, else-is_stamped}
@@ -11,44 +8,14 @@ use Rattle.chart_lay.proofs.lay_others.Goals.{then-is_stamped, else-is_stamped}
 pub loop-l-init : goal.loop-l-init
 loop-l-init c = laws.walking_begins c.requires
 
-pub overflow_cast-r : goal.overflow_cast-r
-overflow_cast-r c = omega (arith, (let it : RingPlace c.args.rings.now c.args.lengths.now c.loop-l.l (get_or c.args.starts.now c.loop-l.l 0) = laws.place c.requires c.loop-l.invariant c.loop-l-test.true in it))
-
-pub offset_bounds-starts-l : goal.offset_bounds-starts-l
-offset_bounds-starts-l c = omega (arith, (let it : RingPlace c.args.rings.now c.args.lengths.now c.loop-l.l (get_or c.args.starts.now c.loop-l.l 0) = laws.place c.requires c.loop-l.invariant c.loop-l-test.true in it))
-
 pub bounds-starts-l : goal.bounds-starts-l
 bounds-starts-l c = laws.start_there c.requires c.loop-l.invariant c.loop-l-test.true
-
-pub overflow_cast-r-in-loop-l : goal.overflow_cast-r-in-loop-l
-overflow_cast-r-in-loop-l c = omega (arith, (let it : RingPlace c.args.rings.now c.args.lengths.now c.loop-l.l (get_or c.args.starts.now c.loop-l.l 0) = laws.place c.requires c.loop-l.invariant c.loop-l-test.true in it))
-
-pub overflow_cast-l : goal.overflow_cast-l
-overflow_cast-l c = omega (arith, (let it : RingPlace c.args.rings.now c.args.lengths.now c.loop-l.l (get_or c.args.starts.now c.loop-l.l 0) = laws.place c.requires c.loop-l.invariant c.loop-l-test.true in it))
-
-pub offset_bounds-lengths-l : goal.offset_bounds-lengths-l
-offset_bounds-lengths-l c = omega (arith, (let it : RingPlace c.args.rings.now c.args.lengths.now c.loop-l.l (get_or c.args.starts.now c.loop-l.l 0) = laws.place c.requires c.loop-l.invariant c.loop-l-test.true in it))
 
 pub bounds-lengths-l : goal.bounds-lengths-l
 bounds-lengths-l c = laws.length_there c.requires c.loop-l.invariant c.loop-l-test.true
 
-pub overflow_cast-lengths : goal.overflow_cast-lengths
-overflow_cast-lengths c = omega (arith, (let it : RingPlace c.args.rings.now c.args.lengths.now c.loop-l.l (get_or c.args.starts.now c.loop-l.l 0) = laws.place c.requires c.loop-l.invariant c.loop-l-test.true in it))
-
-pub overflow_add-r : goal.overflow_add-r
-overflow_add-r c = omega (arith, (let it : RingPlace c.args.rings.now c.args.lengths.now c.loop-l.l (get_or c.args.starts.now c.loop-l.l 0) = laws.place c.requires c.loop-l.invariant c.loop-l-test.true in it))
-
-pub offset_bounds-rings-r : goal.offset_bounds-rings-r
-offset_bounds-rings-r c = omega (arith, (let it : RingPlace c.args.rings.now c.args.lengths.now c.loop-l.l (get_or c.args.starts.now c.loop-l.l 0) = laws.place c.requires c.loop-l.invariant c.loop-l-test.true in it))
-
-pub slice_bounds-is_stamped-count : goal.slice_bounds-is_stamped-count
-slice_bounds-is_stamped-count c = omega (arith, (let it : RingPlace c.args.rings.now c.args.lengths.now c.loop-l.l (get_or c.args.starts.now c.loop-l.l 0) = laws.place c.requires c.loop-l.invariant c.loop-l-test.true in it))
-
-pub slice_bounds-is_stamped-start : goal.slice_bounds-is_stamped-start
-slice_bounds-is_stamped-start c = omega (arith, (let it : RingPlace c.args.rings.now c.args.lengths.now c.loop-l.l (get_or c.args.starts.now c.loop-l.l 0) = laws.place c.requires c.loop-l.invariant c.loop-l-test.true in it))
-
 pub slice_bounds-is_stamped-end : goal.slice_bounds-is_stamped-end
-slice_bounds-is_stamped-end c = ((let it : RingPlace c.args.rings.now c.args.lengths.now c.loop-l.l (get_or c.args.starts.now c.loop-l.l 0) = laws.place c.requires c.loop-l.invariant c.loop-l-test.true in it)).ring_in
+slice_bounds-is_stamped-end c = (laws.place c.requires c.loop-l.invariant c.loop-l-test.true).ring_in
 
 pub is_stamped-requires : goal.is_stamped-requires
 is_stamped-requires c = laws.part_there c.requires c.loop-l.invariant c.loop-l-test.true
@@ -69,12 +36,6 @@ bounds-lakes-kept c = laws.lake_there c.requires c.loop-l.invariant c.loop-l-tes
 
 pub overflow_add-kept : goal.overflow_add-kept
 overflow_add-kept c = omega (arith, laws.lake_there c.requires c.loop-l.invariant c.loop-l-test.true)
-
-pub overflow_cast-l-in-loop-l : goal.overflow_cast-l-in-loop-l
-overflow_cast-l-in-loop-l c = omega (arith, (let it : RingPlace c.args.rings.now c.args.lengths.now c.loop-l.l (get_or c.args.starts.now c.loop-l.l 0) = laws.place c.requires c.loop-l.invariant c.loop-l-test.true in it))
-
-pub offset_bounds-links-l : goal.offset_bounds-links-l
-offset_bounds-links-l c = omega (arith, (let it : RingPlace c.args.rings.now c.args.lengths.now c.loop-l.l (get_or c.args.starts.now c.loop-l.l 0) = laws.place c.requires c.loop-l.invariant c.loop-l-test.true in it))
 
 pub bounds-links-l : goal.bounds-links-l
 bounds-links-l c = laws.link_there c.requires c.loop-l.invariant c.loop-l-test.true

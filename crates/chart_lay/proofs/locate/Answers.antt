@@ -1,14 +1,10 @@
 -- `locate` adds length after length.
-use Prim.Native.Nat.{◌-◌}
 use native.Mathlib.Omega.{arith}
-use Rattle.chart_lay.proofs.Laws.Locating.{located_begins, located_ends, start_in, start_few, located_more}
+use Rattle.chart_lay.proofs.Laws.Locating.{located_begins, located_ends, start_few, located_more}
 use Rattle.chart_lay.proofs.locate.Goals as goal
 
 pub loop-l-init : goal.loop-l-init
 loop-l-init c = located_begins c.requires
-
-pub bounds-starts-l : goal.bounds-starts-l
-bounds-starts-l c = start_in c.requires c.loop-l.invariant c.loop-l-test.true
 
 pub overflow_add-r : goal.overflow_add-r
 overflow_add-r c = omega (arith, start_few c.requires c.loop-l.invariant c.loop-l-test.true)

@@ -6,14 +6,12 @@ use mathlib.Core.List.{List, [], ◌∷◌, ◌++◌, map, flatten, map-append}
 use Prim.Native.Nat.{ℕ, zero, suc, ◌+◌, ◌*◌, ◌/◌, ◌<◌, ◌≤◌}
 use native.Mathlib.Nat.{not-suc-le-zero}
 use native.Mathlib.Omega.{arith}
-use lib.Dec.{ltb}
 use lib.ListN.{length, get_or, set}
-use borrow.Author.Tests.{lt-ltb, ltb-true}
+use borrow.Author.Tests.{lt-ltb}
 use Rattle.surface_rules.specs.Buffers.{over, laid}
 use Rattle.surface_rules.proofs.Laws.Laid.{laid_none, laid_more}
 use Rattle.surface_rules.proofs.Laws.Lists.{flatten_append}
 use Rattle.surface_rules.proofs.Laws.Over.{front_at, over_long}
-use Rattle.surface_rules.proofs.Laws.Tests.{not_so}
 use Rattle.chart_rules.specs.declared.Entry.{Entry}
 use Rattle.chart_rules.specs.Report.{entry, numbers, entry_numbers, nothing, entry_in}
 
@@ -21,11 +19,6 @@ use Rattle.chart_rules.specs.Report.{entry, numbers, entry_numbers, nothing, ent
 
 pub entry_there : (buffer : List ℕ) (i : ℕ) → i < length buffer / 2 → entry_in buffer i ≡ entry (get_or buffer (2 * i) 0) (get_or buffer (2 * i + 1) 0)
 entry_there buffer i h = ap (λ t. cond t (entry (get_or buffer (2 * i) 0) (get_or buffer (2 * i + 1) 0)) nothing) (lt-ltb i (length buffer / 2) h)
-
-pub entry_missing : (buffer : List ℕ) (i : ℕ) → length buffer / 2 ≤ i → entry_in buffer i ≡ nothing
-entry_missing buffer i h =
-    ap (λ t. cond t (entry (get_or buffer (2 * i) 0) (get_or buffer (2 * i + 1) 0)) nothing)
-    (not_so (ltb i (length buffer / 2)) (λ t. let k = ltb-true i (length buffer / 2) t in absurd (omega arith)))
 
 -- two numbers written one after the other are laid at once
 pub two_laid : (out : List ℕ) (p a b : ℕ) → p + 2 ≤ length out → set (set out p a) (p + 1) b ≡ laid p (a ∷ b ∷ []) out

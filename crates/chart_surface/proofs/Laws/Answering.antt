@@ -8,8 +8,11 @@ use lib.IntN.{ℤ}
 use lib.ListN.{length, take, length-map}
 use Rattle.base_answers.specs.Numbers.{refusing}
 use Rattle.base_answers.specs.declared.Answer.{Answer}
-use Rattle.base_answers.specs.declared.Answer.TheVariants.{Done, NoPitch}
-use Rattle.base_types.specs.Pitches.{pitch_of, is_pitch}
+use Rattle.std.specs.Prelude.{Ok, Err}
+use Rattle.base_answers.specs.declared.Refusal.{Refusal}
+use Rattle.base_answers.specs.declared.Answer.TheVariants.{Refused}
+use Rattle.base_answers.specs.declared.Answer.TheVariants.{Done}
+use Rattle.base_types.specs.Pitches.{pitch_of, Names}
 use Rattle.base_types.specs.declared.Pitch.{Pitch}
 use Rattle.base_limits.specs.Limits as limits
 use Rattle.surface_rules.specs.Refusals.{count_refusal, refusal, sheet_refusal}
@@ -23,29 +26,26 @@ use Rattle.chart_surface.specs.Outcome.{Buffers, Outcome, outcome, buffers, lent
 use Rattle.chart_surface.specs.Workings.Charting.{Roomy, Passed, Checks, LoopBench, ChartBench, LoopRoom, ChartsLoops, Finishes, Alone, alone, alone_of}
 use Rattle.chart_surface.specs.declared.Charted.{Charted}
 
--- a refusal as the code makes it
-abbrev pub Refuses : Charted → Answer → Type 0
-Refuses r a = (r.answer ≡ a) × (r.loops ≡ 0) × (r.vertices ≡ 0) × (r.entries ≡ 0)
-
 module _ (pitch : ℕ) (words corners : List ℕ) (b : Buffers) where
   -- what the table says decides
-  pub decided : {r : Charted} {a : Answer} → Refuses r a → refusing a ≡ true → refusal pitch words corners (lent b) (needs words corners) ≡ a → Charts pitch words corners b (outcome r b)
-  decided h t e = rw (e, t) (λ i. record { answer = h.0 i; loops = h.1 i; vertices = h.2 i; entries = h.3 i; left = b })
+  pub decided : {r : Refusal} → refusal pitch words corners (lent b) (needs words corners) ≡ Refused r → Charts pitch words corners b (outcome (Err r) b)
+  decided e = rw e refl
 
-  pub pitch_refuse : {r : Charted} → Refuses r NoPitch → is_pitch pitch ≡ false → Charts pitch words corners b (outcome r b)
-  pitch_refuse h e = decided h refl (pitch_decides pitch words corners (lent b) (needs words corners) e)
+  pub pitch_refuse : {r : Refusal} → Names pitch (Err r) → Charts pitch words corners b (outcome (Err r) b)
+  pitch_refuse n = decided (pitch_decides pitch words corners (lent b) (needs words corners) n.0 ∙ ap Refused (sym n.1))
 
   -- what is promised at a pitch is promised at its number
   pub at_pitch : (p : Pitch) (o : Outcome) → pitch ≡ pitch_of p → Charts (pitch_of p) words corners b o → Charts pitch words corners b o
   at_pitch p o e h = subst (λ (n : ℕ). Charts n words corners b o) (sym e) h
 
-  module _ {a : Answer} {turns : List ℕ} {grid' : List ℤ} (k : Checks pitch words corners b a turns grid') where
-    -- a check refused
-    pub checked_refuse : {r : Charted} → Refuses r a → refusing a ≡ true → Charts pitch words corners b (outcome r (buffers grid' b.rings b.records b.report))
-    checked_refuse {r} h t =
-        let d = k.0 t in
-        subst (λ (g : List ℤ). Charts pitch words corners b (outcome r (buffers g b.rings b.records b.report))) (sym d.1) (decided h t (sym d.0))
+  -- a check refused
+  pub checked_refuse : {r : Refusal} {turns : List ℕ} {grid' : List ℤ} → Checks pitch words corners b (Refused r) turns grid'
+      → Charts pitch words corners b (outcome (Err r) (buffers grid' b.rings b.records b.report))
+  checked_refuse {r} k =
+      let d = k.0 refl in
+      subst (λ (g : List ℤ). Charts pitch words corners b (outcome (Err r) (buffers g b.rings b.records b.report))) (sym d.1) (decided (sym d.0))
 
+  module _ {a : Answer} {turns : List ℕ} {grid' : List ℤ} (k : Checks pitch words corners b a turns grid') where
     module _ (t : refusing a ≡ false) where
       passed : Passed pitch words corners b turns grid'
       passed = k.1 t
@@ -72,15 +72,14 @@ module _ (pitch : ℕ) (words corners : List ℕ) (b : Buffers) where
       -- no check refused, and it was charted
       pub checked_charts : {r : Charted} {rings' records' report' : List ℕ}
           → Finishes corners turns (take (length words) grid') (buffers (take (length words) grid') b.rings b.records b.report) r (buffers (take (length words) grid') rings' records' report')
-          → Charts pitch words corners b (outcome r (buffers grid' rings' records' report'))
+          → Charts pitch words corners b (outcome (Ok r) (buffers grid' rings' records' report'))
       checked_charts {r} {rings'} {records'} {report'} f =
           rw passed.none_refused
-          (subst (λ (x : List ℤ). Completes pitch words corners b (outcome r (buffers x rings' records' report'))) (sym passed.laid) (f pitch words checked_here b.grid))
+          (subst (λ (x : List ℤ). Completes pitch words corners b (outcome (Ok r) (buffers x rings' records' report'))) (sym passed.laid) (f pitch words checked_here b.grid))
 
 -- the counts refuse
-pub counts_refuse : (p : Pitch) (words corners : List ℕ) (b : Buffers) {r : Charted} {a : Answer} → Refuses r a → refusing a ≡ true → a ≡ count_refusal (length words) (length corners)
-    → Charts (pitch_of p) words corners b (outcome r b)
-counts_refuse p words corners b {r} {a} h t e = decided (pitch_of p) words corners b h t (count_decides p words corners (lent b) (needs words corners) a e t)
+pub counts_refuse : (p : Pitch) (words corners : List ℕ) (b : Buffers) {r : Refusal} → Refused r ≡ count_refusal (length words) (length corners) → Charts (pitch_of p) words corners b (outcome (Err r) b)
+counts_refuse p words corners b {r} e = decided (pitch_of p) words corners b (count_decides p words corners (lent b) (needs words corners) (Refused r) e refl)
 
 -- room for any surface is room for this one
 module _ (words : List ℕ) {corners turns path places : List ℕ} {cs : Columns} {points : ℕ} (c : count_refusal (length words) (length corners) ≡ Done) (p : points ≡ length words / 3) where
@@ -109,11 +108,11 @@ chart_bench words {corners} c t u v =
 -- ---- the report alone
 
 module _ (pitch : ℕ) (words corners report : List ℕ) where
-  pub alone_refused : {r : Charted} {a : Answer} → Refuses r a → refusing a ≡ true → sheet_refusal pitch words corners ≡ a → alone r report ≡ alone_of pitch words corners report
-  alone_refused h t e = rw (e, t) (λ i. record { answer = h.0 i; entries = h.3 i; report = report })
+  pub alone_refused : {r : Refusal} → sheet_refusal pitch words corners ≡ Refused r → alone (Err r) report ≡ alone_of pitch words corners report
+  alone_refused e = rw e refl
 
-  pub alone_pitch : {r : Charted} → Refuses r NoPitch → is_pitch pitch ≡ false → alone r report ≡ alone_of pitch words corners report
-  alone_pitch h e = alone_refused h refl (pitch_decides pitch words corners [] [] e)
+  pub alone_pitch : {r : Refusal} → Names pitch (Err r) → alone (Err r) report ≡ alone_of pitch words corners report
+  alone_pitch n = alone_refused (pitch_decides pitch words corners [] [] n.0 ∙ ap Refused (sym n.1))
 
   pub alone_at : (p : Pitch) {o : Alone} → pitch ≡ pitch_of p → o ≡ alone_of (pitch_of p) words corners report → o ≡ alone_of pitch words corners report
   alone_at p {o} e h = subst (λ (n : ℕ). o ≡ alone_of n words corners report) (sym e) h
@@ -124,8 +123,8 @@ module _ (pitch : ℕ) (words corners report : List ℕ) where
     sheet_decides : refusal pitch words corners (room ∷ []) (length words ∷ []) ≡ sheet_refusal pitch words corners
     sheet_decides = buffers_pass pitch words corners (room ∷ []) (length words ∷ []) (one_long room (length words) long)
 
-    pub alone_checked : {r : Charted} → Refuses r a → refusing a ≡ true → alone r report ≡ alone_of pitch words corners report
-    alone_checked h t = alone_refused h t (sym sheet_decides ∙ sym (k.0 t).0)
+    pub alone_checked : {r : Refusal} → a ≡ Refused r → alone (Err r) report ≡ alone_of pitch words corners report
+    alone_checked e = alone_refused (sym sheet_decides ∙ sym (k.0 (ap refusing e)).0 ∙ e)
 
     module _ (t : refusing a ≡ false) where
       pub alone_in : length words ≤ length grid'
@@ -146,13 +145,12 @@ module _ (pitch : ℕ) (words corners report : List ℕ) where
           record { pitch = pitch; words = words; checked = here; rings_long = omega arith; report_long = omega arith }
 
       pub alone_charted : {rings rings' report' : List ℕ} {r : Charted} {c : Columns} → ChartsLoops corners turns (take (length words) grid') rings report r rings' report' c
-          → alone r report' ≡ alone_of pitch words corners report
+          → alone (Ok r) report' ≡ alone_of pitch words corners report
       alone_charted h =
           let l = h pitch words here in
           let e : sheet_refusal pitch words corners ≡ Done = sym sheet_decides ∙ (k.1 t).none_refused in
-          rw e (λ i. record { answer = l.answered i; entries = l.entries_are i; report = l.report_is i })
+          rw e (λ i. record { answer = Done; entries = l.entries_are i; report = l.report_is i })
 
 -- the counts refuse
-pub alone_counts : (p : Pitch) (words corners report : List ℕ) {r : Charted} {a : Answer} → Refuses r a → refusing a ≡ true → a ≡ count_refusal (length words) (length corners)
-    → alone r report ≡ alone_of (pitch_of p) words corners report
-alone_counts p words corners report {r} {a} h t e = alone_refused (pitch_of p) words corners report h t (count_decides p words corners [] [] a e t)
+pub alone_counts : (p : Pitch) (words corners report : List ℕ) {r : Refusal} → Refused r ≡ count_refusal (length words) (length corners) → alone (Err r) report ≡ alone_of (pitch_of p) words corners report
+alone_counts p words corners report {r} e = alone_refused (pitch_of p) words corners report (count_decides p words corners [] [] (Refused r) e refl)

@@ -1,4 +1,5 @@
 -- From a surface that passed the checks, by its loops, their rims and the course, to what charting leaves.
+use Rattle.std.specs.Prelude.{Ok}
 use mathlib.Core.Path.{◌≡◌, ap, ◌∙◌, subst}
 use mathlib.Core.List.{List, []}
 use Prim.Native.Nat.{ℕ, ◌*◌, ◌/◌, ◌≤◌}
@@ -76,12 +77,11 @@ module _ {pitch : ℕ} {words corners turns : List ℕ} {grid : List ℤ} (c : C
         lay_room room = record { grid = grid; corners = corners; shores = shores; room = room }
 
         pub charted : {report report' : List ℕ} {entries : ℕ} → Lays (take at.vertices rings') (take at.loops lengths') states' pieces' report count entries report'
-            → LoopsCharted pitch words corners grid rings report (record { answer = Done; loops = at.loops; vertices = at.vertices; entries = entries }) rings' report'
+            → LoopsCharted pitch words corners grid rings report (record { loops = at.loops; vertices = at.vertices; entries = entries }) rings' report'
             (columns lengths' states' firsts' pieces' runs')
         charted {report} lays =
             let l = lays grid corners shores in
             record {
-              answered = λ i. Done;
               loops_are = ls.count;
               vertices_are = ls.vertices;
               entries_are = l.0 ∙ ap (λ (g : List ℤ). length (report_of g corners)) c.gridded;
@@ -121,12 +121,12 @@ edge_room more t p = let a = more.turns_twice in let b = more.path_twice in reco
 pub completes : {pitch : ℕ} {words corners turns : List ℕ} {grid : List ℤ} → Checked pitch words corners turns grid
     → {rings report rings' report' : List ℕ} {r : Charted} {cs : Columns} → LoopsCharted pitch words corners grid rings report r rings' report' cs
     → {records patches records' patches' : List ℕ} {laid : ℕ} → Fills grid corners records patches laid records' patches' → (before : List ℤ)
-    → Completes pitch words corners (buffers before rings records report) (outcome r (buffers (over (grid_of pitch words) before) rings' records' report'))
+    → Completes pitch words corners (buffers before rings records report) (outcome (Ok r) (buffers (over (grid_of pitch words) before) rings' records' report'))
 completes {pitch} {words} {corners} c l {records} f before = (
   f.fates,
   subst (λ (x : List ℤ). Course x corners [] (rim_list x corners) (ring_list corners) f.fates) c.gridded f.course,
   λ t. record {
-    answer = l.answered t;
+    answer = Done;
     loops = l.loops_are t;
     vertices = l.vertices_are t;
     entries = l.entries_are t;

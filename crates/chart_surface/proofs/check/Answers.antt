@@ -7,13 +7,13 @@ use Rattle.chart_surface.proofs.Laws.Checking.{grid_first, checks_of}
 use Rattle.chart_surface.proofs.check.Goals as goal
 
 pub overflow_mul-needs : goal.overflow_mul-needs
-overflow_mul-needs c = omega (arith, (counts_fit (length c.args.words.now) (length c.args.corners.now) c.requires.counts).few_corners)
+overflow_mul-needs c = omega (arith, (counts_fit (length c.args.sheet.words.now) (length c.args.sheet.corners.now) c.requires.counts).few_corners)
 
 pub overflow_mul-needs-3 : goal.overflow_mul-needs-3
-overflow_mul-needs-3 c = omega (arith, (counts_fit (length c.args.words.now) (length c.args.corners.now) c.requires.counts).few_corners)
+overflow_mul-needs-3 c = omega (arith, (counts_fit (length c.args.sheet.words.now) (length c.args.sheet.corners.now) c.requires.counts).few_corners)
 
 pub check_with-requires : goal.check_with-requires
-check_with-requires c = (c.requires, grid_first c.args.words.now c.args.corners.now (let it : Buffers = buffers c.args.grid.now c.args.rings.now c.args.records.now c.args.report.now in it))
+check_with-requires c = (c.requires, grid_first c.args.sheet.words.now c.args.sheet.corners.now (let it : Buffers = buffers c.args.grid.now c.args.rings.now c.args.records.now c.args.report.now in it))
 
 pub returns : goal.returns
-returns c = checks_of c.args.words.now c.args.corners.now (let it : Buffers = buffers c.args.grid.now c.args.rings.now c.args.records.now c.args.report.now in it) c.check_with.ensures
+returns c = checks_of c.args.sheet.words.now c.args.sheet.corners.now (let it : Buffers = buffers c.args.grid.now c.args.rings.now c.args.records.now c.args.report.now in it) c.check_with.ensures

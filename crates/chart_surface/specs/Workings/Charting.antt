@@ -1,7 +1,9 @@
 -- What lies between the checks and the charting of a surface that passed them, and the report alone.
-use Rattle.std.specs.Prelude.{◌≡◌, Bool, true, false, List, ℕ, ◌*◌, ◌/◌, ◌≤◌, ℤ, length, take}
+use Rattle.std.specs.Prelude.{◌≡◌, Bool, true, false, List, ℕ, ◌*◌, ◌/◌, ◌≤◌, ℤ, length, take, Result, Ok, Err}
 use Rattle.base_answers.specs.Numbers.{refusing}
+use Rattle.base_answers.specs.declared.Refusal.{Refusal}
 use Rattle.base_answers.specs.declared.Answer.{Answer}
+use Rattle.base_answers.specs.declared.Answer.TheVariants.{Refused}
 use Rattle.base_answers.specs.declared.Answer.TheVariants.{Done}
 use Rattle.base_limits.specs.Limits as limits
 use Rattle.surface_rules.specs.Buffers.{over}
@@ -63,7 +65,6 @@ pub record LoopRoom (corners turns : List ℕ) (grid : List ℤ) (rings report :
 
 -- Whichever they were, the loops were found, their rings and the report laid, and all counted.
 pub record LoopsCharted (pitch : ℕ) (words corners : List ℕ) (grid : List ℤ) (rings report : List ℕ) (r : Charted) (rings' report' : List ℕ) (c : Columns) : Type 0 where
-  pub answered : r.answer ≡ Done
   pub loops_are : r.loops ≡ length (loops corners)
   pub vertices_are : r.vertices ≡ length (rings_of corners (loops corners))
   pub entries_are : r.entries ≡ length (report_of (grid_of pitch words) corners)
@@ -81,7 +82,7 @@ abbrev pub Finishes : List ℕ → List ℕ → List ℤ → Buffers → Charted
 Finishes corners turns grid b r b' =
     (pitch : ℕ) (words : List ℕ) → Checked pitch words corners turns grid → (before : List ℤ)
     → Completes pitch words corners (buffers before b.rings b.records b.report)
-    (outcome r (buffers (over (grid_of pitch words) before) b'.rings b'.records b'.report))
+    (outcome (Ok r) (buffers (over (grid_of pitch words) before) b'.rings b'.records b'.report))
 
 -- ---- the report alone, where there is room for that of any surface
 
@@ -91,8 +92,9 @@ pub record Alone : Type 0 where
   pub entries : ℕ
   pub report : List ℕ
 
-abbrev pub alone : Charted → List ℕ → Alone
-alone r report = record { answer = r.answer; entries = r.entries; report = report }
+abbrev pub alone : Result Charted Refusal → List ℕ → Alone
+alone (Ok c) report = record { answer = Done; entries = c.entries; report = report }
+alone (Err r) report = record { answer = Refused r; entries = 0; report = report }
 
 abbrev pub alone_if : Bool → Answer → ℕ → List ℕ → List ℕ → List ℕ → Alone
 alone_if true a pitch words corners report = record { answer = a; entries = 0; report = report }

@@ -1,28 +1,28 @@
 -- Few corners are paired half-edge after half-edge, as far as no triangle names a point twice; the first that does stops the pairing if nothing did before.
+use Rattle.std.specs.Prelude.{Some, None}
 use mathlib.Core.Path.{◌≡◌, refl, sym, ap, ◌∙◌}
-use mathlib.Core.Bool.{Bool, true, false, not}
+use mathlib.Core.Bool.{Bool, true, false}
 use mathlib.Core.List.{List}
 use Prim.Native.Nat.{ℕ, ◌+◌, ◌*◌, ◌/◌, ◌%◌, ◌<◌, ◌≤◌}
 use native.Mathlib.Omega.{arith}
-use lib.ListN.{length, get_or, replicate}
-use borrow.Author.Tests.{not-true, not-false}
+use lib.ListN.{length, replicate}
+use borrow.Author.Tests.{not-false}
 use Rattle.base_limits.specs.Limits as limits
-use Rattle.surface_rules.specs.declared.Found.TheVariants.{At, Nothing}
 use Rattle.surface_rules.specs.Smallest.{least}
-use Rattle.surface_rules.specs.Edges.{following, start_of, twice}
+use Rattle.surface_rules.specs.Edges.{following, twice}
 use Rattle.surface_rules.proofs.Laws.Smallest.{at_not_nothing, least_at, least_never, least_sound, least_first}
 use Rattle.surface_rules.proofs.Laws.Edges.{following_below}
 use Rattle.surface_twins.specs.Workings.Turns.{stops, Room}
-use Rattle.surface_twins.specs.Workings.Chains.{Going, PairRoom, PairDone}
+use Rattle.surface_twins.specs.Workings.Chains.{Going, PairDone}
 use Rattle.check_pairs.specs.Workings.Outcome.{Paired}
 use Rattle.check_pairs.specs.Workings.Triangles.{few_corners, few_buckets, ProperTo, AfterRoom}
 use Rattle.check_pairs.proofs.Laws.Triangles.{repeats_stops, twice_stops}
-use Rattle.check_pairs.proofs.Laws.Rounds.{round_begins, all_paired}
+use Rattle.check_pairs.proofs.Laws.Rounds.{pairing_begins, all_paired}
 
 -- ---- as far as no triangle names a point twice
 
 module _ (corners : List ℕ) (triples : length corners % 3 ≡ 0) where
-  pub proper_all : least (twice corners) (length corners / 3) ≡ Nothing → ProperTo corners (length corners)
+  pub proper_all : least (twice corners) (length corners / 3) ≡ None → ProperTo corners (length corners)
   proper_all e =
       record {
         within = omega arith;
@@ -31,7 +31,7 @@ module _ (corners : List ℕ) (triples : length corners % 3 ≡ 0) where
         there = λ l. absurd (omega arith);
       }
 
-  pub proper_below : (t : ℕ) → least (twice corners) (length corners / 3) ≡ At t → ProperTo corners (3 * t)
+  pub proper_below : (t : ℕ) → least (twice corners) (length corners / 3) ≡ Some t → ProperTo corners (3 * t)
   proper_below t e =
       let s = least_sound (twice corners) (length corners / 3) t e in
       let b : t < length corners / 3 = s.0 in
@@ -43,7 +43,7 @@ module _ (corners : List ℕ) (triples : length corners % 3 ≡ 0) where
         there = λ l. ap (twice corners) q ∙ s.1;
       }
 
-  pub proper_fits : (t : ℕ) → least (twice corners) (length corners / 3) ≡ At t → 3 * t < length corners
+  pub proper_fits : (t : ℕ) → least (twice corners) (length corners / 3) ≡ Some t → 3 * t < length corners
   proper_fits t e = let b : t < length corners / 3 = (least_sound (twice corners) (length corners / 3) t e).0 in omega arith
 
 -- ---- the half-edge after h
@@ -79,7 +79,7 @@ pub side_begins : {corners table : List ℕ} {end : ℕ} → Room corners table 
     → Side corners end 0 0 (replicate few_buckets 0) (replicate few_corners 0) (replicate few_corners 0) table
 side_begins room proper =
     record {
-      going = (round_begins few_buckets few_corners (omega arith) room.1 room.0).going;
+      going = pairing_begins few_buckets few_corners (omega arith) room.1 room.0;
       proper = proper;
       first = refl;
       from = omega arith;
@@ -89,18 +89,18 @@ side_begins room proper =
 
 module _ {corners : List ℕ} {end i h : ℕ} {heads links ends table : List ℕ} (side : Side corners end i h heads links ends table) where
   -- the pairing stopped at k
-  stopped : {k : ℕ} {left : List ℕ} → least (stops corners) k ≡ Nothing → stops corners k ≡ true → k < length corners → Paired corners (At k) left
+  stopped : {k : ℕ} {left : List ℕ} → least (stops corners) k ≡ None → stops corners k ≡ true → k < length corners → Paired corners (Some k) left
   stopped {k} f s l = record { answer = sym (least_at (stops corners) k (length corners) f s l); turns = λ q. absurd (at_not_nothing q) }
 
   -- the pairing came to a triangle that names a point twice
-  pub side_twice : {left : List ℕ} → end ≤ h → end < length corners → Paired corners (At end) left
+  pub side_twice : {left : List ℕ} → end ≤ h → end < length corners → Paired corners (Some end) left
   side_twice l more =
       let w : h ≤ end = side.within in
       let e : h ≡ end = omega arith in
       stopped (ap (least (stops corners)) (sym e) ∙ side.going.fresh) (twice_stops corners end side.proper.first (side.proper.there more)) more
 
   -- or to the end
-  pub side_ends : end ≤ h → length corners ≤ end → Paired corners Nothing table
+  pub side_ends : end ≤ h → length corners ≤ end → Paired corners None table
   side_ends l all = all_paired (let w = side.within in let p = side.proper.within in omega arith) side.going
 
   module _ (more : h < end) where
@@ -110,30 +110,16 @@ module _ {corners : List ℕ} {end i h : ℕ} {heads links ends table : List ℕ
     pub side_fits : h < limits.corners
     side_fits = let f = side.going.room.few in let l = side_inside in omega arith
 
-    pub side_after : AfterRoom h i
-    side_after = record { first = side.first; from = side.from; to = side.to; small = side_fits }
-
     module _ {f : ℕ} (e : f ≡ following h) where
       pub side_there : f < length corners
       side_there = rw e (following_below (length corners) h side.going.room.triples side_inside)
 
-      pub side_room : PairRoom few_buckets corners h f (get_or corners h 0) (get_or corners f 0) heads links ends table
-      side_room =
-          record {
-            going = side.going;
-            edge = side_inside;
-            proper = side.proper.proper (h / 3) (omega arith);
-            follows = e;
-            start = refl;
-            end = ap (start_of corners) e;
-          }
-
       module _ {d : Bool} {heads' links' ends' table' : List ℕ} (p : PairDone few_buckets corners h d heads' links' ends' table') where
-        pub side_stops : {left : List ℕ} → not d ≡ true → Paired corners (At h) left
-        side_stops q = stopped side.going.fresh (repeats_stops corners h (not-false _ (sym p.answer ∙ not-true _ q))) side_inside
+        pub side_stops : {left : List ℕ} → d ≡ false → Paired corners (Some h) left
+        side_stops q = stopped side.going.fresh (repeats_stops corners h (not-false _ (sym p.answer ∙ q))) side_inside
 
         -- the next half-edge is of the next triangle
-        pub side_next : not d ≡ false → f ≡ i → Side corners end (i + 3) (h + 1) heads' links' ends' table'
+        pub side_next : d ≡ true → f ≡ i → Side corners end (i + 3) (h + 1) heads' links' ends' table'
         unfolding following
         side_next q r =
             let z : i % 3 ≡ 0 = side.first in
@@ -141,17 +127,17 @@ module _ {corners : List ℕ} {end i h : ℕ} {heads links ends table : List ℕ
             let b : h < i + 3 = side.to in
             let c : i ≡ following h = sym r ∙ e in
             let g : h + 1 ≡ i + 3 = omega arith in
-            record { going = p.going (not-false _ q); proper = side.proper; first = omega arith; from = omega arith; to = omega arith; within = omega arith }
+            record { going = p.going q; proper = side.proper; first = omega arith; from = omega arith; to = omega arith; within = omega arith }
 
         -- or of the same
-        pub side_same : not d ≡ false → (f ≡ i → ⊥) → Side corners end i (h + 1) heads' links' ends' table'
+        pub side_same : d ≡ true → (f ≡ i → ⊥) → Side corners end i (h + 1) heads' links' ends' table'
         unfolding following
         side_same q n =
             let z : i % 3 ≡ 0 = side.first in
             let a : i ≤ h = side.from in
             let b : h < i + 3 = side.to in
             let g : h + 1 < i + 3 = below a b z in
-            record { going = p.going (not-false _ q); proper = side.proper; first = z; from = omega arith; to = g; within = omega arith }
+            record { going = p.going q; proper = side.proper; first = z; from = omega arith; to = g; within = omega arith }
           where
             below : i ≤ h → h < i + 3 → i % 3 ≡ 0 → h + 1 < i + 3
             below a b z = omega (arith, n, e)

@@ -1,8 +1,6 @@
 -- What pairing triangle by triangle takes and leaves; Outcome.antt has what pairing all answers.
-use Rattle.std.specs.Prelude.{◌≡◌, Bool, true, false, ◌||◌, List, ℕ, ◌+◌, ◌*◌, ◌/◌, ◌%◌, ◌≤◌, ◌<◌, eqb, length}
+use Rattle.std.specs.Prelude.{◌≡◌, Bool, true, false, ◌||◌, List, ℕ, ◌+◌, ◌*◌, ◌/◌, ◌%◌, ◌≤◌, ◌<◌, eqb, length, Option, None}
 use Rattle.base_limits.specs.Limits as limits
-use Rattle.surface_rules.specs.declared.Found.{Found}
-use Rattle.surface_rules.specs.declared.Found.TheVariants.{Nothing}
 use Rattle.surface_rules.specs.Smallest.{least}
 use Rattle.surface_rules.specs.Edges.{twice}
 use Rattle.surface_twins.specs.Workings.Turns.{stops}
@@ -48,6 +46,6 @@ pub record TriangleRoom (size : ℕ) (corners : List ℕ) (i : ℕ) (heads links
   pub edge : i < length corners
   pub first : i % 3 ≡ 0
 
-pub record TriangleDone (size : ℕ) (corners : List ℕ) (i : ℕ) (stop : Found) (heads links ends table : List ℕ) : Type 0 where
+pub record TriangleDone (size : ℕ) (corners : List ℕ) (i : ℕ) (stop : Option ℕ) (heads links ends table : List ℕ) : Type 0 where
   pub answer : stop ≡ least (stops corners) (i + 3)
-  pub going : stop ≡ Nothing → Going size corners (i + 3) heads links ends table
+  pub going : stop ≡ None → Going size corners (i + 3) heads links ends table

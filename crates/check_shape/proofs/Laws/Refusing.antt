@@ -1,15 +1,15 @@
 -- From the counts, and from the first buffer that is too short, to what the table of refusals says.
+use Rattle.std.specs.Prelude.{Option, Some, None}
 use mathlib.Core.Path.{◌≡◌, sym, ◌∙◌}
 use mathlib.Core.Bool.{Bool, true, false, not}
 use mathlib.Core.List.{List}
 use Prim.Native.Nat.{ℕ, ◌+◌}
 use lib.ListN.{length}
 use borrow.Author.Tests.{not-true, not-false}
-use Rattle.base_answers.specs.declared.Answer.TheVariants.{Done, Words, Corners, Buffer}
+use Rattle.base_answers.specs.Answers.{Words, Corners, Buffer}
+use Rattle.base_answers.specs.declared.Answer.TheVariants.{Done}
 use Rattle.base_types.specs.Counts.{threes}
 use Rattle.base_limits.specs.Limits as limits
-use Rattle.surface_rules.specs.declared.Found.{Found}
-use Rattle.surface_rules.specs.declared.Found.TheVariants.{At, Nothing}
 use Rattle.surface_rules.specs.Smallest.{least}
 use Rattle.surface_rules.specs.Refusals.{short, count_refusal, buffer_refusal}
 
@@ -31,11 +31,11 @@ module _ (words corners : ℕ) {w : Bool} (told : w ≡ threes limits.words word
 
 -- ---- 3
 
-module _ (lent needs : List ℕ) {f : Found} (told : f ≡ least (short lent needs) (length needs)) where
-  pub buffer_refused : {i : ℕ} → f ≡ At i → Buffer (i + 1) ≡ buffer_refusal lent needs
+module _ (lent needs : List ℕ) {f : Option ℕ} (told : f ≡ least (short lent needs) (length needs)) where
+  pub buffer_refused : {i : ℕ} → f ≡ Some i → Buffer (i + 1) ≡ buffer_refusal lent needs
   unfolding buffer_refusal
   buffer_refused e = rw (sym told ∙ e)
 
-  pub buffers_done : f ≡ Nothing → Done ≡ buffer_refusal lent needs
+  pub buffers_done : f ≡ None → Done ≡ buffer_refusal lent needs
   unfolding buffer_refusal
   buffers_done e = rw (sym told ∙ e)

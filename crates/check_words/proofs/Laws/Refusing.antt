@@ -1,27 +1,40 @@
 -- From the first word that is no number, and the first that is too far, to what the table of refusals says.
+use Rattle.std.specs.Prelude.{Some, None}
+use Rattle.std.specs.List.{position}
 use mathlib.Core.Path.{◌≡◌}
 use mathlib.Core.Bool.{true, false, not}
 use mathlib.Core.List.{List}
 use Prim.Native.Nat.{ℕ}
 use lib.ListN.{length}
 use borrow.Author.Tests.{not-true}
-use Rattle.base_answers.specs.declared.Answer.TheVariants.{Done, NotFinite, TooFar}
-use Rattle.surface_rules.specs.declared.Found.TheVariants.{At, Nothing}
+use Rattle.base_answers.specs.Answers.{NotFinite, TooFar}
+use Rattle.base_answers.specs.declared.Answer.TheVariants.{Done}
 use Rattle.surface_rules.specs.Smallest.{least, any}
 use Rattle.surface_rules.specs.Refusals.{not_finite, too_far, off_grid, word_refusal}
 use Rattle.surface_rules.proofs.Laws.Tests.{either_false}
 use Rattle.surface_rules.proofs.Laws.Smallest.{any_never, never_least}
+use Rattle.surface_rules.proofs.Laws.Positions.{position_least}
+use Rattle.check_words.specs.Workings.Single.{no_number, beyond}
+
+-- the library's searches by the tests of `Refusals`
+pub first_missing : (words : List ℕ) → position no_number words ≡ least (not_finite words) (length words)
+unfolding not_finite
+first_missing words = position_least no_number words
+
+pub first_beyond : (pitch : ℕ) (words : List ℕ) → position (beyond pitch) words ≡ least (too_far pitch words) (length words)
+unfolding too_far
+first_beyond pitch words = position_least (beyond pitch) words
 
 module _ (pitch : ℕ) (words : List ℕ) where
-  pub number_refused : (i : ℕ) → least (not_finite words) (length words) ≡ At i → NotFinite i ≡ word_refusal pitch words
+  pub number_refused : (i : ℕ) → least (not_finite words) (length words) ≡ Some i → NotFinite i ≡ word_refusal pitch words
   unfolding word_refusal
   number_refused i e = rw e
 
-  pub far_refused : (i : ℕ) → least (not_finite words) (length words) ≡ Nothing → least (too_far pitch words) (length words) ≡ At i → TooFar i ≡ word_refusal pitch words
+  pub far_refused : (i : ℕ) → least (not_finite words) (length words) ≡ None → least (too_far pitch words) (length words) ≡ Some i → TooFar i ≡ word_refusal pitch words
   unfolding word_refusal
   far_refused i e f = rw (e, f)
 
-  pub words_done : least (not_finite words) (length words) ≡ Nothing → least (too_far pitch words) (length words) ≡ Nothing → Done ≡ word_refusal pitch words
+  pub words_done : least (not_finite words) (length words) ≡ None → least (too_far pitch words) (length words) ≡ None → Done ≡ word_refusal pitch words
   unfolding word_refusal
   words_done e f = rw (e, f)
 

@@ -1,14 +1,14 @@
 -- `all_on_grid` keeps in `all` whether nothing was met so far.
-use Prim.Native.Nat.{◌-◌}
+use Rattle.std.proofs.Common.{sym, ◌∙◌, rules}
 use Rattle.surface_rules.proofs.Laws.Passes.{all_none, all_more, all_end}
-use borrow.Author.Rules.{rules}
+use Rattle.check_words.proofs.Laws.Words.{off_grid_is}
 use Rattle.check_words.proofs.all_on_grid.Goals as goal
 
-pub loop-i-init : goal.loop-i-init
-loop-i-init c = (search rules, λ p e. all_none _)
+pub loop-word-init : goal.loop-word-init
+loop-word-init c = λ p e. all_none _
 
-pub loop-i-preserved : goal.loop-i-preserved
-loop-i-preserved c = (search rules, λ p e. all_more _ _ _ _ (c.loop-i.invariant.1 p e) (c.is_off_grid.ensures p e))
+pub loop-word-preserved : goal.loop-word-preserved
+loop-word-preserved c = λ p e. all_more _ _ _ _ (c.loop-word.invariant p e) (c.is_off.ensures p e ∙ sym (off_grid_is _ _ _))
 
 pub returns : goal.returns
-returns c = all_end _ _ _ _ (c.loop-i.invariant.1 _ c.end_of-end.ensures) (search rules)
+returns c = all_end _ _ _ _ (c.loop-word.invariant _ c.end_of-end.ensures) (search rules)

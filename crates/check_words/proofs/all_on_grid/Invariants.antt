@@ -1,8 +1,6 @@
 -- `all_on_grid` keeps in `all` whether nothing was met so far.
-use Prim.Native.Nat.{◌≤◌, ◌-◌}
 use mathlib.Core.Path.{◌≡◌}
 use mathlib.Core.Bool.{not}
-use lib.ListN.{length}
 use Rattle.base_types.specs.Pitches.{pitch_of}
 use Rattle.base_types.specs.declared.Pitch.{Pitch}
 use Rattle.grid_place.specs.Workings.Ends.{end_of}
@@ -10,8 +8,5 @@ use Rattle.surface_rules.specs.Smallest.{least, any}
 use Rattle.surface_rules.specs.Refusals.{off_grid}
 use Rattle.check_words.proofs.all_on_grid.Given as goal
 
-abbrev pub invariant-loop-i : goal.invariant-loop-i
-invariant-loop-i l = (l.i ≤ length l.words) × ((p : Pitch) → l.end ≡ end_of p → l.all ≡ not (any (least (off_grid (pitch_of p) l.words) l.i)))
-
-abbrev pub decreases-loop-i : goal.decreases-loop-i
-decreases-loop-i l = length l.words - l.i
+abbrev pub invariant-loop-word : goal.invariant-loop-word
+invariant-loop-word l = (p : Pitch) → l.end ≡ end_of p → l.all ≡ not (any (least (off_grid (pitch_of p) l.words) l.word-index))

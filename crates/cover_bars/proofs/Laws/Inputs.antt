@@ -2,14 +2,13 @@
 use mathlib.Core.Path.{◌≡◌, refl, sym, ap, ◌∙◌, subst}
 use mathlib.Core.Bool.{Bool, ◌||◌, or-false}
 use mathlib.Core.List.{List, [], ◌∷◌, ◌++◌}
-use Prim.Native.Nat.{ℕ, ◌+◌, ◌*◌, ◌/◌, ◌%◌, ◌^◌, ◌<◌, ◌≤◌}
+use Prim.Native.Nat.{ℕ, ◌+◌, ◌*◌, ◌/◌, ◌%◌, ◌<◌, ◌≤◌}
 use native.Mathlib.Omega.{arith}
 use lib.ListN.{length, get_or}
-use Rattle.base_limits.specs.Limits as limits
 use Rattle.surface_rules.specs.Edges.{following}
 use Rattle.surface_rules.proofs.Laws.Edges.{following_first, following_second, following_third}
 use Rattle.cover_bars.specs.Bars.{between}
-use Rattle.cover_bars.specs.Workings.Chains.{edge_of, Chained, ChainRoom, ChainDone, InputRoom, Tells}
+use Rattle.cover_bars.specs.Workings.Chains.{edge_of, Chained, ChainDone, InputRoom, Tells}
 use Rattle.cover_bars.proofs.Laws.Joins.{sides, sides_none, sides_more, sides_length, sides_between, between_none}
 use Rattle.cover_bars.proofs.Laws.Chaining.{chained_none}
 
@@ -52,27 +51,6 @@ module _ {corners heads₀ links₀ ends₀ : List ℕ} {h : ℕ} {heads links e
         let b : length corners % 3 ≡ 0 = going.room.triples in
         omega arith
 
-    -- there is room for each of the triangle's half-edges, wherever the chains' lengths are as they were
-    room_for : {e : ℕ} (k m : ℕ) {hs ls ns : List ℕ} → length hs ≡ limits.points → length ls ≡ length links₀ → length ns ≡ length ends₀
-        → e < h + 3 → k < h + 3 → m < h + 3 → ChainRoom e (get_or corners k 0) (get_or corners m 0) hs ls ns
-    room_for k m p q r l i j =
-        let x = input_inside in
-        let a = going.room in
-        let b : length corners ≤ length links₀ = a.links_room in
-        let c : length corners ≤ length ends₀ = a.ends_room in
-        let d : length corners < 2 ^ 16 = a.few in
-        record {
-          heads_long = p;
-          links_room = omega arith;
-          ends_room = omega arith;
-          leaves_inside = a.inside k (omega arith);
-          ends_inside = a.inside m (omega arith);
-          few = omega arith;
-        }
-
-    pub first_room : ChainRoom h (get_or corners h 0) (get_or corners (h + 1) 0) heads links ends
-    first_room = room_for h (h + 1) going.chained.heads_long going.links_kept going.ends_kept (omega arith) (omega arith) (omega arith)
-
     module _ {heads₁ links₁ ends₁ : List ℕ} (d₁ : ChainDone h (get_or corners h 0) (get_or corners (h + 1) 0) heads links ends heads₁ links₁ ends₁) where
       links₁_kept : length links₁ ≡ length links₀
       links₁_kept = d₁.links_kept ∙ going.links_kept
@@ -80,18 +58,12 @@ module _ {corners heads₀ links₀ ends₀ : List ℕ} {h : ℕ} {heads links e
       ends₁_kept : length ends₁ ≡ length ends₀
       ends₁_kept = d₁.ends_kept ∙ going.ends_kept
 
-      pub second_room : ChainRoom (h + 1) (get_or corners (h + 1) 0) (get_or corners (h + 2) 0) heads₁ links₁ ends₁
-      second_room = room_for (h + 1) (h + 2) d₁.heads_long links₁_kept ends₁_kept (omega arith) (omega arith) (omega arith)
-
       module _ {heads₂ links₂ ends₂ : List ℕ} (d₂ : ChainDone (h + 1) (get_or corners (h + 1) 0) (get_or corners (h + 2) 0) heads₁ links₁ ends₁ heads₂ links₂ ends₂) where
         links₂_kept : length links₂ ≡ length links₀
         links₂_kept = d₂.links_kept ∙ links₁_kept
 
         ends₂_kept : length ends₂ ≡ length ends₀
         ends₂_kept = d₂.ends_kept ∙ ends₁_kept
-
-        pub third_room : ChainRoom (h + 2) (get_or corners (h + 2) 0) (get_or corners h 0) heads₂ links₂ ends₂
-        third_room = room_for (h + 2) h d₂.heads_long links₂_kept ends₂_kept (omega arith) (omega arith) (omega arith)
 
         module _ {heads₃ links₃ ends₃ : List ℕ} (d₃ : ChainDone (h + 2) (get_or corners (h + 2) 0) (get_or corners h 0) heads₂ links₂ ends₂ heads₃ links₃ ends₃) where
           first_end : following h ≡ h + 1
@@ -111,14 +83,14 @@ module _ {corners heads₀ links₀ ends₀ : List ℕ} {h : ℕ} {heads links e
               (rw (sides_more corners k)
               (subst (λ (z : ℕ). Chained (sides corners k ++ (edge_of (get_or corners k 0) (get_or corners z 0) ∷ [])) hs' ls' ns') (sym e) (d.more (sides corners k) (sides_length corners k) c)))
 
-          pub input_more : Inputting corners heads₀ links₀ ends₀ (h + 3) heads₃ links₃ ends₃
-          input_more =
+          pub input_more : {o : ℕ} → h + 3 ≡ o → Inputting corners heads₀ links₀ ends₀ o heads₃ links₃ ends₃
+          input_more at =
               let a : h % 3 ≡ 0 = going.first in
               record {
                 room = going.room;
-                within = input_inside;
+                within = omega (arith, input_inside);
                 first = omega arith;
                 links_kept = d₃.links_kept ∙ links₂_kept;
                 ends_kept = d₃.ends_kept ∙ ends₂_kept;
-                chained = next third_end (omega arith) d₃ (next second_end (omega arith) d₂ (next first_end (omega arith) d₁ going.chained));
+                chained = next third_end (omega (arith, at)) d₃ (next second_end (omega arith) d₂ (next first_end (omega arith) d₁ going.chained));
               }

@@ -1,4 +1,5 @@
 -- What a list of edges joins, and that the half-edges of triangles as such a list join what the triangles do.
+use Rattle.std.specs.Prelude.{Option, Some, None}
 use mathlib.Core.Path.{◌≡◌, refl, sym, ap, ap₂, ◌∙◌}
 use mathlib.Core.Bool.{Bool, true, false, ◌&&◌, ◌||◌, or_assoc, or-false, cond}
 use mathlib.Core.List.{List, [], ◌∷◌, ◌++◌}
@@ -7,8 +8,6 @@ use native.Mathlib.Numerals.{add-one}
 use lib.Dec.{eqb}
 use lib.ListN.{length, length-append}
 use native.Mathlib.Omega.{arith}
-use Rattle.surface_rules.specs.declared.Found.{Found}
-use Rattle.surface_rules.specs.declared.Found.TheVariants.{At, Nothing}
 use Rattle.surface_rules.specs.Smallest.{least, any, or_else}
 use Rattle.surface_rules.specs.Edges.{start_of, end_of, goes}
 use Rattle.cover_bars.specs.Bars.{edge, between}
@@ -26,10 +25,10 @@ joins_append (e ∷ es) fs u v =
 
 -- ---- searches
 
-any_or : (f : Found) (t : Bool) (n : ℕ) → any (or_else f (cond t (At n) Nothing)) ≡ (any f || t)
-any_or (At i) t n = refl
-any_or Nothing true n = refl
-any_or Nothing false n = refl
+any_or : (f : Option ℕ) (t : Bool) (n : ℕ) → any (or_else f (cond t (Some n) None)) ≡ (any f || t)
+any_or (Some i) t n = refl
+any_or None true n = refl
+any_or None false n = refl
 
 pub any_more : (p : ℕ → Bool) (n : ℕ) → any (least p (n + 1)) ≡ (any (least p n) || p n)
 unfolding least

@@ -120,10 +120,6 @@ module _ {ring heads links ends stamps : List ℕ} {base j : ℕ} {rows₀ : Lis
   head_most : (es : List Edge) → Chained es heads links ends → head ≤ length es
   head_most es c = omega (arith, head_is es c, top_le (leaves es (get_or ring j 0)) (length es))
 
-  -- the chain's head is the number of an edge
-  pub head_within : get_or heads (get_or ring j 0) 0 ≤ length links
-  head_within = let w = room.walkable in omega (arith, head_most w.edges w.chained, w.chained.links_room)
-
   -- nothing is led to from the head of the chain on
   nothing : (es : List Edge) → Chained es heads links ends → (b : ℕ) → leads (drop head es) ring j b ≡ false
   unfolding leads

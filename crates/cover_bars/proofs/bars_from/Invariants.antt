@@ -1,5 +1,4 @@
 -- `bars_from` walks the chain of the position's vertex from its head. The measure is the place itself, since a chain only goes back.
-use Prim.Native.Nat.{◌-◌}
 use Rattle.cover_bars.proofs.Laws.Walks.{Walking}
 use Rattle.cover_bars.proofs.bars_from.Given as goal
 

@@ -1,5 +1,4 @@
 -- `clear_sides` takes row after row's position and neighbours out, the two ends apart.
-use Prim.Native.Nat.{◌-◌}
 use Rattle.cover_bars.proofs.Laws.Sides.{sides_begin, sides_more, sides_end}
 use Rattle.cover_bars.proofs.clear_sides.Goals as goal
 

@@ -1,10 +1,6 @@
 -- `clear_sides` takes row after row's position and neighbours out, the two ends apart.
-use Prim.Native.Nat.{◌-◌}
 use Rattle.cover_bars.proofs.Laws.Sides.{Clearing}
 use Rattle.cover_bars.proofs.clear_sides.Given as goal
 
 abbrev pub invariant-loop-j : goal.invariant-loop-j
 invariant-loop-j l = Clearing l.n l.initial.rows l.rows l.j
-
-abbrev pub decreases-loop-j : goal.decreases-loop-j
-decreases-loop-j l = l.n - l.j

@@ -1,12 +1,6 @@
 -- `stamp_ring` stamps vertex after vertex, and clears their rows.
-use Prim.Native.Nat.{◌-◌}
-use mathlib.Core.Path.{◌≡◌}
-use lib.ListN.{length}
 use Rattle.cover_bars.proofs.Laws.Stamps.{Stamping}
 use Rattle.cover_bars.proofs.stamp_ring.Given as goal
 
 abbrev pub invariant-loop-j : goal.invariant-loop-j
-invariant-loop-j l = Stamping l.ring l.initial.stamps l.base l.initial.rows l.j l.stamps l.rows × (l.n ≡ length l.ring)
-
-abbrev pub decreases-loop-j : goal.decreases-loop-j
-decreases-loop-j l = length l.ring - l.j
+invariant-loop-j l = Stamping l.ring l.initial.stamps l.base l.initial.rows l.j l.stamps l.rows

@@ -10,7 +10,7 @@ use lib.Seq.{get_or-set_same, get_or-set_other}
 use borrow.Author.Count.{below_more}
 use lib.Ieee.{Float, nan, binary64, add, lt}
 use Rattle.grid_floats.specs.Workings.Whole.{size_of}
-use Rattle.cover_column.specs.Workings.Columns.{cell, lesser_of, Reaches, far_float, nought_float, product_of, ProductsRoom, Multiplied, gap_of, by_way, WayRoom, RelaxRoom, Relaxed}
+use Rattle.cover_column.specs.Workings.Columns.{cell, lesser_of, Reaches, far_float, nought_float, product_of, ProductsRoom, Multiplied, gap_of, by_way, RelaxRoom, Relaxed}
 
 pub lesser_first : (a b : Float) → lt a b ≡ true → a ≡ lesser_of a b
 unfolding lesser_of
@@ -94,25 +94,6 @@ module _ {k : ℕ} {px py pz xs ys zs column : List Float} where
         side = get_or-set_same column (k - 1) nought_float nan (omega arith);
       }
 
--- the strips are as long as they were
-pub record Kept (xs₀ ys₀ zs₀ column₀ xs ys zs column : List Float) : Type 0 where
-  pub x : length xs ≡ length xs₀
-  pub y : length ys ≡ length ys₀
-  pub z : length zs ≡ length zs₀
-  pub weights : length column ≡ length column₀
-
-pub kept_begins : (xs ys zs column : List Float) → Kept xs ys zs column xs ys zs column
-kept_begins xs ys zs column = record { x = refl; y = refl; z = refl; weights = refl }
-
-pub kept_more : {xs₀ ys₀ zs₀ column₀ xs ys zs column : List Float} (i : ℕ) (u v w f : Float) → Kept xs₀ ys₀ zs₀ column₀ xs ys zs column
-    → Kept xs₀ ys₀ zs₀ column₀ (set xs i u) (set ys i v) (set zs i w) (set column i f)
-kept_more {xs = xs} {ys} {zs} {column} i u v w f p = record {
-  x = length-set xs i u ∙ p.x;
-  y = length-set ys i v ∙ p.y;
-  z = length-set zs i w ∙ p.z;
-  weights = length-set column i f ∙ p.weights;
-}
-
 -- ---- the steps of a column
 
 module _ (quarter : ℕ) (table : List Float) (at m : ℕ) (v : Float) (xs ys zs : List Float) (i : ℕ) where
@@ -127,22 +108,6 @@ pub record Relaxing (quarter : ℕ) (table : List Float) (at m : ℕ) (v : Float
   pub most : i ≤ 2 * ((m + 1) / 2)
   pub ahead : (j : ℕ) → i ≤ j → cell column j ≡ cell column₀ j
   pub kept : length column ≡ length column₀
-
--- the end is even: of the places below it only the last can be m
-pub way_room : {quarter : ℕ} {table : List Float} {at m : ℕ} {xs ys zs column : List Float} → RelaxRoom quarter table at m xs ys zs column
-    → {i : ℕ} → i < 2 * ((m + 1) / 2) → WayRoom quarter table at m xs ys zs i
-way_room {quarter} {at = at} {m = m} r {i} h =
-    let l : i ≤ m = omega arith in
-    let a : at + m < quarter = r.inside in
-    record {
-      inside = omega arith;
-      low = l;
-      four = r.four;
-      xs_long = r.xs_long;
-      ys_long = r.ys_long;
-      zs_long = r.zs_long;
-      sizable = r.sizable i l;
-    }
 
 module _ {quarter : ℕ} {table : List Float} {at m : ℕ} {v : Float} {xs ys zs column₀ : List Float} (r : RelaxRoom quarter table at m xs ys zs column₀) where
   pub relaxing_begins : Relaxing quarter table at m v xs ys zs column₀ 0 column₀

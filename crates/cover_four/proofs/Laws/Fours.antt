@@ -6,9 +6,8 @@ use mathlib.Core.List.{List, [], ◌∷◌}
 use Prim.Native.Nat.{ℕ, zero, suc, ◌+◌, ◌^◌, ◌<◌, ◌≤◌}
 use native.Mathlib.Nat.{lt_of_le_of_lt}
 use native.Mathlib.Omega.{arith}
-use lib.Dec.{lit<, ltb}
+use lib.Dec.{lit<}
 use lib.Ieee.{Float}
-use borrow.Author.Tests.{ltb-true, ltb-false}
 use lib.IntN.{ℤ}
 use lib.ListN.{length, get_or}
 use Rattle.surface_rules.specs.Buffers.{laid}
@@ -23,11 +22,10 @@ use Rattle.cover_weight.proofs.Laws.Naturals.{naturals_lawful}
 use Rattle.cover_weight.proofs.Laws.Named.{named_on_grid}
 use Rattle.cover_weight.proofs.Laws.Bounds.{weight_most}
 use Rattle.cover_bits.specs.Workings.Masks.{bit}
-use Rattle.cover_table.specs.declared.Least.TheVariants.{Weight, Nothing}
-use Rattle.cover_table.specs.declared.Least.{Least}
+use Rattle.std.proofs.Common.{Some, None}
 use Rattle.cover_table.specs.Workings.Loops.{Barring, LoopRoom}
 use Rattle.cover_trace.specs.Workings.Patches.{LaysPatch, FindsLeast}
-use Rattle.cover_four.specs.Workings.Fours.{one_way, two_way, FourOn, FourRoom, by_one, by_two, GoesByTwo}
+use Rattle.cover_four.specs.Workings.Fours.{one_way, two_way, FourOn, FourRoom, by_one, by_two, Taken, Takes}
 
 -- ---- there are no others
 
@@ -137,66 +135,60 @@ module _ {grid : List ℤ} {ring bars : List ℕ} (r : FourOn grid ring bars) wh
   patch_weighs : {barred : ℕ → ℕ → Bool} {c : Cover} → Patch naturals at barred 0 3 c → {w : ℕ} → w ≡ weight naturals at 0 3 c → covers.Least naturals at barred 0 3 w
   patch_weighs {barred} {c} p e = subst (covers.Least naturals at barred 0 3) (sym e) (patch_least naturals naturals_lawful at barred 0 3 c p)
 
-  -- b tells whether the last side is barred
-  module _ {b : Bool} (e : b ≡ bit (get_or bars 0 0) 3) where
-    pub least_closed : b ≡ true → FindsLeast grid ring bars Nothing
-    least_closed t barred k = rw r.four (none_closed barred (sym (told k 0 3 (lit< tt) (lit< tt)) ∙ sym e ∙ t))
+  pub least_none : Takes grid ring bars None → FindsLeast grid ring bars None
+  least_none h barred k =
+      rw r.four
+      (⊎_elim
+      (λ (t : bit (get_or bars 0 0) 3 ≡ true). none_closed barred (sym (told k 0 3 (lit< tt) (lit< tt)) ∙ t))
+      (λ (t : (bit (get_or bars 1 0) 3 ≡ true) × (bit (get_or bars 0 0) 2 ≡ true)).
+      none_across barred (sym (told k 1 3 (lit< tt) (lit< tt)) ∙ t.0) (sym (told k 0 2 (lit< tt) (lit< tt)) ∙ t.1))
+      h)
 
-    -- s tells whether the cover by the apex 2 is taken, if either is
-    module _ (f : b ≡ false) {s : Bool} (g : GoesByTwo grid ring bars s) where
-      free : {barred : ℕ → ℕ → Bool} → Barring barred ring bars → barred 0 3 ≡ false
-      free k = sym (told k 0 3 (lit< tt) (lit< tt)) ∙ sym e ∙ f
+  -- s tells which of the two is taken
+  module _ {s : Bool} (t : Taken grid ring bars s) where
+    free : {barred : ℕ → ℕ → Bool} → Barring barred ring bars → barred 0 3 ≡ false
+    free k = sym (told k 0 3 (lit< tt) (lit< tt)) ∙ t.open_side
 
-      pub patch_two : s ≡ true → {barred : ℕ → ℕ → Bool} → Barring barred ring bars → Patch naturals at barred 0 3 two_way
-      patch_two y {barred} k =
-          two_best barred at (free k) (sym (told k 0 2 (lit< tt) (lit< tt)) ∙ g.free y)
-          (λ h. let m : by_two grid ring < by_one grid ring = g.lighter y (told k 1 3 (lit< tt) (lit< tt) ∙ h) in omega arith)
+    pub patch_two : s ≡ true → {barred : ℕ → ℕ → Bool} → Barring barred ring bars → Patch naturals at barred 0 3 two_way
+    patch_two y {barred} k =
+        two_best barred at (free k) (sym (told k 0 2 (lit< tt) (lit< tt)) ∙ t.goes.free y)
+        (λ h. let m : by_two grid ring < by_one grid ring = t.goes.lighter y (told k 1 3 (lit< tt) (lit< tt) ∙ h) in omega arith)
 
-      pub least_two : s ≡ true → {w : ℕ} → w ≡ by_two grid ring → FindsLeast grid ring bars (Weight w)
-      least_two y x barred k = rw r.four (patch_weighs (patch_two y k) (x ∙ omega arith))
+    pub patch_one : s ≡ false → {barred : ℕ → ℕ → Bool} → Barring barred ring bars → Patch naturals at barred 0 3 one_way
+    patch_one n {barred} k =
+        one_best barred at (free k) (sym (told k 1 3 (lit< tt) (lit< tt)) ∙ t.one_free n)
+        (λ h. let m : by_one grid ring ≤ by_two grid ring = t.goes.heavier n (t.one_free n) (told k 0 2 (lit< tt) (lit< tt) ∙ h) in omega arith)
 
-      -- d tells whether the other diagonal is barred
-      module _ (n : s ≡ false) {d : Bool} (o : d ≡ bit (get_or bars 1 0) 3) where
-        pub least_across : d ≡ true → FindsLeast grid ring bars Nothing
-        least_across y barred k =
-            rw r.four (none_across barred (sym (told k 1 3 (lit< tt) (lit< tt)) ∙ sym o ∙ y) (sym (told k 0 2 (lit< tt) (lit< tt)) ∙ g.barred n (sym o ∙ y)))
+    pub least_two : s ≡ true → {w : ℕ} → w ≡ by_two grid ring → FindsLeast grid ring bars (Some w)
+    least_two y x barred k = rw r.four (patch_weighs (patch_two y k) (x ∙ omega arith))
 
-        pub patch_one : d ≡ false → {barred : ℕ → ℕ → Bool} → Barring barred ring bars → Patch naturals at barred 0 3 one_way
-        patch_one y {barred} k =
-            one_best barred at (free k) (sym (told k 1 3 (lit< tt) (lit< tt)) ∙ sym o ∙ y)
-            (λ h. let m : by_one grid ring ≤ by_two grid ring = g.heavier n (sym o ∙ y) (told k 0 2 (lit< tt) (lit< tt) ∙ h) in omega arith)
-
-        pub least_one : d ≡ false → {w : ℕ} → w ≡ by_one grid ring → FindsLeast grid ring bars (Weight w)
-        least_one y x barred k = rw r.four (patch_weighs (patch_one y k) (x ∙ omega arith))
+    pub least_one : s ≡ false → {w : ℕ} → w ≡ by_one grid ring → FindsLeast grid ring bars (Some w)
+    least_one n x barred k = rw r.four (patch_weighs (patch_one n k) (x ∙ omega arith))
 
 pub four_there : {grid : List ℤ} {ring bars : List ℕ} {table : List Float} → LoopRoom grid ring bars table → length ring ≡ 4 → FourOn grid ring bars
 four_there r e = record { on = r.on; four = e; rows = r.barring.rows.long }
 
 -- ---- what is laid
 
-module _ {grid : List ℤ} {ring bars buffer : List ℕ} {p : ℕ} (r : FourRoom grid ring bars buffer p) {b : Bool} (e : b ≡ bit (get_or bars 0 0) 3) where
+module _ {grid : List ℤ} {ring bars buffer : List ℕ} {p : ℕ} (r : FourRoom grid ring bars buffer p) where
   six : (a b c d e f : ℕ) {buffer' buffer'' : List ℕ} → buffer' ≡ laid p (a ∷ b ∷ c ∷ []) buffer → buffer'' ≡ laid (p + 3) (d ∷ e ∷ f ∷ []) buffer'
       → buffer'' ≡ laid p (a ∷ b ∷ c ∷ d ∷ e ∷ f ∷ []) buffer
   six a b c d e f x y =
       y ∙ ap (laid (p + 3) (d ∷ e ∷ f ∷ [])) x ∙ laid_then p (p + 3) (a ∷ b ∷ c ∷ []) (d ∷ e ∷ f ∷ []) buffer refl (omega (arith, r.room))
 
-  pub four_closed : b ≡ true → LaysPatch grid ring bars buffer p Nothing buffer
-  four_closed t barred k = (least_closed r.there e t barred k, refl)
+  pub four_none : Takes grid ring bars None → LaysPatch grid ring bars buffer p None buffer
+  four_none h barred k = (least_none r.there h barred k, refl)
 
-  module _ (f : b ≡ false) {s : Bool} (g : GoesByTwo grid ring bars s) where
+  module _ {s : Bool} (t : Taken grid ring bars s) where
     pub four_two : s ≡ true → {buffer' buffer'' : List ℕ} → buffer' ≡ laid p (vertex_of ring 0 ∷ vertex_of ring 3 ∷ vertex_of ring 2 ∷ []) buffer
         → buffer'' ≡ laid (p + 3) (vertex_of ring 0 ∷ vertex_of ring 2 ∷ vertex_of ring 1 ∷ []) buffer'
-        → {w : ℕ} → w ≡ by_two grid ring → LaysPatch grid ring bars buffer p (Weight w) buffer''
-    four_two y x₁ x₂ x barred k = rw r.there.four (two_way, patch_two r.there e f g y k, x ∙ omega arith, six _ _ _ _ _ _ x₁ x₂)
+        → {w : ℕ} → w ≡ by_two grid ring → LaysPatch grid ring bars buffer p (Some w) buffer''
+    four_two y x₁ x₂ x barred k = rw r.there.four (two_way, patch_two r.there t y k, x ∙ omega arith, six _ _ _ _ _ _ x₁ x₂)
 
-    module _ (n : s ≡ false) {d : Bool} (o : d ≡ bit (get_or bars 1 0) 3) where
-      pub four_across : d ≡ true → LaysPatch grid ring bars buffer p Nothing buffer
-      four_across y barred k = (least_across r.there e f g n o y barred k, refl)
-
-      pub four_one : d ≡ false → {buffer' buffer'' : List ℕ} → buffer' ≡ laid p (vertex_of ring 0 ∷ vertex_of ring 3 ∷ vertex_of ring 1 ∷ []) buffer
-          → buffer'' ≡ laid (p + 3) (vertex_of ring 1 ∷ vertex_of ring 3 ∷ vertex_of ring 2 ∷ []) buffer'
-          → {w : ℕ} → w ≡ by_one grid ring → LaysPatch grid ring bars buffer p (Weight w) buffer''
-      four_one y x₁ x₂ x barred k = rw r.there.four (one_way, patch_one r.there e f g n o y k, x ∙ omega arith, six _ _ _ _ _ _ x₁ x₂)
+    pub four_one : s ≡ false → {buffer' buffer'' : List ℕ} → buffer' ≡ laid p (vertex_of ring 0 ∷ vertex_of ring 3 ∷ vertex_of ring 1 ∷ []) buffer
+        → buffer'' ≡ laid (p + 3) (vertex_of ring 1 ∷ vertex_of ring 3 ∷ vertex_of ring 2 ∷ []) buffer'
+        → {w : ℕ} → w ≡ by_one grid ring → LaysPatch grid ring bars buffer p (Some w) buffer''
+    four_one n x₁ x₂ x barred k = rw r.there.four (one_way, patch_one r.there t n k, x ∙ omega arith, six _ _ _ _ _ _ x₁ x₂)
 
 -- ---- what the code finds
 
@@ -207,30 +199,3 @@ weighed grid ring i k m h e =
       e,
       subst (λ (x : ℕ). x < 2 ^ 35) (sym e) (lt_of_le_of_lt (weight_most (along grid ring i) (along grid ring k) (along grid ring m) (n (get_or ring i 0), n (get_or ring k 0), n (get_or ring m 0))) (lit< tt)),
     )
-
--- b and d tell whether the two diagonals are barred
-module _ {grid : List ℤ} {ring bars : List ℕ} {b : Bool} (e : b ≡ bit (get_or bars 0 0) 2) where
-  pub goes_barred : b ≡ true → GoesByTwo grid ring bars false
-  goes_barred t = record {
-    free = λ q. absurd (true≢false (sym q));
-    lighter = λ q g. absurd (true≢false (sym q));
-    barred = λ q g. sym e ∙ t;
-    heavier = λ q g f. absurd (true≢false (sym t ∙ e ∙ f));
-  }
-
-  module _ (f : b ≡ false) {d : Bool} (o : d ≡ bit (get_or bars 1 0) 3) where
-    pub goes_alone : d ≡ true → GoesByTwo grid ring bars true
-    goes_alone t = record {
-      free = λ q. sym e ∙ f;
-      lighter = λ q g. absurd (true≢false (sym t ∙ o ∙ g));
-      barred = λ q g. absurd (true≢false q);
-      heavier = λ q g h. absurd (true≢false q);
-    }
-
-    pub goes_lighter : d ≡ false → {v w : ℕ} → v ≡ by_two grid ring → w ≡ by_one grid ring → GoesByTwo grid ring bars (ltb v w)
-    goes_lighter g {v} {w} x y = record {
-      free = λ q. sym e ∙ f;
-      lighter = λ q h. let l : v < w = ltb-true v w q in omega arith;
-      barred = λ q t. absurd (true≢false (sym t ∙ sym o ∙ g));
-      heavier = λ q h i. let l : w ≤ v = ltb-false v w q in omega arith;
-    }

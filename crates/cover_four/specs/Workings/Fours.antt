@@ -1,5 +1,5 @@
 -- A loop of four, which has two covers.
-use Rattle.std.specs.Prelude.{◌≡◌, Bool, true, false, List, ℕ, ◌+◌, ◌<◌, ◌≤◌, ℤ, length, get_or}
+use Rattle.std.specs.Prelude.{◌≡◌, ◌⊎◌, Option, Some, None, Bool, true, false, List, ℕ, ◌+◌, ◌<◌, ◌≤◌, ℤ, length, get_or}
 use Rattle.base_limits.specs.Limits as limits
 use Rattle.cover_rules.specs.Covers.{Cover, empty, apex}
 use Rattle.cover_weight.specs.Edition.{tri_of, along}
@@ -35,3 +35,14 @@ pub record GoesByTwo (grid : List ℤ) (ring bars : List ℕ) (r : Bool) : Type 
   pub lighter : r ≡ true → bit (get_or bars 1 0) 3 ≡ false → by_two grid ring < by_one grid ring
   pub barred : r ≡ false → bit (get_or bars 1 0) 3 ≡ true → bit (get_or bars 0 0) 2 ≡ true
   pub heavier : r ≡ false → bit (get_or bars 1 0) 3 ≡ false → bit (get_or bars 0 0) 2 ≡ false → by_one grid ring ≤ by_two grid ring
+
+-- r tells which of the two is taken
+pub record Taken (grid : List ℤ) (ring bars : List ℕ) (r : Bool) : Type 0 where
+  pub open_side : bit (get_or bars 0 0) 3 ≡ false
+  pub goes : GoesByTwo grid ring bars r
+  pub one_free : r ≡ false → bit (get_or bars 1 0) 3 ≡ false
+
+-- or neither is allowed: the last side is barred, or both diagonals are
+abbrev pub Takes : List ℤ → List ℕ → List ℕ → Option Bool → Type 0
+Takes grid ring bars (Some r) = Taken grid ring bars r
+Takes grid ring bars None = (bit (get_or bars 0 0) 3 ≡ true) ⊎ ((bit (get_or bars 1 0) 3 ≡ true) × (bit (get_or bars 0 0) 2 ≡ true))

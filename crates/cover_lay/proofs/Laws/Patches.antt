@@ -25,17 +25,14 @@ use Rattle.cover_weight.proofs.Laws.Named.{named_on_grid}
 use Rattle.cover_sum.specs.Workings.Weighing.{set_weight, WeighRoom}
 use Rattle.cover_sum.proofs.Laws.Patches.{patch_weight, patch_room}
 use Rattle.cover_column.specs.Workings.Columns.{quarter_of}
-use Rattle.cover_shut.specs.Workings.Shut.{ShutRoom, TellsShut}
-use Rattle.cover_table.specs.declared.Least.{Least}
-use Rattle.cover_table.specs.declared.Least.TheVariants.{Weight, Nothing}
+use Rattle.cover_shut.specs.Workings.Shut.{TellsShut}
+use Rattle.std.proofs.Common.{Option, Some, None}
 use Rattle.cover_table.specs.Workings.Table.{OnLoop}
 use Rattle.cover_table.specs.Workings.Loops.{OnGrid, Barring, LoopRoom, TableRoom, LeastIs, Found}
 use Rattle.cover_table.proofs.Theorems.{least_once}
 use Rattle.cover_trace.specs.Workings.Ways.{Weighed}
 use Rattle.cover_trace.specs.Workings.Lists.{ListRoom, ListsPatch}
 use Rattle.cover_trace.specs.Workings.Patches.{LaysIf, LaysPatch, FindsLeast}
-use Rattle.cover_four.specs.Workings.Fours.{FourRoom}
-use Rattle.cover_four.proofs.Laws.Fours.{four_there}
 use Rattle.cover_lay.specs.Workings.Patches.{PatchRoom, ThreeRoom, LaysThree}
 
 -- ---- what is laid stands in its place
@@ -68,9 +65,9 @@ loop_along : {grid : List ℤ} {ring bars : List ℕ} {barred : ℕ → ℕ → 
 loop_along {grid} o b = record { near = λ j h. named_on_grid grid o.coordinates _; few = o.few; sides = b.sides }
 
 module _ {grid : List ℤ} {ring bars : List ℕ} {table : List Float} {buffer : List ℕ} {p : ℕ} (r : PatchRoom grid ring bars table buffer p)
-    {table' : List Float} (least : Least) (f : Found grid ring bars least table') where
+    {table' : List Float} (least : Option ℕ) (f : Found grid ring bars least table') where
   -- what was found is a weight
-  module _ {w : ℕ} (e : least ≡ Weight w) where
+  module _ {w : ℕ} (e : least ≡ Some w) where
     weighed : (barred : ℕ → ℕ → Bool) → Barring barred ring bars → Weighed (along grid ring) barred (quarter_of table') (length ring) table' 0 (length ring - 1) w
     weighed barred b = record {
       loop = loop_along r.loop.on b;
@@ -119,25 +116,22 @@ module _ {grid : List ℤ} {ring bars : List ℕ} {table : List Float} {buffer :
           let s = stood r.loop.barred r.loop.barring in
           subst (WeighRoom grid) (sym s.stands) (patch_room grid ring r.loop.on.coordinates r.loop.on.named r.loop.on.few s.cover s.patch.among.covers)
 
-      pub lays_some : {v : ℕ} → v ≡ set_weight grid (threes (part p (behind p ring) buffer')) → LaysPatch grid ring bars buffer p (Weight v) buffer'
+      pub lays_some : {v : ℕ} → v ≡ set_weight grid (threes (part p (behind p ring) buffer')) → LaysPatch grid ring bars buffer p (Some v) buffer'
       lays_some h barred b =
           let s = stood barred b in
           (s.cover, s.patch, h ∙ ap (λ (t : List ℕ). set_weight grid (threes t)) s.stands ∙ patch_weight grid ring s.cover, s.lay)
 
   -- nothing was found
-  pub lays_none : least ≡ Nothing → LaysPatch grid ring bars buffer p Nothing buffer
+  pub lays_none : least ≡ None → LaysPatch grid ring bars buffer p None buffer
   lays_none e barred b = (subst (LeastIs grid ring barred) e (f barred b).0, refl)
 
 -- ---- a loop that its bars shut
 
-pub shut_room : {grid : List ℤ} {ring bars : List ℕ} {table : List Float} → LoopRoom grid ring bars table → ShutRoom (length ring) bars
-shut_room r = let l = r.barring.rows.long in record { long = omega (arith, r.some); short = r.on.few; rows = omega (arith, r.on.few) }
-
 pub lays_shut : (grid : List ℤ) (ring bars buffer : List ℕ) (p : ℕ) {t : Bool} → TellsShut (length ring) bars t → t ≡ true
-    → LaysPatch grid ring bars buffer p Nothing buffer
+    → LaysPatch grid ring bars buffer p None buffer
 lays_shut grid ring bars buffer p tells e barred b = (tells e barred b.rows, refl)
 
-pub finds_shut : (grid : List ℤ) (ring bars : List ℕ) {t : Bool} → TellsShut (length ring) bars t → t ≡ true → FindsLeast grid ring bars Nothing
+pub finds_shut : (grid : List ℤ) (ring bars : List ℕ) {t : Bool} → TellsShut (length ring) bars t → t ≡ true → FindsLeast grid ring bars None
 finds_shut grid ring bars tells e barred b = tells e barred b.rows
 
 -- any other loop takes a table
@@ -148,21 +142,21 @@ takes_table r n = (r, omega (arith, r.some))
 -- ---- two answers for one loop are equal
 
 module _ (grid : List ℤ) (ring bars : List ℕ) (table : List Float) (buffer : List ℕ) (p : ℕ) (r : PatchRoom grid ring bars table buffer p) where
-  lays_least : (barred : ℕ → ℕ → Bool) (x : Least) (b : List ℕ) → LaysIf grid ring barred buffer p x b → LeastIs grid ring barred x
-  lays_least barred (Weight w) b h =
+  lays_least : (barred : ℕ → ℕ → Bool) (x : Option ℕ) (b : List ℕ) → LaysIf grid ring barred buffer p x b → LeastIs grid ring barred x
+  lays_least barred (Some w) b h =
       subst (covers.Least naturals (tri_of (along grid ring)) barred 0 (length ring - 1)) (sym h.2)
       (patch_least naturals naturals_lawful (tri_of (along grid ring)) barred 0 (length ring - 1) h.0 h.1)
-  lays_least barred Nothing b h = h.0
+  lays_least barred None b h = h.0
 
-  same_buffer : (barred : ℕ → ℕ → Bool) (x : Least) (b c : List ℕ) → LaysIf grid ring barred buffer p x b → LaysIf grid ring barred buffer p x c → b ≡ c
-  same_buffer barred (Weight w) b c h g =
+  same_buffer : (barred : ℕ → ℕ → Bool) (x : Option ℕ) (b c : List ℕ) → LaysIf grid ring barred buffer p x b → LaysIf grid ring barred buffer p x c → b ≡ c
+  same_buffer barred (Some w) b c h g =
       h.3
       ∙ ap (λ (u : Cover). laid p (patch_of ring u) buffer) (patch_unique naturals naturals_lawful (tri_of (along grid ring)) barred 0 (length ring - 1) h.0 g.0 h.1 g.1)
       ∙ sym g.3
-  same_buffer barred Nothing b c h g = h.1 ∙ sym g.1
+  same_buffer barred None b c h g = h.1 ∙ sym g.1
 
-  pub lays_once : (x y : Least) (b c : List ℕ) → LaysPatch grid ring bars buffer p x b → LaysPatch grid ring bars buffer p y c → (x ≡ y) × (b ≡ c)
-  lays_once x y b c h g = (same, same_buffer barred y b c (subst (λ (z : Least). LaysIf grid ring barred buffer p z b) same h') g')
+  pub lays_once : (x y : Option ℕ) (b c : List ℕ) → LaysPatch grid ring bars buffer p x b → LaysPatch grid ring bars buffer p y c → (x ≡ y) × (b ≡ c)
+  lays_once x y b c h g = (same, same_buffer barred y b c (subst (λ (z : Option ℕ). LaysIf grid ring barred buffer p z b) same h') g')
     where
       barred : ℕ → ℕ → Bool
       barred = r.loop.barred
@@ -178,14 +172,10 @@ module _ (grid : List ℤ) (ring bars : List ℕ) (table : List Float) (buffer :
 
 -- ---- the least weight alone
 
-pub found_least : (grid : List ℤ) (ring bars : List ℕ) (r : Least) {table : List Float} → Found grid ring bars r table → FindsLeast grid ring bars r
+pub found_least : (grid : List ℤ) (ring bars : List ℕ) (r : Option ℕ) {table : List Float} → Found grid ring bars r table → FindsLeast grid ring bars r
 found_least grid ring bars r f barred k = (f barred k).0
 
 -- ---- the patch of four
-
-pub four_room : {grid : List ℤ} {ring bars : List ℕ} {table : List Float} {buffer : List ℕ} {p : ℕ} → PatchRoom grid ring bars table buffer p → length ring ≡ 4
-    → FourRoom grid ring bars buffer p
-four_room r e = record { there = four_there r.loop e; room = omega (arith, r.room) }
 
 -- ---- the patch of three
 

@@ -1,6 +1,6 @@
 -- Column after column is marked, and at the end a loop that is not marked from its first to its last position has no allowed cover.
 use mathlib.Core.Path.{◌≡◌, sym, ◌∙◌}
-use mathlib.Core.Bool.{Bool, true, false, not, true≢false}
+use mathlib.Core.Bool.{Bool, false, not, true≢false}
 use mathlib.Core.List.{List}
 use Prim.Native.Nat.{ℕ, suc, ◌+◌, ◌-◌, ◌<◌, ◌≤◌}
 use native.Mathlib.Omega.{arith}
@@ -12,7 +12,7 @@ use Rattle.cover_bits.specs.Workings.Masks.{bit, Rows}
 use Rattle.cover_rules.specs.Covers.{Cover, Allowed, NoCover}
 use Rattle.cover_rules.proofs.Laws.Counted.{covers_forward}
 use Rattle.cover_rules.proofs.Laws.Chords.{uses_in}
-use Rattle.cover_shut.specs.Workings.Shut.{told_by, ShutRoom, TellsShut, Marked, ColumnRoom}
+use Rattle.cover_shut.specs.Workings.Shut.{told_by, ShutRoom, TellsShut, Marked}
 
 -- the stretches that end before k are marked
 pub record Columns (n : ℕ) (bars : List ℕ) (k : ℕ) (words : List ℕ) : Type 0 where
@@ -29,9 +29,6 @@ columns_begin room e =
     }
 
 module _ {n : ℕ} {bars words : List ℕ} {k : ℕ} (room : ShutRoom n bars) (g : Columns n bars k words) where
-  pub columns_room : k < n → ColumnRoom bars k words
-  columns_room l = record { short = omega (arith, room.short); rows = omega (arith, room.rows); marked = g.marked }
-
   pub columns_more : {left : List ℕ} → k < n → Marked bars (suc k) left → Columns n bars (k + 1) left
   columns_more l m = record { begun = omega arith; within = omega arith; marked = rw add-one m }
 
@@ -48,9 +45,6 @@ told_allowed {n} c l s rows h =
       covers = h.covers;
       free = λ a b u. let w = uses_in 0 (n - 1) c a b h.covers u in rows.tells a b (omega (arith, w)) (omega (arith, w)) ∙ h.free a b u;
     }
-
-pub free_tells : {n : ℕ} {bars : List ℕ} → TellsShut n bars false
-free_tells e = absurd (true≢false (sym e))
 
 pub shut_tells : {n : ℕ} {bars : List ℕ} {r : Bool} → ShutRoom n bars → (r ≡ false → NoCover (told_by bars) 0 (n - 1)) → TellsShut n bars (not r)
 shut_tells room none e barred rows c h = none (not-true _ e) c (told_allowed c room.long room.short rows h)

@@ -17,9 +17,6 @@ and_shared : (x y m : ℕ) → bit x m ≡ true → bit y m ≡ true → bit_and
 and_shared x y m p q e = true≢false (sym (and_bit x y m ∙ ap₂ ◌&&◌ p q) ∙ ap (λ (z : ℕ). bit z m) e ∙ bit_zero m)
 
 module _ {row i k before after : ℕ} where
-  pub side_may : true ≡ false → NoWay row i k before after
-  side_may e = absurd (true≢false e)
-
   pub barred_none : {t : Bool} → (i + 1 ≡ k → ⊥) → t ≡ bit row k → t ≡ true → NoWay row i k before after
   barred_none s b e = record { no_side = s; no_apex = λ f m p q. true≢false (sym e ∙ b ∙ f) }
 

@@ -1,26 +1,24 @@
 -- What a set weighs does not depend on the order of its triangles, nor on where each begins; and a cover's triangles weigh what the cover does.
-use Prim.Native.Nat.{ℕ, suc, ◌+◌, ◌*◌, ◌<◌, ◌≤◌}
-use mathlib.Core.Path.{◌≡◌, refl, sym, ap, ◌∙◌, subst}
+use Prim.Native.Nat.{ℕ, ◌+◌, ◌-◌, ◌*◌, ◌<◌, ◌≤◌}
+use Rattle.std.proofs.lemmas.List.{length-append, nil_from_length, get_or-append_right}
+use mathlib.Core.Path.{◌≡◌, refl, ap, ◌∙◌, subst}
 use mathlib.Core.Logic.{inl, inr}
 use mathlib.Core.List.{List, [], ◌∷◌, ◌++◌, map, map-append}
-use native.Mathlib.Nat.{le_trans, le_refl, mul-le-mul, lt_of_le_of_lt, suc-mul}
 use native.Mathlib.Omega.{arith}
-use lib.Dec.{lit<}
 use lib.IntN.{ℤ}
-use lib.ListN.{length}
+use lib.ListN.{length, get_or}
 use mir.Syntax.{w64}
 use mir.Val.{Fits}
-use Rattle.base_limits.specs.Limits as limits
 use Rattle.surface_rules.specs.Threes.{threes}
 use Rattle.cover_rules.specs.Covers.{Cover, empty, apex, Triangle, triangles, weight, vertex_of}
 use Rattle.cover_rules.specs.Sets.{Alike, ListsTriangles, named}
-use Rattle.cover_weight.specs.Weight.{point_of, Coordinates}
+use Rattle.cover_weight.specs.Weight.{point_of, Coordinates, Names}
 use Rattle.cover_weight.specs.Edition.{naturals, tri_of, along}
 use Rattle.cover_weight.proofs.Laws.Bounds.{heaviest, weight_most, weight_turned}
 use Rattle.cover_weight.proofs.Laws.Named.{named_on_grid}
 use Rattle.cover_sum.specs.Workings.Triples.{Threes, triple_at}
-use Rattle.cover_sum.specs.Workings.Weighing.{named_weight, set_weight}
-use Rattle.cover_sum.proofs.Laws.Passed.{Passed, passed_none, passed_room, passed_all, passed_more}
+use Rattle.cover_sum.specs.Workings.Weighing.{named_weight, set_weight, AllNamed, WeighRoom}
+use Rattle.cover_sum.proofs.Laws.Passed.{triples_length}
 
 module _ (grid : List ℤ) where
   weight_append : (s t : List Triangle) → set_weight grid (s ++ t) ≡ set_weight grid s + set_weight grid t
@@ -75,45 +73,58 @@ module _ (grid : List ℤ) where
 
 -- ---- the code's sum
 
--- the triangles before q weigh so much
-pub record Weighed (grid : List ℤ) (corners : List ℕ) (q total : ℕ) : Type 0 where
-  pub front : List Triangle
-  pub passed : Passed corners q front
-  pub sum : total ≡ set_weight grid front
-  pub most : total ≤ q * heaviest
+-- the triangles before the rest weigh so much
+pub record Weighed (grid : List ℤ) (corners rest : List ℕ) (total : ℕ) : Type 0 where
+  pub whole : Threes rest
+  pub named : AllNamed grid rest
+  pub sum : total + set_weight grid (threes rest) ≡ set_weight grid (threes corners)
 
-pub weighed_none : {grid : List ℤ} {corners : List ℕ} → Threes corners → Weighed grid corners 0 0
-unfolding set_weight
-weighed_none h = record { front = []; passed = passed_none h; sum = refl; most = omega arith }
+pub weighed_none : {grid : List ℤ} {corners : List ℕ} → WeighRoom grid corners → Weighed grid corners corners 0
+weighed_none h = record { whole = h.whole; named = h.named; sum = omega arith }
 
-more : (q t w n : ℕ) → t ≤ q * n → w ≤ n → t + w ≤ (q + 3) * n
-more q t w n a b = le_trans (omega (arith, suc-mul q n)) (let l : suc q ≤ q + 3 = omega arith in mul-le-mul l (le_refl n))
+module _ (grid : List ℤ) (near : Coordinates grid) where
+  most : (ts : List Triangle) → set_weight grid ts ≤ length ts * heaviest
+  unfolding set_weight
+  most [] = omega arith
+  most (t ∷ ts) =
+      omega (arith, weight_most _ _ _ (named_on_grid grid near t.first, named_on_grid grid near t.second, named_on_grid grid near t.third), most ts)
 
-module _ {grid : List ℤ} {corners : List ℕ} {q total : ℕ} (h : Weighed grid corners q total) where
-  pub weighed_ends : length corners ≤ q → total ≡ set_weight grid (threes corners)
-  weighed_ends l = h.sum ∙ ap (set_weight grid) (sym (passed_all h.passed l))
+first : (t rest : List ℕ) → length t ≡ 3 → threes (t ++ rest) ≡ triple_at t 0 ∷ threes rest
+first [] rest e = absurd (omega arith)
+first (a ∷ []) rest e = absurd (omega arith)
+first (a ∷ b ∷ []) rest e = absurd (omega arith)
+first (a ∷ b ∷ c ∷ []) rest e = refl
+first (a ∷ b ∷ c ∷ d ∷ t) rest e = absurd (omega arith)
 
-  module _ (l : q < length corners) where
-    pub weighed_room : q + 3 ≤ length corners
-    weighed_room = passed_room h.passed l
+module _ {grid : List ℤ} {corners rest : List ℕ} {total : ℕ} (h : Weighed grid corners rest total) where
+  pub weighed_ends : length rest < 3 → total ≡ set_weight grid (threes corners)
+  unfolding set_weight
+  weighed_ends l =
+      let none : rest ≡ [] = nil_from_length rest (omega (arith, h.whole.threes)) in
+      omega (arith, h.sum, ap (λ (x : List ℕ). set_weight grid (threes x)) none)
 
-    -- the triangle at q weighs w
-    module _ (near : Coordinates grid) {w : ℕ} (e : w ≡ named_weight grid (triple_at corners q)) where
-      one_most : w ≤ heaviest
-      one_most =
-          subst (λ (x : ℕ). x ≤ heaviest) (sym e)
-          (weight_most _ _ _ (named_on_grid grid near (triple_at corners q).first, named_on_grid grid near (triple_at corners q).second, named_on_grid grid near (triple_at corners q).third))
+  -- the triangle t weighs w
+  module _ (t new : List ℕ) {w : ℕ} (cut : rest ≡ t ++ new) (three : length t ≡ 3) (e : w ≡ named_weight grid (triple_at t 0)) where
+    pub weighed_more : Weighed grid corners new (total + w)
+    weighed_more = record {
+      whole = record { triangles = h.whole.triangles - 1; threes = omega (arith, h.whole.threes, ap length cut, length-append t new) };
+      named = λ j k.
+          let back : get_or rest (j + 3) 0 ≡ get_or new j 0 =
+          ap (λ (x : List ℕ). get_or x (j + 3) 0) cut
+          ∙ get_or-append_right t new 3 (j + 3) 0 three (omega arith)
+          ∙ ap (λ (i : ℕ). get_or new i 0) (omega arith) in
+          subst (Names grid) back (h.named (j + 3) (omega (arith, ap length cut, length-append t new)));
+      sum =
+          omega (
+            arith,
+            h.sum,
+            e,
+            ap (set_weight grid) (ap threes cut ∙ first t new three),
+            weight_cons grid (triple_at t 0) (threes new),
+          );
+    }
 
-      sum_most : total + w ≤ (q + 3) * heaviest
-      sum_most = more q total w heaviest h.most one_most
-
-      pub weighed_fits : length corners ≤ 3 * limits.longest → Fits w64 (total + w)
-      weighed_fits few = record { fits = lt_of_le_of_lt (le_trans sum_most (mul-le-mul (le_trans weighed_room few) (le_refl heaviest))) (lit< tt) }
-
-      pub weighed_more : Weighed grid corners (q + 3) (total + w)
-      weighed_more = record {
-        front = h.front ++ (triple_at corners q ∷ []);
-        passed = passed_more h.passed l;
-        sum = omega (arith, h.sum, weight_append grid h.front (triple_at corners q ∷ []), weight_one grid (triple_at corners q));
-        most = sum_most;
-      }
+    pub weighed_fits : WeighRoom grid corners → Fits w64 (total + w)
+    weighed_fits room =
+        let n : length (threes corners) ≡ room.whole.triangles = triples_length corners room.whole.triangles room.whole.threes in
+        record { fits = omega (arith, weighed_more.sum, most grid room.coordinates (threes corners), n, room.whole.threes, room.few) }

@@ -11,7 +11,7 @@ use lib.Ieee.{Float}
 use Rattle.cover_weight.specs.declared.Point.{Point}
 use Rattle.cover_column.specs.Workings.Columns.{Table, ProductsRoom, Multiplied, Copied}
 use Rattle.cover_column.proofs.Laws.Rows.{table_fewer, table_kept}
-use Rattle.cover_table.specs.Workings.Table.{Long, Strips, strips, Loop, Filled, Sweeping, Sweepable, Swept}
+use Rattle.cover_table.specs.Workings.Table.{Strips, strips, Loop, Filled, Sweeping, Sweepable, Swept}
 use Rattle.cover_table.proofs.Laws.Fills.{sweeping_begins, filled_begins}
 
 -- some loop's points and bars, and a table for it

@@ -19,18 +19,15 @@ use Rattle.grid_floats.proofs.Laws.Orders.{natural_less}
 use Rattle.grid_floats.proofs.Laws.Casts.{natural_in_unsigned, natural_to_unsigned}
 use Rattle.cover_column.specs.Workings.Columns.{cell, far_float, row, quarter_of}
 use Rattle.cover_column.proofs.Laws.Rows.{row_more}
-use Rattle.cover_table.specs.declared.Least.TheVariants.{Weight, Nothing}
+use Rattle.std.proofs.Common.{Some, None}
 use Rattle.cover_table.specs.Workings.Told.{far, Told, some, none}
-use Rattle.cover_table.specs.Workings.Table.{Long, Tells, OnLoop, Points, Loop, Filled}
-use Rattle.cover_table.specs.Workings.Loops.{Barring, GatherRoom, TableRoom, FillsTable, LeastIs}
+use Rattle.cover_table.specs.Workings.Table.{Tells, OnLoop, Points, Loop, Filled}
+use Rattle.cover_table.specs.Workings.Loops.{Barring, TableRoom, FillsTable, LeastIs}
 use Rattle.cover_table.proofs.Laws.Told.{told_near, told_most}
 use Rattle.cover_table.proofs.Laws.Filling.{Fillable}
 use Rattle.cover_table.proofs.Laws.Sweeps.{far_is, far_natural, light}
 
 module _ {grid : List ℤ} {ring bars : List ℕ} {table : List Float} (r : TableRoom grid ring bars table) where
-  pub gather_room : {px py pz : List Float} → Long (length ring) px → Long (length ring) py → Long (length ring) pz → GatherRoom grid ring px py pz
-  gather_room lx ly lz = record { on = r.0.on; px_long = lx; py_long = ly; pz_long = lz }
-
   pub many : (4 < length ring) × (length ring ≤ longest)
   many = (r.1, r.0.on.few)
 
@@ -93,7 +90,7 @@ module _ {grid : List ℤ} {ring bars : List ℕ} {table : List Float} (r : Tabl
       compared = natural_less _ _ _ _ tells.held far_natural
 
       pub found_some : (w : ℕ) → 53 < w → lt (cell table' (3 * quarter_of table' + a)) far_float ≡ true
-          → LeastIs grid ring barred (Weight (to_unsigned w (cell table' (3 * quarter_of table' + a)))) × Filled (along grid ring) barred (quarter_of table') (length ring) table'
+          → LeastIs grid ring barred (Some (to_unsigned w (cell table' (3 * quarter_of table' + a)))) × Filled (along grid ring) barred (quarter_of table') (length ring) table'
       found_some w h q = (
         subst (Least naturals (tri_of (along grid ring)) barred 0 (length ring - 1)) (sym (natural_to_unsigned w _ tells.weighs h tells.held most))
             (told_near tells.told (ltb-true tells.weighs far (sym compared ∙ q))),
@@ -101,7 +98,7 @@ module _ {grid : List ℤ} {ring bars : List ℕ} {table : List Float} (r : Tabl
       )
 
       pub found_none : lt (cell table' (3 * quarter_of table' + a)) far_float ≡ false
-          → LeastIs grid ring barred Nothing × Filled (along grid ring) barred (quarter_of table') (length ring) table'
+          → LeastIs grid ring barred None × Filled (along grid ring) barred (quarter_of table') (length ring) table'
       found_none q = (go tells.told, filled)
         where
           go : Told (tri_of (along grid ring)) barred 0 (length ring - 1) tells.weighs → NoCover barred 0 (length ring - 1)

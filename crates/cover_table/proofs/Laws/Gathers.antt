@@ -65,9 +65,6 @@ module _ {grid : List ℤ} {ring : List ℕ} {px₀ py₀ pz₀ : List Float} (r
   }
 
   module _ {j : ℕ} {px py pz : List Float} (g : Gathering grid ring px₀ py₀ pz₀ j px py pz) (h : j < length ring) where
-    pub in_grid : 3 * get_or ring j 0 + 2 < length grid
-    in_grid = omega (arith, r.on.named j h)
-
     pub in_column : (j < length px) × (j < length py) × (j < length pz)
     in_column =
         (omega (arith, r.px_long, g.px_kept), omega (arith, r.py_long, g.py_kept), omega (arith, r.pz_long, g.pz_kept))

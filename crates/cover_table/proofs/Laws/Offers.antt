@@ -50,6 +50,10 @@ module _ {quarter k m : ℕ} {bars : List ℕ} {xs ys zs column table : List Flo
         inside = le_trans (row_more k r.n s.here) s.table_long.deep;
       }
 
+  -- the stretch's place among the weights
+  pub offer_place : Sweepable quarter k (suc m) bars (strips xs ys zs column) table → {a : ℕ} → a ≡ row k → 3 * quarter + a + m < length table
+  offer_place r e = let o = offer_room r in omega (arith, o.inside, o.below, o.four)
+
   module _ {v : Float} {a : ℕ} (e : v ≡ settled_of (bit (get_or bars m 0) k) (cell column m)) (f : a ≡ row k) where
     pub offer_relaxes : {b : ℕ} → b ≡ row m → {column' : List Float} → length column' ≡ length column
         → Relaxed quarter (set table (3 * quarter + a + m) v) b m v xs ys zs column column'

@@ -1,15 +1,8 @@
 -- `least_weight` fills the table, and reads the whole loop's place.
-use Rattle.cover_table.proofs.Laws.Found.{many, place_in, castable, found_some, found_none}
+use Rattle.cover_table.proofs.Laws.Found.{place_in, castable, found_some, found_none}
 use lib.Dec.{lit<}
-use native.Mathlib.Omega.{arith}
 use borrow.Author.Rules.{rules}
 use Rattle.cover_table.proofs.least_weight.Goals as goal
-
-pub overflow_sub-ring : goal.overflow_sub-ring
-overflow_sub-ring c = omega (arith, many c.requires)
-
-pub row_of-requires : goal.row_of-requires
-row_of-requires c = omega (arith, many c.requires)
 
 pub overflow_add-least : goal.overflow_add-least
 overflow_add-least c = search (rules, place_in c.requires (search c.fill.auto) c.fill.ensures c.row_of.ensures)

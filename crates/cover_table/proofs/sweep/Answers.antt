@@ -6,11 +6,11 @@ use Rattle.cover_table.proofs.sweep.Goals as goal
 pub loop-m-init : goal.loop-m-init
 loop-m-init c = search going_begins
 
-pub overflow_sub-at : goal.overflow_sub-at
-overflow_sub-at c = search row_there
-
 pub offer-requires : goal.offer-requires
 offer-requires c = let g = c.loop-m.invariant in search (going_room g, row_down g, rules)
+
+pub overflow_sub-at : goal.overflow_sub-at
+overflow_sub-at c = search row_there
 
 pub loop-m-preserved : goal.loop-m-preserved
 loop-m-preserved c = search going_on

@@ -5,6 +5,3 @@ use Rattle.cover_table.proofs.sweep.Given as goal
 
 abbrev pub invariant-loop-m : goal.invariant-loop-m
 invariant-loop-m l = Going l.quarter l.k l.bars (strips l.xs l.ys l.zs l.initial.column) l.initial.table l.m l.at l.column l.table
-
-abbrev pub decreases-loop-m : goal.decreases-loop-m
-decreases-loop-m l = l.m

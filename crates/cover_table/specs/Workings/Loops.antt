@@ -1,5 +1,5 @@
 -- What the table's user gives and gets: a loop by its ring on the grid, with its bars.
-use Rattle.std.specs.Prelude.{◌≡◌, Bool, false, List, ℕ, suc, ◌-◌, ◌<◌, ◌≤◌, ℤ, length, get_or, Float}
+use Rattle.std.specs.Prelude.{◌≡◌, Option, Some, None, Bool, false, List, ℕ, suc, ◌-◌, ◌<◌, ◌≤◌, ℤ, length, get_or, Float}
 use Rattle.base_limits.specs.Limits as limits
 use Rattle.cover_rules.specs.Covers.{NoCover}
 use Rattle.cover_rules.specs.Workings.Least as covers
@@ -7,8 +7,6 @@ use Rattle.cover_weight.specs.Weight.{Coordinates, Names}
 use Rattle.cover_weight.specs.Edition.{naturals, tri_of, along}
 use Rattle.cover_bits.specs.Workings.Masks.{Rows}
 use Rattle.cover_column.specs.Workings.Columns.{quarter_of, TableFor}
-use Rattle.cover_table.specs.declared.Least.{Least}
-use Rattle.cover_table.specs.declared.Least.TheVariants.{Weight, Nothing}
 use Rattle.cover_table.specs.Workings.Table.{Long, Filled}
 
 -- the ring's vertices name points on the grid
@@ -46,12 +44,12 @@ FillsTable grid ring bars table' =
     (barred : ℕ → ℕ → Bool) → Barring barred ring bars → Filled (along grid ring) barred (quarter_of table') (length ring) table'
 
 -- the answer is the least weight of the loop's allowed covers, or that there are none
-abbrev pub LeastIs : List ℤ → List ℕ → (ℕ → ℕ → Bool) → Least → Type 0
-LeastIs grid ring barred (Weight w) = covers.Least naturals (tri_of (along grid ring)) barred 0 (length ring - 1) w
-LeastIs grid ring barred Nothing = NoCover barred 0 (length ring - 1)
+abbrev pub LeastIs : List ℤ → List ℕ → (ℕ → ℕ → Bool) → Option ℕ → Type 0
+LeastIs grid ring barred (Some w) = covers.Least naturals (tri_of (along grid ring)) barred 0 (length ring - 1) w
+LeastIs grid ring barred None = NoCover barred 0 (length ring - 1)
 
 -- and the table has all stretches of the loop
-abbrev pub Found : List ℤ → List ℕ → List ℕ → Least → List Float → Type 0
+abbrev pub Found : List ℤ → List ℕ → List ℕ → Option ℕ → List Float → Type 0
 Found grid ring bars r table' =
     (barred : ℕ → ℕ → Bool) → Barring barred ring bars
     → LeastIs grid ring barred r × Filled (along grid ring) barred (quarter_of table') (length ring) table'

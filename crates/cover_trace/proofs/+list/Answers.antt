@@ -1,18 +1,10 @@
 -- `list` lays the triangle of the first apex, lists one part by a call and goes on with the other, each shorter than the whole.
-use Prim.Native.Nat.{◌-◌}
-use native.Mathlib.Omega.{arith}
 use mathlib.Core.Path.{refl}
-use Rattle.cover_trace.proofs.Laws.Lists.{going_begins, going_after, going_before, going_past_side, going_up_to_side, going_ends, parts_less, going_less, lay_room, after_in, room_before, room_after}
+use Rattle.cover_trace.proofs.Laws.Lists.{going_begins, going_after, going_before, going_past_side, going_up_to_side, going_ends, going_less, room_before, room_after}
 use Rattle.cover_trace.proofs.+list.Goals as goal
 
 pub loop-from-init : goal.loop-from-init
 loop-from-init t c = going_begins c.requires
-
-pub middle-m-requires : goal.middle-m-requires
-middle-m-requires t c = (c.loop-from.invariant.room.weighable, omega (arith, c.loop-from-test.true))
-
-pub lay-requires : goal.lay-requires
-lay-requires t c = lay_room c.loop-from.invariant.room c.middle-m.ensures
 
 pub loop-from-preserved-then-from-m : goal.loop-from-preserved-then-from-m
 loop-from-preserved-then-from-m t c = going_past_side c.loop-from.invariant c.middle-m.ensures c.lay.ensures (search)
@@ -20,23 +12,10 @@ loop-from-preserved-then-from-m t c = going_past_side c.loop-from.invariant c.mi
 pub loop-from-preserved-then-m-to : goal.loop-from-preserved-then-m-to
 loop-from-preserved-then-m-to t c = going_up_to_side c.loop-from.invariant c.middle-m.ensures c.lay.ensures (search)
 
-pub overflow_mul-after : goal.overflow_mul-after
-overflow_mul-after t c =
-    let g = c.loop-from.invariant in
-    omega (arith, after_in g.room c.middle-m.ensures)
-
-pub overflow_add-after : goal.overflow_add-after
-overflow_add-after t c =
-    let g = c.loop-from.invariant in
-    omega (arith, after_in g.room c.middle-m.ensures)
-
 pub list-requires : goal.list-requires
 list-requires t c =
     let g = c.loop-from.invariant in
     ((going_less g c.middle-m.ensures c.decreases).0, room_before g.room c.middle-m.ensures c.lay.ensures refl)
-
-pub loop-from-smaller-then-m-from : goal.loop-from-smaller-then-m-from
-loop-from-smaller-then-m-from t c = (parts_less c.loop-from.invariant c.middle-m.ensures).1
 
 pub loop-from-preserved-then-m-from : goal.loop-from-preserved-then-m-from
 loop-from-preserved-then-m-from t c = going_after c.loop-from.invariant c.middle-m.ensures c.lay.ensures refl (search c.list.auto) c.list.ensures
@@ -45,9 +24,6 @@ pub list-requires-in-loop-from : goal.list-requires-in-loop-from
 list-requires-in-loop-from t c =
     let g = c.loop-from.invariant in
     ((going_less g c.middle-m.ensures c.decreases).1, room_after g.room c.middle-m.ensures c.lay.ensures refl refl)
-
-pub loop-from-smaller : goal.loop-from-smaller
-loop-from-smaller t c = (parts_less c.loop-from.invariant c.middle-m.ensures).0
 
 pub loop-from-preserved : goal.loop-from-preserved
 loop-from-preserved t c = going_before c.loop-from.invariant c.middle-m.ensures c.lay.ensures refl (search c.list-in-loop-from.auto) c.list-in-loop-from.ensures

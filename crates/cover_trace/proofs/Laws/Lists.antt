@@ -110,13 +110,6 @@ module _ {quarter : ℕ} {table : List Float} {ring buffer : List ℕ} {p i k m 
   inside : (i < m) × (m < k) × (k < length ring) × (p + 3 * (k - i - 1) ≤ length buffer)
   inside = (mid.0, mid.1, r.in_ring, r.room)
 
-  -- the triangle has its corners on the ring and its place in the buffer, and the part behind the apex has its own
-  pub lay_room : (i < length ring) × (k < length ring) × (m < length ring) × (p + 3 ≤ length buffer)
-  lay_room = (omega (arith, inside), r.in_ring, omega (arith, inside), omega (arith, inside))
-
-  pub after_in : p + 3 * (m - i) ≤ length buffer
-  after_in = omega (arith, inside)
-
   -- the triangle that is laid first, and the corners of the parts
   abbrev one : List ℕ
   one = vertex_of ring i ∷ vertex_of ring k ∷ vertex_of ring m ∷ []
@@ -202,10 +195,6 @@ going_begins r = record { room = r; shorter = omega arith; kept = refl; rest = �
 module _ {quarter : ℕ} {table : List Float} {ring whole : List ℕ} {p i k : ℕ} {buffer : List ℕ} {at from to : ℕ}
     (g : Going quarter table ring whole p i k buffer at from to) where
   module _ {m : ℕ} (mid : (from < m) × (m < to) × Middle quarter table from to m) where
-    -- either part is shorter than what is left, and so than the whole
-    pub parts_less : (m - from < to - from) × (to - m < to - from)
-    parts_less = (omega (arith, mid), omega (arith, mid))
-
     pub going_less : {t : ℕ} → k - i ≡ t → (m - from < t) × (to - m < t)
     going_less h = (omega (arith, mid, g.shorter), omega (arith, mid, g.shorter))
 

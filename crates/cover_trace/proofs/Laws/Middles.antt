@@ -2,7 +2,7 @@
 use mathlib.Core.Path.{◌≡◌, subst}
 use mathlib.Core.Bool.{Bool, true, false}
 use mathlib.Core.List.{List}
-use Prim.Native.Nat.{ℕ, suc, ◌+◌, ◌≤◌, ◌<◌}
+use Prim.Native.Nat.{ℕ, suc, ◌+◌, ◌-◌, ◌≤◌, ◌<◌}
 use native.Mathlib.Omega.{arith}
 use native.Mathlib.Decide.{dec_lt}
 use lib.Ieee.{Float}
@@ -41,15 +41,18 @@ module _ {quarter : ℕ} {table : List Float} {i k : ℕ} where
   sought s f e at barred n w p = record { made = (f at barred n w p).0 e; none_before = s.none at barred n w p }
 
   -- where none before it makes it up, the last one does
-  pub last_found : {m : ℕ} → suc i < k → k ≤ m + 1 → Seeking quarter table i k m → Middle quarter table i k m
-  last_found {m} h g s at barred n w p = record { made = subst (MadeAt naturals (tri_of at) barred i k w) same a.1; none_before = s.none at barred n w p }
+  pub last_found : {m : ℕ} → suc i < k → k ≤ m + 1 → Seeking quarter table i k m → Middle quarter table i k (k - 1)
+  last_found {m} h g s at barred n w p = record {
+    made = subst (MadeAt naturals (tri_of at) barred i k w) same a.1;
+    none_before = λ j l. s.none at barred n w p j (omega (arith, s.high));
+  }
     where
       a : (j : ℕ) × MadeAt naturals (tri_of at) barred i k w j
       a = some_apex naturals naturals_lawful (tri_of at) barred i k w h p.least
 
-      same : a.0 ≡ m
+      same : a.0 ≡ k - 1
       same = go (dec_lt a.0 m)
         where
-          go : Dec (a.0 < m) → a.0 ≡ m
+          go : Dec (a.0 < m) → a.0 ≡ k - 1
           go (yes l) = absurd (s.none at barred n w p a.0 l a.1)
           go (no l) = omega (arith, a.1.high)

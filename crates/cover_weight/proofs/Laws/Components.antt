@@ -1,5 +1,5 @@
 -- The machine's component is that of the whole numbers, and three of them add up without wrapping.
-use mathlib.Core.Path.{◌≡◌, sym, ap, ◌∙◌, subst}
+use mathlib.Core.Path.{◌≡◌, ap, ◌∙◌}
 use Prim.Native.Nat.{ℕ, ◌+◌, ◌^◌, ◌<◌}
 use native.Mathlib.Nat.{lt_of_le_of_lt}
 use native.Mathlib.Omega.{arith}
@@ -40,9 +40,6 @@ module _ (p q r s : ℤ) (h : Difference p × Difference q × Difference r × Di
 
   component_is : held w64 (held w64 (held w64 p *ℤ held w64 q) -ℤ held w64 (held w64 r *ℤ held w64 s)) ≡ p *ℤ q -ℤ r *ℤ s
   component_is = ap (held w64) component_same ∙ same w64 (p *ℤ q -ℤ r *ℤ s) component_small
-
-  pub component_turns : nat_abs (held w64 (held w64 (held w64 p *ℤ held w64 q) -ℤ held w64 (held w64 r *ℤ held w64 s))) < 2 ^ 63
-  component_turns = subst (λ (y : ℤ). nat_abs y < 2 ^ 63) (sym component_is) component_small
 
   pub component_size : nat_abs (held w64 (held w64 (held w64 p *ℤ held w64 q) -ℤ held w64 (held w64 r *ℤ held w64 s))) ≡ nat_abs (p *ℤ q -ℤ r *ℤ s)
   component_size = ap nat_abs component_is

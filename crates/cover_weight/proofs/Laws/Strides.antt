@@ -3,7 +3,7 @@ use mathlib.Core.Path.{◌≡◌, sym, ap, ◌∙◌, subst}
 use mathlib.Core.List.{List}
 use native.Mathlib.Nat.{lt_of_le_of_lt}
 use native.Mathlib.Omega.{arith}
-use Prim.Native.Nat.{ℕ, ◌+◌, ◌*◌, ◌^◌, ◌≤◌, ◌<◌}
+use Prim.Native.Nat.{ℕ, ◌+◌, ◌*◌, ◌≤◌}
 use lib.Dec.{lit<}
 use lib.IntN.{ℤ, nat_abs}
 use mir.Syntax.{w64}
@@ -22,9 +22,6 @@ longest_stride = 3 * (2 * limits.greatest)
 
 part_is : (z : ℤ) → Difference z → held w64 z ≡ z
 part_is z h = same w64 z (lt_of_le_of_lt h (lit< tt))
-
-pub part_turns : (z : ℤ) → Difference z → nat_abs (held w64 z) < 2 ^ 63
-part_turns z h = subst (λ (y : ℤ). nat_abs y < 2 ^ 63) (sym (part_is z h)) (lt_of_le_of_lt h (lit< tt))
 
 module _ {v : Vector} (h : Short v) where
   module _ {l m : ℕ} (e : l ≡ nat_abs (held w64 v.x)) (f : m ≡ nat_abs (held w64 v.y)) where

@@ -1,6 +1,6 @@
 -- Products of differences are small, so nothing wraps, and what is turned is the component with its sign.
 use mathlib.Core.Path.{◌∙◌}
-use Rattle.cover_weight.proofs.Laws.Components.{product_fits, component_fits, component_turns, component_size}
+use Rattle.cover_weight.proofs.Laws.Components.{product_fits, component_fits, component_size}
 use Rattle.cover_weight.proofs.component.Goals as goal
 
 pub overflow_mul-p : goal.overflow_mul-p
@@ -12,8 +12,5 @@ overflow_mul-r c = product_fits c.args.r c.args.s c.requires.2 c.requires.3
 pub overflow_sub-p : goal.overflow_sub-p
 overflow_sub-p c = component_fits c.args.p c.args.q c.args.r c.args.s c.requires
 
-pub size_of-requires : goal.size_of-requires
-size_of-requires c = component_turns c.args.p c.args.q c.args.r c.args.s c.requires
-
 pub returns : goal.returns
-returns c = c.size_of.ensures ∙ component_size c.args.p c.args.q c.args.r c.args.s c.requires
+returns c = c.unsigned_abs.ensures.value ∙ component_size c.args.p c.args.q c.args.r c.args.s c.requires

@@ -32,7 +32,7 @@ module _ (lengths marks : List ℕ) (table : List Float) where
       ⊎_elim (λ (s : SightAt lengths marks l). inl s) (λ (m : get_or lengths l 0 ≤ most). inr (fits short _ table (omega (arith, row_short)) (omega arith))) (w l k)
 
   -- and of those that are not long none takes a longer one than the whole table
-  serves_all : 4 * pairs ≤ length table → Serves lengths marks table
+  pub serves_all : 4 * pairs ≤ length table → Serves lengths marks table
   serves_all e l k =
       ⊎_elim
       (λ (g : limits.longest < get_or lengths l 0). inl (inr (inl g)))

@@ -11,6 +11,8 @@ use Rattle.cover_column.specs.Workings.Columns.{TableFor}
 use Rattle.fill_scratch.specs.Workings.Rings.{Input}
 use Rattle.fill_scratch.specs.Workings.Scratch.{Scratch}
 use Rattle.fill_scratch.specs.Workings.Tray.{Tray, tray, EdgeRoom, TrayReady, TrayRoom}
+use Rattle.fill_scratch.specs.Workings.Lent.{trayed, Same}
+use Rattle.fill_scratch.specs.declared.Tray as passed
 
 -- an array of zeros
 abbrev pub noughts : ℕ → List ℕ
@@ -68,6 +70,10 @@ pub record TrayKept (t₀ t : Tray) : Type 0 where
   pub links_kept : length t.links ≡ length t₀.links
   pub ends_kept : length t.ends ≡ length t₀.ends
   pub table_kept : length t.table ≡ length t₀.table
+
+pub same_kept : (a b : passed.Tray) → Same a b → TrayKept (trayed a) (trayed b)
+same_kept a b ((links, ends, links_long, ends_long), table, table_long) =
+    record { links_kept = links_long; ends_kept = ends_long; table_kept = table_long }
 
 pub kept_begins : {t : Tray} → TrayKept t t
 kept_begins = record { links_kept = refl; ends_kept = refl; table_kept = refl }

@@ -9,10 +9,6 @@ use Rattle.grid_coordinate.proofs.nearest.Goals as goal
 pub float_from_bits-result : goal.float_from_bits-result
 float_from_bits-result c = number _ (λ e. absurd (omega (arith, c.requires)))
 
-pub int_to_float-result : goal.int_to_float-result
-unfolding lib.Ieee.in_float
-int_to_float-result c = tt
-
 pub float_to_int-result : goal.float_to_int-result
 float_to_int-result c = lifted_whole _ c.requires _ refl (lit≤ tt) (lit≤ tt)
 

@@ -1,29 +1,12 @@
 -- `end_of` tells where the grid of each pitch ends.
 use mathlib.Core.Path.{◌≡◌, refl, sym, ap, ◌∙◌}
 use Prim.Native.Nat.{ℕ}
-use borrow.Author.Rules.{rules}
 use Rattle.base_types.specs.declared.Pitch.{Pitch}
 use Rattle.grid_place.specs.Workings.Ends.{end_of}
 use Rattle.grid_place.proofs.end_of.Goals as goal
 
 ends_at : {p q : Pitch} {n : ℕ} → p ≡ q → n ≡ end_of q → n ≡ end_of p
 ends_at e h = h ∙ sym (ap end_of e)
-
-pub enum_told-1 : goal.enum_told-1
-unfolding end_of
-enum_told-1 c = search rules
-
-pub enum_told-in-Two : goal.enum_told-in-Two
-unfolding end_of
-enum_told-in-Two c = search rules
-
-pub enum_told-in-Five : goal.enum_told-in-Five
-unfolding end_of
-enum_told-in-Five c = search rules
-
-pub enum_told-in-Ten : goal.enum_told-in-Ten
-unfolding end_of
-enum_told-in-Ten c = search rules
 
 pub returns-in-One : goal.returns-in-One
 unfolding end_of

@@ -5,7 +5,7 @@ use borrow.Author.Tests.{leb-true, leb-false}
 use Rattle.base_types.proofs.Laws.Pitches.{pitch_some, pitch_most}
 use Rattle.grid_coordinate.proofs.Laws.Floats.{number, no_number}
 use Rattle.grid_coordinate.proofs.Laws.Coordinates.{held}
-use Rattle.grid_place.proofs.Laws.Placing.{beyond, as_float, too_far, exactly, shifted}
+use Rattle.grid_place.proofs.Laws.Placing.{beyond, too_far, exactly, shifted}
 use Rattle.grid_place.proofs.place.Goals as goal
 
 pub returns-then-field-eq255 : goal.returns-then-field-eq255
@@ -24,9 +24,6 @@ pub returns-then-not-holds : goal.returns-then-not-holds
 returns-then-not-holds c =
     let h = c.if-field-ge149.false in too_far _ h _ (pitch_some c.args.pitch) _ (held _ h _ (pitch_some c.args.pitch) _ c.nearest-k.ensures)
     (leb-false _ _ (sym c.holds.ensures ∙ c.if-not-holds.true))
-
-pub int_to_float-near : goal.int_to_float-near
-int_to_float-near c = let h = c.if-field-ge149.false in as_float _ h _ (pitch_some c.args.pitch) _ (held _ h _ (pitch_some c.args.pitch) _ c.nearest-k.ensures)
 
 pub returns-then-x-near : goal.returns-then-x-near
 returns-then-x-near c =

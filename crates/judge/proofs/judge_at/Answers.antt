@@ -1,22 +1,32 @@
 -- `judge_at` refuses by the counts, or hands on what they let pass.
-use mathlib.Core.Path.{sym, ◌∙◌}
+use mathlib.Core.Path.{sym}
+use lib.Dec.{lit≤}
 use native.Mathlib.Omega.{arith}
-use Rattle.surface_rules.proofs.Laws.Deciding.{counts_pass}
+use Rattle.std.proofs.lemmas.Result.{err_from_is_err_and}
 use Rattle.survey_rules.specs.Outcome.{buffers}
-use Rattle.judge_surface.proofs.Laws.Judging.{counts_refuse}
+use Rattle.judge_surface.proofs.Laws.Judging.{counts_refuse, listing_few, listing_most}
 use Rattle.judge.proofs.judge_at.Goals as goal
 
-pub returns-then-refuses : goal.returns-then-refuses
-returns-then-refuses c =
-    counts_refuse c.args.pitch _ _ _ _ (buffers c.args.grid.now c.args.rings.now c.args.lengths.now) _ _ c.refused.ensures
-    c.check_counts-counted.ensures (sym c.refuses.ensures ∙ c.if-refuses.true)
+pub returns-in_err-check_counts : goal.returns-in_err-check_counts
+returns-in_err-check_counts c =
+    let a = c.args in
+    let p = err_from_is_err_and c.from_residual.result c.from_residual.ensures.1 in
+    rw (p.1, p.2) (counts_refuse _ _ _ _ _ (buffers a.grid.now a.rings.now a.lengths.now) c.in_err-check_counts.ensures)
 
-pub judge_few-requires : goal.judge_few-requires
-judge_few-requires c = (
-  counts_pass _ _ _ c.check_counts-counted.ensures (sym c.refuses.ensures ∙ c.if-refuses.false),
-  omega (arith, c.of-surface.ensures.0, c.if-surface-le-FEW.true),
-  c.if-corners-le-FEW.true,
+pub judge_with-requires : goal.judge_with-requires
+judge_with-requires c = (
+  listing_few _ _ _ _ _ _ _ _
+      (sym c.in_ok-check_counts.ensures)
+      (omega (arith, c.of-surface.ensures.0, c.if-surface-le-FEW.true))
+      c.if-sheet-le-FEW.true
+      (lit≤ tt) (lit≤ tt) (lit≤ tt) (lit≤ tt) (lit≤ tt) (lit≤ tt),
+  lit≤ tt,
 )
 
-pub judge_many-requires : goal.judge_many-requires
-judge_many-requires c = counts_pass _ _ _ c.check_counts-counted.ensures (sym c.refuses.ensures ∙ c.if-refuses.false)
+pub judge_with-requires-2 : goal.judge_with-requires-2
+judge_with-requires-2 c = (
+  listing_most _ _ _ _ _ _ _ _
+      (sym c.in_ok-check_counts.ensures)
+      (lit≤ tt) (lit≤ tt) (lit≤ tt) (lit≤ tt) (lit≤ tt) (lit≤ tt),
+  lit≤ tt,
+)

@@ -1,22 +1,17 @@
--- `verdict` takes the tray only where a loop needs it, and lends no table.
-use Rattle.fill_scratch.proofs.Laws.Sights.{within_three}
-use Rattle.judge_all_sight.proofs.Laws.Verdicts.{marks_long}
+-- `verdict` takes the tray and a table only where a loop needs them.
+use native.Mathlib.Omega.{arith}
+use Prim.Native.Nat.{◌≤◌}
+use lib.Ieee.{Float}
+use lib.ListN.{length, replicate, length-replicate}
+use Rattle.cover_column.specs.Workings.Columns.{nought_float}
+use Rattle.fill_scratch.proofs.Laws.Tables.{serves_short, serves_whole}
 use Rattle.judge_all.proofs.verdict.Goals as goal
 
-pub longest_middling-most-requires : goal.longest_middling-most-requires
-longest_middling-most-requires c = search marks_long
+pub verdict_with-requires-then-most-le-SHORT : goal.verdict_with-requires-then-most-le-SHORT
+verdict_with-requires-then-most-le-SHORT c =
+    let x = c.args in
+    let long : 480 ≤ length (replicate 480 nought_float) = omega (arith, length-replicate {A = Float} 480 nought_float) in
+    (c.requires.0, c.requires.1, serves_short x.lengths.now x.marks.now (replicate 480 nought_float) _ c.longest_middling-most.ensures c.if-most-le-SHORT.true long, omega arith)
 
-pub verdict_at_sight-requires : goal.verdict_at_sight-requires
-verdict_at_sight-requires c =
-    record {
-      grid = _;
-      input = _;
-      room = c.requires.0;
-      sight = within_three _ c.args.lengths.now c.args.marks.now c.longest_middling-most.ensures c.if-most-le3.true;
-    }
-
-pub returns-then-most-le3 : goal.returns-then-most-le3
-returns-then-most-le3 c = c.verdict_at_sight.ensures _ _
-
-pub verdict_tabled-requires : goal.verdict_tabled-requires
-verdict_tabled-requires c = (c.requires.0, c.requires.1, c.longest_middling-most.ensures)
+pub verdict_with-requires-2 : goal.verdict_with-requires-2
+verdict_with-requires-2 c = (c.requires.0, c.requires.1, serves_whole c.args.lengths.now c.args.marks.now nought_float, omega arith)

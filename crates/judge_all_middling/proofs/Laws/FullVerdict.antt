@@ -8,8 +8,11 @@ use lib.IntN.{ℤ}
 use lib.ListN.{length, get_or, take, drop}
 use lib.Seq.{take-add}
 use lib.Ieee.{Float}
+use Rattle.std.proofs.Common.{Ok, Err}
 use Rattle.base_answers.specs.declared.Answer.{Answer}
-use Rattle.base_answers.specs.declared.Answer.TheVariants.{Done, Misdeclared}
+use Rattle.base_answers.specs.Answers.{Misdeclared}
+use Rattle.base_answers.specs.declared.Answer.TheVariants.{Failed}
+use Rattle.base_answers.specs.declared.Verdict.{Verdict}
 use Rattle.base_limits.specs.Limits as limits
 use Rattle.cover_bars.specs.Workings.Chains.{Tells}
 use Rattle.cover_column.specs.Workings.Columns.{TableFor}
@@ -20,7 +23,6 @@ use Rattle.fill_scratch.proofs.Laws.Tables.{table_here}
 use Rattle.fill_scratch.proofs.Laws.Reading.{as_many, places_of}
 use Rattle.fill_scratch.proofs.Laws.Tray.{noughts, TrayKept, kept_begins, kept_next, Standing, standing_begins, standing_room, standing_next, standing_passed}
 use Rattle.judge_loop.specs.declared.InHand.{InHand}
-use Rattle.judge_loop.specs.declared.LoopJudged.{LoopJudged}
 use Rattle.judge_loop.specs.Workings.Judging.{JudgeRoom, Judging, FindsLoop}
 use Rattle.judge_all_sight.specs.Workings.Gives.{Declared, VerdictRoom, Gives}
 use Rattle.judge_all_sight.proofs.Laws.Verdicts.{Gone, gone_begins, gone_ends, ring_here, turn_decides, turn_goes}
@@ -96,28 +98,28 @@ module _ {grid : List ℤ} {input rings lengths rimmed states set : List ℕ} (r
             set_in,
           )
 
-      module _ (no' : get_or rimmed l 0 ≡ rim_mark → ⊥) {f : LoopJudged} {t' : Tray} (found : FindsLoop grid part set hand t f t') where
-        judged : Judging grid input (take at set) part set hand f t'
-        judged = found input (take at set) ring_of g.standing.ready
+      module _ (no' : get_or rimmed l 0 ≡ rim_mark → ⊥) {t' : Tray} where
+        pub decides : {v : Verdict} → FindsLoop grid part set hand t (Err v) t' → Gives grid input rings lengths rimmed states set (Failed v)
+        decides found rims rs s d = turn_decides s d h (g.gone rims rs s d) no' (found input (take at set) ring_of g.standing.ready).finds
 
-        pub decides : (f.answer ≡ Done → ⊥) → Gives grid input rings lengths rimmed states set f.answer
-        decides n rims rs s d = turn_decides s d h (g.gone rims rs s d) no' judged.finds n
+        module _ {f k : ℕ} (found : FindsLoop grid part set hand t (Ok f) t') (takes : (ring : List ℕ) → length ring ≡ r + get_or lengths l 0 - r → k ≡ taken ring (get_or states l 0)) where
+          judged : Judging grid input (take at set) part set hand (Ok f) t'
+          judged = found input (take at set) ring_of g.standing.ready
 
-        module _ {k : ℕ} (done : f.answer ≡ Done) (takes : (ring : List ℕ) → length ring ≡ r + get_or lengths l 0 - r → k ≡ taken ring (get_or states l 0)) where
           on : (rims : List Bool) (rs : List (List ℕ)) → Loops grid input rs rings lengths → Declared rims rs rimmed states
               → Gone grid input rims rs states set (l + 1) (r + get_or lengths l 0) (at + k)
-          on rims rs s d = turn_goes s d h (g.gone rims rs s d) no' judged.finds done takes
+          on rims rs s d = turn_goes s d h (g.gone rims rs s d) no' judged.finds takes
 
           -- what the loop takes is there
           pub takes_in : at + k ≤ length set
           takes_in = (on room.rims room.rs room.loops room.declared).within
 
-          pub going_on : TrayKept t t' → Going grid input rings lengths rimmed states set t₀ (l + 1) (r + get_or lengths l 0) (at + k) f.edges t'
+          pub going_on : TrayKept t t' → Going grid input rings lengths rimmed states set t₀ (l + 1) (r + get_or lengths l 0) (at + k) f t'
           going_on kept =
               let n : length part ≡ get_or lengths l 0 = places.part_long in
               let q : k ≡ taken part (get_or states l 0) = takes part (omega arith) in
               record {
                 kept = kept_next g.kept kept;
-                standing = standing_next g.standing part (omega arith) kept judged.few (rw (take-add at k set, q) (judged.ready done));
+                standing = standing_next g.standing part (omega arith) kept judged.few (rw (take-add at k set, q) (judged.ready refl));
                 gone = on;
               }

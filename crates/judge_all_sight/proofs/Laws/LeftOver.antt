@@ -4,7 +4,8 @@ use mathlib.Core.List.{List}
 use Prim.Native.Nat.{ℕ, ◌≤◌, ◌<◌}
 use lib.ListN.{length, drop, drop_of_length-le}
 use lib.Seq.{drop-cons}
-use Rattle.base_answers.specs.declared.Answer.TheVariants.{Done, LeftOver}
+use Rattle.base_answers.specs.Answers.{LeftOver}
+use Rattle.base_answers.specs.declared.Answer.TheVariants.{Done}
 use Rattle.judge_rules.specs.Verdicts.{left_over}
 
 module _ (set : List ℕ) (at : ℕ) where

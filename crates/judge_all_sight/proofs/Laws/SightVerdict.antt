@@ -8,7 +8,9 @@ use native.Mathlib.Omega.{arith}
 use lib.IntN.{ℤ}
 use lib.ListN.{length, get_or, take, drop}
 use Rattle.base_answers.specs.declared.Answer.{Answer}
-use Rattle.base_answers.specs.declared.Answer.TheVariants.{Done, Misdeclared}
+use Rattle.base_answers.specs.Answers.{Misdeclared}
+use Rattle.base_answers.specs.declared.Answer.TheVariants.{Done, Failed}
+use Rattle.base_answers.specs.declared.Verdict.{Verdict}
 use Rattle.base_limits.specs.Limits as limits
 use Rattle.judge_rules.specs.Verdicts.{taken, left_over}
 use Rattle.fill_scratch.specs.Workings.Rings.{Loops, RingPlace, rim_mark, SightAt}
@@ -57,17 +59,17 @@ module _ {rings lengths marks states set : List ℕ} (room : SightVerdictRoom ri
         kind (inr (inl x)) = let n : length part ≡ get_or lengths l 0 = places.part_long in inr (omega arith)
         kind (inr (inr x)) = absurd (no' x)
 
-    module _ (no' : get_or marks l 0 ≡ rim_mark → ⊥) {a : Answer} (f : FindsAtSight part (get_or states l 0) set at l a) where
-      pub decides : (a ≡ Done → ⊥) → GivesAtSight rings lengths marks states set a
-      decides n grid input rims rs s d = turn_decides s d h (g.gone grid input rims rs s d) no' (f grid input (take at set)) n
+    module _ (no' : get_or marks l 0 ≡ rim_mark → ⊥) where
+      pub decides : {v : Verdict} → FindsAtSight part (get_or states l 0) set at l (Failed v) → GivesAtSight rings lengths marks states set (Failed v)
+      decides f grid input rims rs s d = turn_decides s d h (g.gone grid input rims rs s d) no' (f grid input (take at set))
 
-      pub going_on : {k : ℕ} → a ≡ Done → ((ring : List ℕ) → length ring ≡ r + get_or lengths l 0 - r → k ≡ taken ring (get_or states l 0))
+      pub going_on : {k : ℕ} → FindsAtSight part (get_or states l 0) set at l Done → ((ring : List ℕ) → length ring ≡ r + get_or lengths l 0 - r → k ≡ taken ring (get_or states l 0))
           → Going rings lengths marks states set (l + 1) (r + get_or lengths l 0) (at + k)
-      going_on e t = record { gone = λ grid input rims rs s d. turn_goes s d h (g.gone grid input rims rs s d) no' (f grid input (take at set)) e t }
+      going_on f t = record { gone = λ grid input rims rs s d. turn_goes s d h (g.gone grid input rims rs s d) no' (f grid input (take at set)) t }
 
       -- so what it takes is there
-      pub takes_in : {k : ℕ} → a ≡ Done → ((ring : List ℕ) → length ring ≡ r + get_or lengths l 0 - r → k ≡ taken ring (get_or states l 0)) → at + k ≤ length set
-      takes_in e t = set_in (going_on e t)
+      pub takes_in : {k : ℕ} → FindsAtSight part (get_or states l 0) set at l Done → ((ring : List ℕ) → length ring ≡ r + get_or lengths l 0 - r → k ≡ taken ring (get_or states l 0)) → at + k ≤ length set
+      takes_in f t = set_in (going_on f t)
 
   pub going_ends : {l r at : ℕ} {a : Answer} → length lengths ≤ l → Going rings lengths marks states set l r at → a ≡ left_over at (drop at set) → GivesAtSight rings lengths marks states set a
   going_ends {l} h g e grid input rims rs s d =

@@ -13,14 +13,16 @@ use lib.ListN.{length, get_or, take, drop, length-append, length-drop, drop_of_l
 use lib.Seq.{drop-cons, drop-drop, take-add}
 use borrow.Author.Tests.{eq-eqb, ne_eqb}
 use Rattle.base_answers.specs.declared.Answer.{Answer}
-use Rattle.base_answers.specs.declared.Answer.TheVariants.{Done, Misdeclared}
-use Rattle.judge_rules.specs.Faults.{Fault, RightIf, FaultIf}
+use Rattle.base_answers.specs.Answers.{Misdeclared}
+use Rattle.base_answers.specs.declared.Answer.TheVariants.{Done, Failed}
+use Rattle.base_answers.specs.declared.Verdict as of_loop
+use Rattle.judge_rules.specs.Faults.{RightIf, FaultIf}
 use Rattle.judge_rules.specs.Verdicts.{taken, left_over, Verdict}
 use Rattle.judge_rules.proofs.Laws.Filled.{takes_if}
 use Rattle.fill_scratch.specs.Workings.Rings.{RingOf, Loops, rim_mark}
 use Rattle.fill_scratch.proofs.Laws.Reading.{as_many, length_at, ring_at_lem, ring_next}
-use Rattle.judge_sight.specs.Workings.Findings.{Finds, right, fault}
-use Rattle.judge_sight.proofs.Laws.Findings.{done_right}
+use Rattle.judge_sight.specs.Workings.Findings.{Finds}
+use Rattle.judge_sight.proofs.Laws.Findings.{done_right, failed_fault}
 use Rattle.judge_all_sight.specs.Workings.Gives.{Declared, VerdictRoom}
 
 -- there are a state and a mark for each loop
@@ -40,12 +42,6 @@ pub record Gone (grid : List ℤ) (input : List ℕ) (rims : List Bool) (rs : Li
   pub read : r ≡ length (flatten (take l rs))
   pub within : at ≤ length set
   pub goes : (a : Answer) → Verdict grid input (take at set) l at (drop l rims) (drop l rs) (drop l states) (drop at set) a → Verdict grid input [] 0 0 rims rs states set a
-
--- what a turn that did not say `Done` found
-finds_fault : {grid : List ℤ} {input laid : List ℕ} {l : ℕ} {ring : List ℕ} {state : ℕ} {set : List ℕ} {a : Answer} → Finds grid input laid l ring state set a → (a ≡ Done → ⊥)
-    → Fault grid input laid l ring state set a
-finds_fault (right e w) n = absurd (n e)
-finds_fault (fault f) n = f
 
 module _ {grid : List ℤ} {input : List ℕ} {rims : List Bool} {rs : List (List ℕ)} {states set : List ℕ} where
   pub gone_begins : Gone grid input rims rs states set 0 0 0
@@ -151,21 +147,21 @@ module _ {grid : List ℤ} {input : List ℕ} {rims : List Bool} {rs : List (Lis
     is_other : false ≡ get_or rims l false
     is_other = sym (ne_eqb (get_or marks l 0) rim_mark no') ∙ told
 
-    -- a turn that did not say `Done` decides,
-    pub turn_decides : {a : Answer} → Finds grid input (take at set) l part (get_or states l 0) (drop at set) a → (a ≡ Done → ⊥) → Verdict grid input [] 0 0 rims rs states set a
-    turn_decides {a} f n =
-        fault_decides below d.rims_many d.states_many g a
-        (subst (λ (k : Bool). FaultIf grid input (take at set) l k (get_or rs l []) (get_or states l 0) (drop at set) a) is_other
-        (finds_fault
-        (subst (λ (x : List ℕ). Finds grid input (take at set) l x (get_or states l 0) (drop at set) a) part_is f) n))
+    -- a turn that gave a verdict decides,
+    pub turn_decides : {v : of_loop.Verdict} → Finds grid input (take at set) l part (get_or states l 0) (drop at set) (Failed v) → Verdict grid input [] 0 0 rims rs states set (Failed v)
+    turn_decides {v} f =
+        fault_decides below d.rims_many d.states_many g (Failed v)
+        (subst (λ (k : Bool). FaultIf grid input (take at set) l k (get_or rs l []) (get_or states l 0) (drop at set) (Failed v)) is_other
+        (failed_fault
+        (subst (λ (x : List ℕ). Finds grid input (take at set) l x (get_or states l 0) (drop at set) (Failed v)) part_is f)))
 
-    -- and after one that did the next loop comes
-    pub turn_goes : {a : Answer} {k : ℕ} → Finds grid input (take at set) l part (get_or states l 0) (drop at set) a → a ≡ Done
+    -- and after one that gave none the next loop comes
+    pub turn_goes : {k : ℕ} → Finds grid input (take at set) l part (get_or states l 0) (drop at set) Done
         → ((ring : List ℕ) → length ring ≡ r + get_or lengths l 0 - r → k ≡ taken ring (get_or states l 0)) → Gone grid input rims rs states set (l + 1) (r + get_or lengths l 0) (at + k)
-    turn_goes {a} {k} f e t =
+    turn_goes {k} f t =
         let n : get_or lengths l 0 ≡ length (get_or rs l []) = length_here in
         right_goes below d.rims_many d.states_many g k (get_or lengths l 0)
         (subst (λ (k : Bool). RightIf grid input (take at set) k (get_or rs l []) (get_or states l 0) (drop at set)) is_other
         (done_right
-        (subst (λ (x : List ℕ). Finds grid input (take at set) l x (get_or states l 0) (drop at set) a) part_is f) e))
+        (subst (λ (x : List ℕ). Finds grid input (take at set) l x (get_or states l 0) (drop at set) Done) part_is f)))
         (t (get_or rs l []) (omega arith)) n

@@ -1,13 +1,9 @@
--- `lay_front` lays number after number.
-use Prim.Native.Nat.{◌-◌}
-use Rattle.judge_answer.proofs.Laws.Fronts.{laying_begins, laying_more, laying_ends}
+-- What is copied is the front, and it is as long as what it covers.
+use mathlib.Core.Path.{refl}
+use lib.Seq.{length-take-le}
+use Rattle.surface_rules.specs.Buffers.{over}
 use Rattle.judge_answer.proofs.lay_front.Goals as goal
 
-pub loop-i-init : goal.loop-i-init
-loop-i-init c = laying_begins
-
-pub loop-i-preserved : goal.loop-i-preserved
-loop-i-preserved c = search laying_more
-
 pub returns : goal.returns
-returns c = search laying_ends
+unfolding over
+returns c = rw (c.copy_from_slice.ensures.after, length-take-le c.args.n c.args.from.now (c.requires.0)) refl

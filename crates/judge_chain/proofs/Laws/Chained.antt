@@ -1,11 +1,12 @@
 -- The stretches of a set's seats are chained one after the other.
-use Prim.Native.Nat.{ℕ, ◌+◌, ◌*◌, ◌/◌, ◌^◌, ◌<◌, ◌≤◌}
+use Prim.Native.Nat.{ℕ, ◌+◌, ◌*◌, ◌/◌, ◌<◌}
 use mathlib.Core.Path.{◌≡◌, refl, sym, ap, ◌∙◌, subst}
 use mathlib.Core.Logic.{inl, ⊎_elim}
 use mathlib.Core.List.{List, [], ◌∷◌, ◌++◌}
 use native.Mathlib.Omega.{arith}
 use lib.ListN.{length, get_or, length-append}
-use Rattle.cover_rules.specs.Covers.{Triangle, on, corners_of, vertex_of}
+use Rattle.std.specs.Prelude.{Option, Some, None}
+use Rattle.cover_rules.specs.Covers.{Triangle, corners_of, vertex_of}
 use Rattle.cover_rules.specs.Sets.{Alike, named}
 use Rattle.cover_rules.specs.Workings.Matching.{Seated}
 use Rattle.cover_rules.proofs.Laws.Corners.{corners_append, corners_length, corners_whole}
@@ -14,10 +15,9 @@ use Rattle.cover_bars.specs.Workings.Chains.{Edge, edge_of, firsts, ChainRoom, C
 use Rattle.cover_bars.proofs.Laws.Chaining.{Behind, behind_none, behind_room, behind_more, behind_tells}
 use Rattle.cover_bars.proofs.Laws.Triples.{firsts_append, firsts_length}
 use Rattle.cover_sum.specs.Workings.Triples.{triple_at}
-use Rattle.cover_sum.proofs.Laws.Passed.{Passed, passed_none, passed_room, passed_all, passed_more}
+use Rattle.cover_sum.proofs.Laws.Passed.{Passed, passed_none, passed_all, passed_more}
 use Rattle.judge_seat.specs.declared.Seat.{Seat}
-use Rattle.judge_seat.specs.declared.Seat.TheVariants.{Of, Not}
-use Rattle.judge_seat.specs.Workings.Seats.{SeatOf, SeatFound}
+use Rattle.judge_seat.specs.Workings.Seats.{placed, SeatOf, SeatFound}
 use Rattle.judge_seat.proofs.Laws.Places.{different}
 use Rattle.judge_seat.proofs.Laws.Seated.{seatless}
 use Rattle.judge_chain.specs.Workings.Chaining.{CoverRoom, CoverChained}
@@ -71,88 +71,79 @@ module _ (vertex : ℕ → ℕ) where
 
 -- ---- the loop
 
--- the triangle at q is next, as edge f
-pub record Linking (ring stamps : List ℕ) (base : ℕ) (corners heads₀ links₀ ends₀ : List ℕ) (e q f : ℕ) (heads links ends : List ℕ) : Type 0 where
+-- t triangles were passed, and an edge was chained for each
+pub record Linking (ring stamps : List ℕ) (base : ℕ) (corners heads₀ links₀ ends₀ : List ℕ) (e t : ℕ) (heads links ends : List ℕ) : Type 0 where
   pub room : CoverRoom ring stamps base corners heads₀ links₀ ends₀ e
   pub front : List Triangle
-  pub passed : Passed corners q front
-  pub even : q + 3 * e ≡ 3 * f
+  pub passed : Passed corners (3 * t) front
   pub seats : List Triangle
-  pub many : e + length seats ≡ f
+  pub many : length seats ≡ t
   pub found : Seats (length ring) (vertex_of ring) front seats
   pub behind : Behind e heads₀ links₀ ends₀ (stretches (vertex_of ring) seats) heads links ends
 
 pub chaining_begins : {ring stamps : List ℕ} {base : ℕ} {corners heads links ends : List ℕ} {e : ℕ} → CoverRoom ring stamps base corners heads links ends e
-    → Linking ring stamps base corners heads links ends e 0 e heads links ends
+    → Linking ring stamps base corners heads links ends e 0 heads links ends
 chaining_begins {ring} room = record {
   room = room;
   front = [];
   passed = passed_none room.threes;
-  even = omega arith;
   seats = [];
-  many = omega arith;
+  many = refl;
   found = seats_none (length ring) (vertex_of ring);
   behind = behind_none room.heads_long (stretches_none (vertex_of ring));
 }
 
-module _ {ring stamps : List ℕ} {base : ℕ} {corners heads₀ links₀ ends₀ : List ℕ} {e q f : ℕ} {heads links ends : List ℕ}
-    (going : Linking ring stamps base corners heads₀ links₀ ends₀ e q f heads links ends) where
-  -- no more edges were chained than there are triangles
-  few_so_far : f ≤ e + length corners / 3
-  few_so_far = omega (arith, going.passed.rest, going.even)
-
+module _ {ring stamps : List ℕ} {base : ℕ} {corners heads₀ links₀ ends₀ : List ℕ} {e t : ℕ} {heads links ends : List ℕ}
+    (going : Linking ring stamps base corners heads₀ links₀ ends₀ e t heads links ends) where
   -- an edge a seat
-  stretched : e + length (stretches (vertex_of ring) going.seats) ≡ f
+  stretched : e + length (stretches (vertex_of ring) going.seats) ≡ e + t
   stretched = omega (arith, stretches_length (vertex_of ring) going.seats, going.many)
 
-  pub chaining_ends : length corners ≤ q → CoverChained ring corners heads₀ links₀ ends₀ e f heads links ends
+  pub chaining_ends : t ≡ length corners / 3 → CoverChained ring corners heads₀ links₀ ends₀ e (e + length corners / 3) heads links ends
   chaining_ends l = record {
-    few = few_so_far;
+    few = omega arith;
     heads_long = going.behind.heads_long;
     tells = λ input laid c whole long covering sides.
-        behind_tells going.behind stretched
+        behind_tells going.behind (omega (arith, stretched))
         (λ u v.
         seats_same ring corners (different going.room.ringed) c covering u v input laid whole sides going.room.threes going.seats
-        (subst (λ (s : List Triangle). Seats (length ring) (vertex_of ring) s going.seats) (sym (passed_all going.passed l)) going.found));
+        (subst (λ (s : List Triangle). Seats (length ring) (vertex_of ring) s going.seats)
+        (sym (passed_all going.passed (omega (arith, going.room.threes.threes))))
+        going.found));
   }
 
-  module _ (more : q < length corners) where
-    pub chaining_room : (q + 3 ≤ length corners) × (f + 1 < 2 ^ 16)
-    chaining_room = let r = passed_room going.passed more in (r, omega (arith, going.even, going.room.few))
+  module _ (more : t < length corners / 3) {s : Option Seat} (at : SeatFound corners (3 * t) stamps base s) where
+    -- a set with a triangle that has no seat is no cover
+    pub chaining_stops : s ≡ None → CoverChained ring corners heads₀ links₀ ends₀ e (e + t) heads links ends
+    chaining_stops n = record {
+      few = omega arith;
+      heads_long = going.behind.heads_long;
+      tells = λ input laid c whole long covering sides told. absurd (seatless going.passed (omega arith) at n ring going.room.ringed c covering);
+    }
 
-    module _ {s : Seat} (at : SeatFound corners q stamps base s) where
-      -- a set with a triangle that has no seat is no cover
-      pub chaining_stops : s ≡ Not → CoverChained ring corners heads₀ links₀ ends₀ e f heads links ends
-      chaining_stops n = record {
-        few = few_so_far;
-        heads_long = going.behind.heads_long;
-        tells = λ input laid c whole long covering sides told. absurd (seatless going.passed more at n ring going.room.ringed c covering);
+    module _ {k : Seat} (is : s ≡ Some k) where
+      seat : SeatOf (length ring) (vertex_of ring) (triple_at corners (3 * t)) (Some k)
+      seat = subst (SeatOf (length ring) (vertex_of ring) (triple_at corners (3 * t))) is (at.seat ring going.room.ringed)
+
+      -- the seat's positions are the ring's
+      pub chaining_inside : (k.from < k.between) × (k.between < k.to) × (k.to < length ring)
+      chaining_inside = (seat.0.low, seat.0.high, seat.0.to)
+
+      pub chaining_chain : ChainRoom (e + t) (get_or ring k.from 0) (get_or ring k.to 0) heads links ends
+      chaining_chain =
+          let o = going.room in
+          let w = chaining_inside in
+          behind_room going.behind (omega (arith, o.links_room)) (omega (arith, o.ends_room)) (o.ringed.inside k.from (omega arith)) (o.ringed.inside k.to w.2)
+          (omega (arith, o.few))
+
+      pub chaining_more : {heads' links' ends' : List ℕ} → ChainDone (e + t) (get_or ring k.from 0) (get_or ring k.to 0) heads links ends heads' links' ends'
+          → Linking ring stamps base corners heads₀ links₀ ends₀ e (t + 1) heads' links' ends'
+      chaining_more done = record {
+        room = going.room;
+        front = going.front ++ (triple_at corners (3 * t) ∷ []);
+        passed = subst (λ (q : ℕ). Passed corners q (going.front ++ (triple_at corners (3 * t) ∷ []))) (omega arith) (passed_more going.passed (omega arith));
+        seats = going.seats ++ (placed k ∷ []);
+        many = omega (arith, length-append going.seats (placed k ∷ []), going.many);
+        found = seats_more (length ring) (vertex_of ring) going.front going.seats going.found (triple_at corners (3 * t)) (placed k) seat.0 seat.1;
+        behind = behind_more going.behind stretched (stretches_more (vertex_of ring) going.seats (placed k)) done;
       }
-
-      module _ {i k m : ℕ} (is : s ≡ Of i k m) where
-        seat : SeatOf (length ring) (vertex_of ring) (triple_at corners q) (Of i k m)
-        seat = subst (SeatOf (length ring) (vertex_of ring) (triple_at corners q)) is (at.seat ring going.room.ringed)
-
-        -- the seat's positions are the ring's
-        pub chaining_inside : (i < m) × (m < k) × (k < length ring)
-        chaining_inside = (seat.0.low, seat.0.high, seat.0.to)
-
-        pub chaining_chain : ChainRoom f (get_or ring i 0) (get_or ring k 0) heads links ends
-        chaining_chain =
-            let r = chaining_room in
-            let o = going.room in
-            let w = chaining_inside in
-            behind_room going.behind (omega (arith, o.links_room, going.even)) (omega (arith, o.ends_room, going.even)) (o.ringed.inside i (omega arith)) (o.ringed.inside k w.2) r.1
-
-        pub chaining_more : {heads' links' ends' : List ℕ} → ChainDone f (get_or ring i 0) (get_or ring k 0) heads links ends heads' links' ends'
-            → Linking ring stamps base corners heads₀ links₀ ends₀ e (q + 3) (f + 1) heads' links' ends'
-        chaining_more done = record {
-          room = going.room;
-          front = going.front ++ (triple_at corners q ∷ []);
-          passed = passed_more going.passed more;
-          even = omega (arith, going.even);
-          seats = going.seats ++ (on i k m ∷ []);
-          many = omega (arith, length-append going.seats (on i k m ∷ []), going.many);
-          found = seats_more (length ring) (vertex_of ring) going.front going.seats going.found (triple_at corners q) (on i k m) seat.0 seat.1;
-          behind = behind_more going.behind stretched (stretches_more (vertex_of ring) going.seats (on i k m)) done;
-        }

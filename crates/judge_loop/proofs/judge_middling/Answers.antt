@@ -1,18 +1,16 @@
 -- `judge_middling` goes by the declared state.
-use Rattle.judge_loop.proofs.Laws.Judging.{cut_long, by_none, by_missing, by_share}
+use Rattle.std.proofs.lemmas.Result.{err_from_is_err_and}
+use Rattle.judge_loop.proofs.Laws.Judging.{by_share}
 use Rattle.judge_loop.proofs.judge_middling.Goals as goal
 
 pub returns-then-hand-eq-OPEN : goal.returns-then-hand-eq-OPEN
-returns-then-hand-eq-OPEN c = c.judge_open-answer.ensures c.if-hand-eq-OPEN.true _
+returns-then-hand-eq-OPEN c = let (same, found) = c.in_ok-judge_open.ensures in (same, found c.if-hand-eq-OPEN.true _)
 
-pub returns-then-hand-ne-PATCHED : goal.returns-then-hand-ne-PATCHED
-returns-then-hand-ne-PATCHED c = by_none c.requires.0 (search) (search)
-
-pub returns-then-set-at : goal.returns-then-set-at
-returns-then-set-at c = by_missing c.requires.0 (search) (search)
-
-pub judge_patched-requires : goal.judge_patched-requires
-judge_patched-requires c = let x = c.args in (c.requires.0, cut_long x.ring.now x.set.now x.hand.at c.if-set-at.false)
+pub returns-in_err-judge_open : goal.returns-in_err-judge_open
+returns-in_err-judge_open c =
+    let p = err_from_is_err_and c.from_residual.result c.from_residual.ensures.1 in
+    let (same, found) = c.in_err-judge_open.ensures in
+    (same, rw (p.1, p.2) (found c.if-hand-eq-OPEN.true _))
 
 pub returns : goal.returns
-returns c = by_share (search) (search) c.judge_patched.ensures
+returns c = let (same, found) = c.judge_patched.ensures in (same, by_share (search) (search) found)

@@ -1,18 +1,15 @@
 -- `judge_patched` finds the bars, and by them what the part is; a right one is chained.
-use Rattle.judge_loop.proofs.Laws.Judging.{bars_room, cover_room, chain_room, patched_faulty, patched_right}
+use Rattle.std.proofs.lemmas.Result.{err_from_is_err_and}
+use Rattle.judge_loop.proofs.Laws.Judging.{cover_room, patched_faulty, patched_right}
 use Rattle.judge_loop.proofs.judge_patched.Goals as goal
 
-pub bars_of-requires : goal.bars_of-requires
-bars_of-requires c = bars_room c.requires.0
+pub judge_cover-requires : goal.judge_cover-requires
+judge_cover-requires c = cover_room c.requires.0 c.bars_of.ensures c.requires.1
 
-pub judge_cover-answer-requires : goal.judge_cover-answer-requires
-judge_cover-answer-requires c = cover_room c.requires.0 c.bars_of.ensures c.requires.1
-
-pub returns-in_default : goal.returns-in_default
-returns-in_default c = patched_faulty c.requires.0 c.bars_of.ensures c.requires.1 c.judge_cover-answer.ensures c.in_default.not-Done
-
-pub chain_cover-edges-requires : goal.chain_cover-edges-requires
-chain_cover-edges-requires c = chain_room c.requires.0 c.bars_of.ensures c.requires.1
+pub returns-in_err-judge_cover : goal.returns-in_err-judge_cover
+returns-in_err-judge_cover c =
+    let p = err_from_is_err_and c.from_residual.result c.from_residual.ensures.1 in
+    (search, rw (p.1, p.2) (patched_faulty c.requires.0 c.bars_of.ensures c.requires.1 c.in_err-judge_cover.ensures))
 
 pub returns : goal.returns
-returns c = patched_right c.requires.0 c.bars_of.ensures c.requires.1 c.judge_cover-answer.ensures c.chain_cover-edges.ensures
+returns c = (search, patched_right c.requires.0 c.bars_of.ensures c.requires.1 c.in_ok-judge_cover.ensures c.chain_cover.ensures.1)

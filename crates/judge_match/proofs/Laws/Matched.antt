@@ -9,13 +9,11 @@ use lib.ListN.{length, get_or}
 use borrow.Author.Tests.{not-true, not-false}
 use Rattle.base_limits.specs.Limits as limits
 use Rattle.surface_rules.specs.Threes.{threes}
-use Rattle.cover_rules.specs.Covers as covers
 use Rattle.cover_rules.specs.Covers.{Cover, Triangle, Uses, vertex_of}
 use Rattle.cover_rules.specs.Workings.Matching.{Laid}
 use Rattle.cover_rules.proofs.Laws.Chords.{uses_in}
 use Rattle.cover_rules.proofs.Laws.Closed.{Different, covered_once, covered_whole, used_laid, laid_used, closed_covered}
 use Rattle.cover_bits.specs.Workings.Masks.{bit, Rows}
-use Rattle.cover_sum.specs.Workings.Triples.{Threes}
 use Rattle.cover_sum.proofs.Laws.Passed.{triples_length}
 use Rattle.judge_seat.specs.Workings.Covering.{Covering}
 use Rattle.judge_seat.proofs.Laws.Places.{different}
@@ -46,9 +44,6 @@ matches_once ring barred s d Allowed Barred p q = absurd (torn ring barred s d q
 matches_once ring barred s d Allowed Allowed p q = refl
 
 -- ---- the code's
-
-pub threes_of : {ring stamps : List ℕ} {base : ℕ} {bars set : List ℕ} → Matchable ring stamps base bars set → Threes set
-threes_of {ring} p = record { triangles = length ring - 2; threes = p.long }
 
 -- what the code has to show
 abbrev pub Answers : List ℕ → List ℕ → List ℕ → Match → Type 0

@@ -1,6 +1,6 @@
 -- The digits that two rows have in common, gathered row after row: some digit of what is gathered is set exactly if one was met.
-use Prim.Native.Nat.{ℕ, zero, suc, ◌+◌, ◌-◌, ◌^◌, ◌<◌, ◌≤◌}
-use mathlib.Core.Path.{◌≡◌, refl, sym, ap, ◌∙◌, subst}
+use Prim.Native.Nat.{ℕ, zero, suc, ◌-◌, ◌^◌, ◌<◌, ◌≤◌}
+use mathlib.Core.Path.{◌≡◌, refl, sym, ap, ◌∙◌}
 use mathlib.Core.Bool.{Bool, true, false, ◌&&◌, ◌||◌, true≢false}
 use mathlib.Core.Logic.{◌⊎◌, inl, inr, ⊎_elim}
 use mathlib.Core.List.{List}
@@ -14,12 +14,10 @@ use mir.Syntax.{w64}
 use mir.Val.{Fits}
 use borrow.Author.Tests.{ltb-true, ltb-false}
 use Rattle.base_limits.specs.Limits as limits
-use Rattle.surface_rules.proofs.Laws.Tests.{not_so, both_true}
+use Rattle.surface_rules.proofs.Laws.Tests.{not_so}
 use Rattle.cover_bits.specs.Workings.Masks.{bit}
 use Rattle.cover_bits.proofs.Laws.Masks.{or_bit, and_bit, bit_zero, zero_bits}
-use Rattle.cover_bars.proofs.Laws.Tests.{either_true, or_left, or_right}
 use Rattle.judge_match.specs.Workings.Rows.{Clashes}
-use Rattle.judge_match.proofs.Laws.Tests.{and_both}
 
 pub meet_is : (both row bar : ℕ) → Fits w64 both → Fits w64 row → Fits w64 bar
     → (bit_or both (bit_and row bar) < 2 ^ limits.longest) × ((k : ℕ) → bit (bit_or both (bit_and row bar)) k ≡ (bit both k || (bit row k && bit bar k)))
@@ -55,29 +53,9 @@ gathered_none = record {
   all = λ a k l. absurd (omega arith);
 }
 
-pub gathered_more : {rows bars : List ℕ} {j both r : ℕ} → Gathered rows bars j both
-    → (r < 2 ^ limits.longest) × ((k : ℕ) → bit r k ≡ (bit both k || (bit (get_or rows j 0) k && bit (get_or bars j 0) k)))
-    → Gathered rows bars (j + 1) r
-gathered_more {rows} {bars} {j} {both} g h = record {
-  fits = h.0;
-  met = λ k e.
-      ⊎_elim
-      (λ p. let m = g.met k p in (m.0, omega arith, m.2, m.3))
-      (λ p. let b = both_true (bit (get_or rows j 0) k) (bit (get_or bars j 0) k) p in (j, omega arith, b.0, b.1))
-      (either_true (bit both k) (bit (get_or rows j 0) k && bit (get_or bars j 0) k) (sym (h.1 k) ∙ e));
-  all = λ a k l p q.
-      h.1 k
-      ∙ ⊎_elim
-      (λ e.
-      or_right (bit both k) (bit (get_or rows j 0) k && bit (get_or bars j 0) k)
-      (and_both (bit (get_or rows j 0) k) (bit (get_or bars j 0) k) (subst (λ (x : ℕ). bit (get_or rows x 0) k ≡ true) e p) (subst (λ (x : ℕ). bit (get_or bars x 0) k ≡ true) e q)))
-      (λ m. or_left (bit both k) (bit (get_or rows j 0) k && bit (get_or bars j 0) k) (g.all a k m p q))
-      (let w : a ≤ j = omega arith in eq-or-lt_of_le w);
-}
-
 -- once all rows but the last are gathered
-pub gathered_all : {n : ℕ} {rows bars : List ℕ} {j both : ℕ} → Gathered rows bars j both → j ≤ n - 1 → n ≤ j + 1 → Clashes n rows bars (ltb 0 both)
-gathered_all {n} {rows} {bars} {j} {both} g l m = go (ltb 0 both) refl
+pub gathered_all : (n : ℕ) {rows bars : List ℕ} {j both : ℕ} → Gathered rows bars j both → j ≤ n - 1 → n - 1 ≤ j → Clashes n rows bars (ltb 0 both)
+gathered_all n {rows} {bars} {j} {both} g l m = go (ltb 0 both) refl
   where
     go : (t : Bool) → ltb 0 both ≡ t → Clashes n rows bars t
     go true e =

@@ -30,9 +30,6 @@ pub record Sided (rows : List ℕ) (j : ℕ) : Type 0 where
   pub done : (a b : ℕ) → a < j → b < limits.longest → bit (get_or rows a 0) b ≡ eqb b (suc a)
   pub clear : (a : ℕ) → j ≤ a → a < limits.longest → get_or rows a 0 ≡ 0
 
-pub sided_none : {rows : List ℕ} → length rows ≡ limits.longest → ((j : ℕ) → j < limits.longest → get_or rows j 0 ≡ 0) → Sided rows 0
-sided_none l z = record { long = l; done = λ a b h. absurd (omega arith); clear = λ a h. z a }
-
 pub sided_more : {rows : List ℕ} {j : ℕ} (w : ℕ) → Sided rows j → j < limits.longest
     → ((k : ℕ) → k < limits.longest → bit w k ≡ (bit 0 k || eqb k (j + 1))) → Sided (set rows j w) (j + 1)
 sided_more {rows} {j} w h l f = record {
@@ -53,7 +50,7 @@ sided_more {rows} {j} w h l f = record {
     go a b m n (no e) = ap (λ (x : ℕ). bit x b) (get_or-set_other rows j a w 0 e) ∙ h.done a b (omega arith) n
 
 -- the sides of a loop of n
-pub sided_all : {n : ℕ} {rows : List ℕ} {j : ℕ} → Sided rows j → n ≤ limits.longest → j ≤ n - 1 → n ≤ j + 1 → (vertex : ℕ → ℕ) → Held n vertex [] rows
+pub sided_all : {n : ℕ} {rows : List ℕ} {j : ℕ} → Sided rows j → n ≤ limits.longest → j ≤ n - 1 → n - 1 ≤ j → (vertex : ℕ → ℕ) → Held n vertex [] rows
 sided_all {n} {rows} {j} h few l m vertex = record { long = h.long; tells = λ a b p q. tell a b p q (dec_lt a j); shows = show }
   where
     tell : (a b : ℕ) → a < n → b < limits.longest → Dec (a < j) → bit (get_or rows a 0) b ≡ true → Laid n vertex [] a b

@@ -1,15 +1,13 @@
 -- The set is no cover where a triangle has no seat, the loop no triangle or a triangle a part without one; else its stretches meet bars or not.
 use mathlib.Core.Path.{refl}
+use native.Mathlib.Omega.{arith}
 use lib.ListN.{get_or-replicate}
 use Rattle.base_limits.specs.Limits as limits
-use Rattle.judge_match.proofs.Laws.Matched.{threes_of, match_seatless, match_topless, match_open, match_barred, match_allowed}
+use Rattle.judge_match.proofs.Laws.Matched.{match_seatless, match_topless, match_open, match_barred, match_allowed}
 use Rattle.judge_match.proofs.match_cover.Goals as goal
 
 pub sides-requires : goal.sides-requires
-sides-requires c = (c.requires.ringed.few, refl, λ j l. get_or-replicate limits.longest j 0 0 l)
-
-pub collect-requires : goal.collect-requires
-collect-requires c = let p = c.requires in (threes_of p, p.ringed.stamped.long, (c.sides.ensures (λ j. 0)).long)
+sides-requires c = (omega (arith, c.requires.many), c.requires.ringed.few, refl, λ j l. get_or-replicate limits.longest j 0 0 l)
 
 pub returns-then-not-collect : goal.returns-then-not-collect
 returns-then-not-collect c = search match_seatless

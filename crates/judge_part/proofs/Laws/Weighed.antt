@@ -10,11 +10,12 @@ use lib.IntN.{ℤ}
 use lib.Ieee.{Float}
 use lib.ListN.{length, take}
 use Rattle.base_answers.specs.declared.Answer.{Answer}
-use Rattle.base_answers.specs.declared.Answer.TheVariants.{Done, Uncovered, Barred, Heavy}
+use Rattle.base_answers.specs.Answers.{Uncovered, Barred, Heavy}
+use Rattle.base_answers.specs.declared.Answer.TheVariants.{Done}
 use Rattle.base_limits.specs.Limits as limits
 use Rattle.base_limits.specs.States as stated
 use Rattle.surface_rules.specs.Threes.{threes}
-use Rattle.cover_rules.specs.Covers.{Cover, Allowed}
+use Rattle.cover_rules.specs.Covers.{Cover}
 use Rattle.cover_bits.specs.Workings.Masks.{Rows}
 use Rattle.cover_bars.specs.Bars.{barred}
 use Rattle.cover_sum.specs.Workings.Triples.{Threes}
@@ -24,8 +25,7 @@ use Rattle.judge_match.specs.declared.Match.{Match}
 use Rattle.judge_match.specs.declared.Match.TheVariants as matched
 use Rattle.judge_match.specs.Workings.Matching.{Matches}
 use Rattle.judge_match.specs.Workings.Rows.{Matchable, SidesFree}
-use Rattle.cover_table.specs.declared.Least.{Least}
-use Rattle.cover_table.specs.declared.Least.TheVariants.{Weight, Nothing}
+use Rattle.std.proofs.Common.{Option, Some, None}
 use Rattle.cover_table.specs.Workings.Loops.{Barring, LoopRoom, LeastIs}
 use Rattle.cover_trace.specs.Workings.Patches.{FindsLeast}
 use Rattle.fill_fates.specs.Here.{weight_here}
@@ -66,21 +66,21 @@ module _ (grid : List ℤ) (ring part rows : List ℕ) (table : List Float) (roo
         few = let n : length part ≡ share ring = room.long in let k : length ring ≤ limits.longest = room.on.few in omega arith;
       }
 
-  module _ (l : ℕ) (least : Least) (found : FindsLeast grid ring rows least) where
-    least_is : (r : Least) → least ≡ r → (input before : List ℕ) → Barring (barred input before ring) ring rows → LeastIs grid ring (barred input before ring) r
+  module _ (l : ℕ) (least : Option ℕ) (found : FindsLeast grid ring rows least) where
+    least_is : (r : Option ℕ) → least ≡ r → (input before : List ℕ) → Barring (barred input before ring) ring rows → LeastIs grid ring (barred input before ring) r
     least_is r is input before b = subst (LeastIs grid ring (barred input before ring)) is (found (barred input before ring) b)
 
     -- with an allowed cover there is a least weight
-    pub weight_none : least ≡ Nothing → FindsWeight grid ring part l rows Done
-    weight_none is input before b set t e c h a = absurd (least_is Nothing is input before b c a)
+    pub weight_none : least ≡ None → FindsWeight grid ring part l rows Done
+    weight_none is input before b set t e c h a = absurd (least_is None is input before b c a)
 
-    module _ (w v : ℕ) (is : least ≡ Weight w) (weighs : v ≡ set_weight grid (threes part)) where
+    module _ (w v : ℕ) (is : least ≡ Some w) (weighs : v ≡ set_weight grid (threes part)) where
       weight_of_lem : (c : Cover) → Covering ring (threes part) c → v ≡ weight_here grid ring c
       weight_of_lem c h = weighs ∙ cover_weight grid ring (threes part) c h
 
       pub weight_heavy : w < v → FindsWeight grid ring part l rows (Heavy l)
       weight_heavy lighter input before b set t e c h a =
-          let x = least_is (Weight w) is input before b in
+          let x = least_is (Some w) is input before b in
           fault
           (too_heavy refl (declared_patched input before ring stated.patched refl room.on.few)
           (record {
@@ -99,7 +99,7 @@ module _ (grid : List ℤ) (ring part rows : List ℕ) (table : List Float) (roo
 
       pub weight_right : v ≤ w → FindsWeight grid ring part l rows Done
       weight_right under input before b set t e c h a =
-          let x = least_is (Weight w) is input before b in
+          let x = least_is (Some w) is input before b in
           right refl
           (patched refl room.on.few c (part_cover t e h) a
           (λ y.

@@ -1,9 +1,6 @@
 -- `judge_cover` goes by what is read out of the part.
-use Rattle.judge_part.proofs.Laws.Weighed.{matchable, match_none, match_barred, match_room, match_allowed}
+use Rattle.judge_part.proofs.Laws.Weighed.{match_none, match_barred, match_room, match_allowed}
 use Rattle.judge_part.proofs.judge_cover.Goals as goal
-
-pub match_cover-read-requires : goal.match_cover-read-requires
-match_cover-read-requires c = search matchable
 
 pub judge_weight-requires : goal.judge_weight-requires
 judge_weight-requires c = search match_room

@@ -1,9 +1,6 @@
 -- `judge_weight` compares the part with the least weight.
-use Rattle.judge_part.proofs.Laws.Weighed.{least_room, weigh_room, weight_none, weight_heavy, weight_right}
+use Rattle.judge_part.proofs.Laws.Weighed.{weigh_room, weight_none, weight_heavy, weight_right}
 use Rattle.judge_part.proofs.judge_weight.Goals as goal
-
-pub least-least-requires : goal.least-least-requires
-least-least-requires c = search least_room
 
 pub returns-in_default : goal.returns-in_default
 returns-in_default c = search weight_none

@@ -1,25 +1,30 @@
--- What is found of a loop: one of which nothing was said is right.
-use mathlib.Core.Path.{◌≡◌, subst}
-use mathlib.Core.List.{List, [], ◌∷◌}
+-- What is found of a loop: one of which nothing was said is right, and a verdict is its fault.
+use mathlib.Core.Path.{◌≡◌, refl, sym, ap}
+use mathlib.Core.Bool.{Bool, true, false, true≢false}
+use mathlib.Core.List.{List}
 use Prim.Native.Nat.{ℕ}
 use lib.IntN.{ℤ}
-use types.Run.{OneOf, miss}
-use denote.Enum.Declared.{tag_of}
 use Rattle.base_answers.specs.declared.Answer.{Answer}
-use Rattle.base_answers.specs.declared.Answer.TheVariants.{Done}
-use Rattle.base_answers.specs.contracts.Answer.{the_type}
-use Rattle.judge_rules.specs.Faults.{Right}
+use Rattle.base_answers.specs.declared.Answer.TheVariants.{Done, Refused, Failed}
+use Rattle.base_answers.specs.declared.Verdict.{Verdict}
+use Rattle.judge_rules.specs.Faults.{Right, Fault}
 use Rattle.judge_rules.proofs.Theorems.{fault_said}
 use Rattle.judge_sight.specs.Workings.Findings.{Finds, right, fault}
 
-pub done_right : {grid : List ℤ} {input laid : List ℕ} {l : ℕ} {ring : List ℕ} {state : ℕ} {set : List ℕ} {a : Answer} → Finds grid input laid l ring state set a
-    → a ≡ Done → Right grid input laid ring state set
-done_right (right e r) d = r
-done_right (fault f) d = absurd (fault_said f d)
+abbrev is_done : Answer → Bool
+is_done Done = true
+is_done (Refused r) = false
+is_done (Failed v) = false
 
--- the numbers of all answers but the first
-abbrev others : List ℕ
-others = 1 ∷ 2 ∷ 3 ∷ 4 ∷ 5 ∷ 6 ∷ 7 ∷ 8 ∷ 9 ∷ 10 ∷ 11 ∷ 12 ∷ 13 ∷ 14 ∷ 15 ∷ 16 ∷ 17 ∷ []
+-- a verdict is not `Done`
+pub failed_not_done : {v : Verdict} → Failed v ≡ Done → ⊥
+failed_not_done e = true≢false (sym (ap is_done e))
 
-pub not_done : {a : Answer} → OneOf others (tag_of the_type a) → a ≡ Done → ⊥
-not_done h d = miss others 0 tt (subst (λ (x : Answer). OneOf others (tag_of the_type x)) d h)
+module _ {grid : List ℤ} {input laid : List ℕ} {l : ℕ} {ring : List ℕ} {state : ℕ} {set : List ℕ} where
+  pub done_right : Finds grid input laid l ring state set Done → Right grid input laid ring state set
+  done_right (right e r) = r
+  done_right (fault f) = absurd (fault_said f refl)
+
+  pub failed_fault : {v : Verdict} → Finds grid input laid l ring state set (Failed v) → Fault grid input laid l ring state set (Failed v)
+  failed_fault (right e r) = absurd (failed_not_done e)
+  failed_fault (fault f) = f

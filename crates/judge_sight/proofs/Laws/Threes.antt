@@ -3,12 +3,13 @@ use mathlib.Core.Path.{◌≡◌, refl, sym, ap, ◌∙◌, subst}
 use mathlib.Core.Bool.{Bool, true, false, ◌||◌, or_comm, or_assoc}
 use mathlib.Core.Logic.{inl, inr, ⊎_elim}
 use mathlib.Core.List.{List, [], ◌∷◌, ◌++◌, map}
-use Prim.Native.Nat.{ℕ, ◌+◌, ◌-◌, ◌*◌, ◌%◌, ◌<◌, ◌≤◌}
+use Prim.Native.Nat.{ℕ, ◌+◌, ◌-◌, ◌%◌, ◌<◌, ◌≤◌}
 use native.Mathlib.Omega.{arith}
 use lib.IntN.{ℤ}
 use lib.ListN.{length, get_or, take, drop, length-drop}
 use lib.Seq.{get_or-take, get_or-drop, length-take-le}
-use Rattle.base_answers.specs.declared.Answer.TheVariants.{Done, Misdeclared, Uncovered}
+use Rattle.base_answers.specs.Answers.{Misdeclared, Uncovered}
+use Rattle.base_answers.specs.declared.Answer.TheVariants.{Done}
 use Rattle.base_limits.specs.Limits as limits
 use Rattle.base_limits.specs.States as stated
 use Rattle.surface_rules.specs.Threes.{threes}
@@ -25,17 +26,9 @@ use Rattle.cover_sum.specs.Workings.Triples.{triple_at}
 use Rattle.judge_seat.specs.Workings.Covering.{Covering}
 use Rattle.fill_fates.proofs.Laws.Three.{three_meets}
 use Rattle.fill_fates.proofs.Laws.Sides.{three_tells}
-use Rattle.judge_rules.specs.Faults.{share, patched, long, WrongState, no_state, two_on_a_short, not_two_on_a_long, three_with_a_cover, misdeclared, no_cover}
+use Rattle.judge_rules.specs.Faults.{share, patched, WrongState, no_state, two_on_a_short, three_with_a_cover, misdeclared, no_cover}
 use Rattle.judge_rules.proofs.Laws.Declared.{declared_patched}
-use Rattle.judge_sight.specs.Workings.Findings.{right, fault, SightRoom, FindsAtSight, WoundAgainst}
-
--- ---- the long loop
-
-pub long_right : {state l : ℕ} → state ≡ stated.long → (ring : List ℕ) → limits.longest < length ring → (set : List ℕ) (at : ℕ) → FindsAtSight ring state set at l Done
-long_right e ring n set at grid input laid = right refl (long e n)
-
-pub long_wrong : {state l : ℕ} → (state ≡ stated.long → ⊥) → (ring : List ℕ) → limits.longest < length ring → (set : List ℕ) (at : ℕ) → FindsAtSight ring state set at l (Misdeclared l)
-long_wrong e ring n set at grid input laid = fault (misdeclared refl (not_two_on_a_long e n))
+use Rattle.judge_sight.specs.Workings.Findings.{right, fault, FindsAtSight, WoundAgainst}
 
 -- ---- one triangle
 
@@ -130,15 +123,6 @@ module _ {ring : List ℕ} {state l : ℕ} (set : List ℕ) (at : ℕ) (n : leng
   three_wrong e grid input laid = fault (misdeclared refl (three_state ring n grid input laid state e))
 
   module _ (one : state ≡ stated.patched) where
-    pub three_missing : length set - at < 3 → FindsAtSight ring state set at l (Uncovered l)
-    three_missing m grid input laid =
-        fault
-        (no_cover refl (declared_patched input laid ring state one (short ring n))
-        (λ c h.
-        let e : length (drop at set) ≡ length set - at = length-drop at set in
-        let t : 3 * (length ring - 2) ≤ length (drop at set) = h.there in
-        omega arith))
-
     module _ (room : at + 3 ≤ length set) where
       pub three_no_cover : WoundAgainst ring (triple_at set at) false → FindsAtSight ring state set at l (Uncovered l)
       three_no_cover a grid input laid =
@@ -164,11 +148,6 @@ module _ {ring : List ℕ} {state l : ℕ} (set : List ℕ) (at : ℕ) (n : leng
           })
           m.among
           (λ x. m.least x.other x.allowed x.lighter))
-
--- ---- which of the two it is
-
-pub sight_three : {ring set : List ℕ} {at : ℕ} → SightRoom ring set at → length ring ≤ limits.longest → (length ring ≡ 3) × (at ≤ length set)
-sight_three {ring} h s = (⊎_elim (λ (e : length ring ≡ 3). e) (λ (e : limits.longest < length ring). omega arith) h.sight, h.within)
 
 -- ---- the chains
 

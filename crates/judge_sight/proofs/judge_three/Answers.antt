@@ -1,13 +1,10 @@
 -- `judge_three` asks for the state patched and for the one cover that there is.
 use native.Mathlib.Omega.{arith}
-use Rattle.judge_sight.proofs.Laws.Threes.{three_wrong, three_missing, three_right, three_no_cover}
+use Rattle.judge_sight.proofs.Laws.Threes.{three_wrong, three_right, three_no_cover}
 use Rattle.judge_sight.proofs.judge_three.Goals as goal
 
 pub returns-then-state-ne-PATCHED : goal.returns-then-state-ne-PATCHED
 returns-then-state-ne-PATCHED c = let x = c.args in three_wrong x.set.now x.at c.requires.0 c.if-state-ne-PATCHED.true
-
-pub returns-then-set-at-lt3 : goal.returns-then-set-at-lt3
-returns-then-set-at-lt3 c = let x = c.args in three_missing x.set.now x.at c.requires.0 (search) c.if-set-at-lt3.true
 
 pub returns-then-is_against : goal.returns-then-is_against
 returns-then-is_against c =

@@ -1,6 +1,5 @@
 -- From the checks, the listing and the verdict to what the checker answers and leaves.
 use mathlib.Core.Path.{◌≡◌, refl, sym, ap, ◌∙◌, subst}
-use mathlib.Core.Bool.{true, false, true≢false}
 use mathlib.Core.List.{List, []}
 use Prim.Native.Nat.{ℕ, ◌*◌, ◌/◌, ◌≤◌}
 use native.Mathlib.Nat.{le_trans}
@@ -8,10 +7,12 @@ use native.Mathlib.Omega.{arith}
 use borrow.Author.Tests.{eq-eqb, ne_eqb}
 use lib.IntN.{ℤ}
 use lib.ListN.{length, take}
-use Rattle.base_answers.specs.Numbers.{refusing}
+use Rattle.std.specs.Prelude.{Err}
+use Rattle.base_answers.specs.declared.Refusal.{Refusal}
 use Rattle.base_answers.specs.declared.Answer.{Answer}
-use Rattle.base_answers.specs.declared.Answer.TheVariants.{Done, States, NoPitch}
-use Rattle.base_types.specs.Pitches.{pitch_of, is_pitch}
+use Rattle.base_answers.specs.Answers.{States}
+use Rattle.base_answers.specs.declared.Answer.TheVariants.{Done, Refused}
+use Rattle.base_types.specs.Pitches.{pitch_of, Names}
 use Rattle.base_types.specs.declared.Pitch.{Pitch}
 use Rattle.base_limits.specs.Limits as limits
 use Rattle.surface_rules.specs.Buffers.{over}
@@ -34,10 +35,9 @@ use Rattle.fill_scratch.specs.Workings.Tray.{EdgeRoom}
 use Rattle.rim_mark.specs.Workings.Marking.{Marked}
 use Rattle.rim_mark.proofs.Laws.Listed.{input_here, as_many_loops, loops_here, marks_here, rims_here}
 use Rattle.judge_all_sight.specs.Workings.Gives.{Declared, VerdictRoom, Gives}
-use Rattle.judge_answer.specs.declared.Judged.{Judged}
-use Rattle.judge_surface.specs.Outcome.{outcome, judged, Judges}
+use Rattle.judge_surface.specs.Outcome.{judged, Judges}
 use Rattle.judge_surface.specs.Workings.Listing.{ListingRoom}
-use Rattle.judge_surface.specs.Workings.Finding.{Finds}
+use Rattle.judge_surface.specs.Workings.Finding.{Ready}
 
 -- ---- room to list the loops
 
@@ -69,20 +69,13 @@ module _ (words corners turns path places rings lengths marks : List ℕ) (c : c
 
 -- ---- refusals
 
--- a refusal as the code makes it
-abbrev pub Refuses : Judged → Answer → Type 0
-Refuses r a = (r.answer ≡ a) × (r.loops ≡ 0) × (r.vertices ≡ 0)
-
 module _ (pitch : ℕ) (words corners states set : List ℕ) (b : Buffers) where
-  refused_is : (r : Judged) (a : Answer) → Refuses r a → outcome r b ≡ refused a b
-  refused_is r a h = λ i. record { answer = h.0 i; loops = h.1 i; vertices = h.2 i; left = b }
-
   -- what the table says decides
-  decided : (r : Judged) (a : Answer) → Refuses r a → refusal pitch words corners (lent b) (needs words corners) ≡ a → refusing a ≡ true → Judges pitch words corners states set b (outcome r b)
-  decided r a h e t = rw (e, t) (refused_is r a h)
+  decided : {r : Refusal} → refusal pitch words corners (lent b) (needs words corners) ≡ Refused r → Judges pitch words corners states set b (refused (Refused r) b)
+  decided e = rw e refl
 
-  pub pitch_refuse : (r : Judged) → Refuses r NoPitch → is_pitch pitch ≡ false → Judges pitch words corners states set b (outcome r b)
-  pitch_refuse r h e = decided r NoPitch h (pitch_decides pitch words corners (lent b) (needs words corners) e) refl
+  pub pitch_refuse : {r : Refusal} → Names pitch (Err r) → Judges pitch words corners states set b (refused (Refused r) b)
+  pitch_refuse n = decided (pitch_decides pitch words corners (lent b) (needs words corners) n.0 ∙ ap Refused (sym n.1))
 
   -- what is promised at a pitch is promised at its number
   pub at_pitch : (p : Pitch) (o : Outcome) → pitch ≡ pitch_of p → Judges (pitch_of p) words corners states set b o → Judges pitch words corners states set b o
@@ -91,25 +84,17 @@ module _ (pitch : ℕ) (words corners states set : List ℕ) (b : Buffers) where
   -- 9 comes after all checks of the surface
   pub states_refuse : {table : List ℕ} → Suited pitch words corners table b.grid b.rings b.lengths
       → (at : Listed) (found sizes firsts found' sizes' firsts' : List ℕ) → ListsLoops corners (loops corners) found sizes firsts at found' sizes' firsts'
-      → (r : Judged) → Refuses r (States at.loops) → (at.loops ≡ length states → ⊥) → Judges pitch words corners states set b (outcome r b)
-  states_refuse k at found sizes firsts found' sizes' firsts' ls r h n =
-      rw (k.none_refused, ne_eqb (length (loops corners)) (length states) (λ q. n (ls.count ∙ q)))
-      (refused_is r (States at.loops) h ∙ ap (λ (i : ℕ). refused (States i) b) ls.count)
+      → (at.loops ≡ length states → ⊥) → Judges pitch words corners states set b (refused (States at.loops) b)
+  states_refuse k at found sizes firsts found' sizes' firsts' ls n =
+      rw (k.none_refused, ne_eqb (length (loops corners)) (length states) (λ q. n (ls.count ∙ q))) (ap (λ (i : ℕ). refused (States i) b) ls.count)
 
-module _ (p : Pitch) (words corners states set : List ℕ) (b : Buffers) where
-  pub counts_refuse : (r : Judged) (a : Answer) → Refuses r a → a ≡ count_refusal (length words) (length corners) → refusing a ≡ true → Judges (pitch_of p) words corners states set b (outcome r b)
-  counts_refuse r a h e t = decided (pitch_of p) words corners states set b r a h (count_decides p words corners (lent b) (needs words corners) a e t) t
+module _ (p : Pitch) (words corners states set : List ℕ) (b : Buffers) {r : Refusal} where
+  pub counts_refuse : Refused r ≡ count_refusal (length words) (length corners) → Judges (pitch_of p) words corners states set b (refused (Refused r) b)
+  counts_refuse e = decided (pitch_of p) words corners states set b (count_decides p words corners (lent b) (needs words corners) (Refused r) e refl)
 
-  pub content_refuse : count_refusal (length words) (length corners) ≡ Done → (r : Judged) (a : Answer) (table : List ℕ) → Refuses r a → Checked (pitch_of p) words corners (lent b) (needs words corners) a table → refusing a ≡ true
-      → Judges (pitch_of p) words corners states set b (outcome r b)
-  content_refuse c r a table h k t = decided (pitch_of p) words corners states set b r a h (content_decides p words corners (lent b) (needs words corners) c a k.said) t
-
--- ---- what is found where it is refused: the refusal
-
-module _ {pitch : ℕ} {words corners states : List ℕ} {b b' : Buffers} {marks turns path : List ℕ} where
-  pub finds_refused : (r : Judged) (a : Answer) → Refuses r a → refusing a ≡ true → ((set : List ℕ) → Judges pitch words corners states set b (outcome r b'))
-      → Finds pitch words corners states b r b' marks turns path
-  finds_refused r a h t j = (λ _. j, λ e. absurd (true≢false (sym t ∙ ap refusing (sym h.0) ∙ e)))
+  pub content_refuse : count_refusal (length words) (length corners) ≡ Done → {table : List ℕ} → Checked (pitch_of p) words corners (lent b) (needs words corners) (Refused r) table
+      → Judges (pitch_of p) words corners states set b (refused (Refused r) b)
+  content_refuse c k = decided (pitch_of p) words corners states set b (content_decides p words corners (lent b) (needs words corners) c (Refused r) k.said)
 
 -- ---- what was listed apart has room where it goes
 
@@ -138,25 +123,26 @@ module _ {pitch : ℕ} (words corners : List ℕ) (b : Buffers) {table : List �
     verdict_room : VerdictRoom g corners (take at.vertices rings') (take at.loops lengths') marks states
     verdict_room = record { rims = rim_list g corners; rs = ring_list corners; loops = loops_here k.known ls gridded; corners = input_here k.known; declared = as_declared }
 
+    -- what is answered and left with the verdict v
+    abbrev found_with : Answer → Outcome
+    found_with v = record { answer = v; loops = at.loops; vertices = at.vertices; left = buffers grid' rings' lengths' }
+
     judges : (set : List ℕ) (v : Answer) → Gives g corners (take at.vertices rings') (take at.loops lengths') marks states set v
-        → Judges pitch words corners states set b (outcome (record { answer = v; loops = at.loops; vertices = at.vertices }) (buffers grid' rings' lengths'))
+        → Judges pitch words corners states set b (found_with v)
     judges set v h =
         rw (k.none_refused, eq-eqb (length (loops corners)) (length states) (sym ls.count ∙ same))
         (v, subst (λ (y : List ℤ). Verdict y corners [] 0 0 (rim_list y corners) (ring_list corners) states set v) gridded (h (rim_list g corners) (ring_list corners) (loops_here k.known ls gridded) as_declared), left)
       where
-        left : outcome (record { answer = v; loops = at.loops; vertices = at.vertices }) (buffers grid' rings' lengths') ≡ judged v pitch words corners b
+        left : found_with v ≡ judged v pitch words corners b
         left = λ t. record { answer = v; loops = ls.count t; vertices = ls.vertices t; left = record { grid = eg t; rings = ls.all_rings t; lengths = ls.all_lengths t } }
 
     pub finds : {turns path : List ℕ} → EdgeRoom corners turns path
-        → Finds pitch words corners states b (record { answer = Done; loops = at.loops; vertices = at.vertices }) (buffers grid' rings' lengths') marks turns path
-    finds room = (
-      λ e. absurd (true≢false (sym e)),
-      λ _. record {
-        grid_in = grid_in pitch words b.grid grid' eg;
-        rings_in = rings_in ls;
-        lengths_in = lengths_in ls;
-        room = verdict_room;
-        edges = room;
-        finish = judges;
-      },
-    )
+        → Ready pitch words corners states b (record { loops = at.loops; vertices = at.vertices }) (buffers grid' rings' lengths') marks turns path
+    finds room = record {
+      grid_in = grid_in pitch words b.grid grid' eg;
+      rings_in = rings_in ls;
+      lengths_in = lengths_in ls;
+      room = verdict_room;
+      edges = room;
+      finish = judges;
+    }

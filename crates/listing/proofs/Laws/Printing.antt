@@ -11,7 +11,7 @@ use Rattle.program_lines.specs.declared.Progress.{Progress}
 use Rattle.program_lines.specs.Workings.Telling.{Inventory}
 use Rattle.program_lines.proofs.Laws.Widths.{widest}
 use Rattle.program_roll.specs.Workings.Roll.{Going, FillsOn}
-use Rattle.program_roll.proofs.Laws.Going.{emptied, going_emptied, going_on, going_within, going_from, going_further}
+use Rattle.program_roll.proofs.Laws.Going.{emptied, going_emptied, going_on, going_from, going_further}
 
 -- between two sections
 pub record Printing (w : Inventory) (loops : ℕ) (room₀ room : List ℕ) (m : Progress) : Type 0 where
@@ -24,9 +24,6 @@ abbrev pub left : ℕ → ℕ → Bool → ℕ
 left loops told going = (loops - told) + cond going 1 0
 
 module _ {w : Inventory} {loops : ℕ} {room₀ room after : List ℕ} {m r : Progress} (p : Printing w loops room₀ room m) (f : FillsOn widest w loops m r room after) where
-  pub printing_within : r.bytes ≤ length room
-  printing_within = going_within p.going f
-
   pub printing_on : length after ≡ length room → Printing w loops room₀ after (emptied r)
   printing_on e = record { same_long = e ∙ p.same_long; roomy = omega (arith, e, p.roomy); going = going_emptied (going_on p.going f) }
 

@@ -1,4 +1,5 @@
 -- One more edge on the path: its start is at no place yet, so every start keeps its place, and what starts where it ends is found as the definition says.
+use Rattle.std.specs.Prelude.{Option, Some, None}
 use mathlib.Core.Path.{◌≡◌, sym, ap, ◌∙◌, subst}
 use mathlib.Core.List.{List, [], ◌∷◌, ◌++◌}
 use mathlib.Core.Logic.{◌⊎◌, ⊎_elim}
@@ -8,13 +9,11 @@ use native.Mathlib.Numerals.{add-one}
 use native.Mathlib.Omega.{arith}
 use lib.ListN.{length, get_or, take, drop, set, length-append, length-set}
 use lib.Seq.{get_or-set_same, get_or-set_other, take-suc-set, take-take, length-take-le}
-use Rattle.surface_rules.specs.declared.Found.{Found}
-use Rattle.surface_rules.specs.declared.Found.TheVariants.{At, Nothing}
 use Rattle.surface_rules.specs.Edges.{start_of, end_of}
 use Rattle.surface_rules.proofs.Laws.Smallest.{least_sound}
 use Rattle.loop_rules.specs.Loops.{Split, starts_at, cut, grow}
 use Rattle.loop_cut.specs.declared.Listed.{Listed}
-use Rattle.loop_cut.specs.Workings.Growing.{Path, Sought, Ledger, ListsIn, CutRoom, WasCut, Stands, GrowRoom, Grew}
+use Rattle.loop_cut.specs.Workings.Growing.{Path, Ledger, ListsIn, CutRoom, WasCut, Stands, GrowRoom, Grew}
 
 -- a shorter path
 path_shorter : {corners path places : List ℕ} {d j : ℕ} → Path corners path d places → j ≤ d → Path corners path j places
@@ -54,37 +53,28 @@ module _ {corners : List ℕ} {e f : ℕ} {path places : List ℕ} {w : Ledger} 
             (place i l);
       }
 
-  pub pushed_sought : Sought corners path' (at.path + 1) places' (get_or corners f 0)
-  pushed_sought =
-      record {
-        long = pushed.long;
-        edges = pushed.edges;
-        point = rw length-set (room.named f room.after_edge);
-        placed = λ i l q. ap (λ (x : ℕ). get_or places' x 0) (sym q) ∙ pushed.placed i l;
-      }
-
   -- where an edge of the longer path starts that f's start is looked for at
-  abbrev sought : Found
+  abbrev sought : Option ℕ
   sought = starts_at corners (take (at.path + 1) path') (get_or corners f 0)
 
   taken : take (at.path + 1) path' ≡ take at.path path ++ (e ∷ [])
   taken = rw add-one (take-suc-set path at.path e room.path_room)
 
   -- what was found is what the definition finds
-  found_as : {r : Found} → r ≡ sought → starts_at corners (take at.path path ++ (e ∷ [])) (end_of corners e) ≡ r
+  found_as : {r : Option ℕ} → r ≡ sought → starts_at corners (take at.path path ++ (e ∷ [])) (end_of corners e) ≡ r
   found_as q =
       sym (q
       ∙ ap (λ (p : List ℕ). starts_at corners p (get_or corners f 0)) taken
       ∙ ap (λ (k : ℕ). starts_at corners (take at.path path ++ (e ∷ [])) (get_or corners k 0)) room.after)
 
-  found_short : {j : ℕ} → At j ≡ sought → j < at.path + 1
+  found_short : {j : ℕ} → Some j ≡ sought → j < at.path + 1
   unfolding starts_at
   found_short q =
       let n : length (take (at.path + 1) path') ≡ at.path + 1 = length-take-le (at.path + 1) path' pushed.long in
       omega (arith, (least_sound _ _ _ (sym q)).0)
 
   -- there is room for what is cut off
-  pub cut_room : {j : ℕ} → At j ≡ sought → CutRoom corners path' j (at.path + 1) w at
+  pub cut_room : {j : ℕ} → Some j ≡ sought → CutRoom corners path' j (at.path + 1) w at
   cut_room {j} q =
       let l : j < at.path + 1 = found_short q in
       record {
@@ -99,14 +89,14 @@ module _ {corners : List ℕ} {e f : ℕ} {path places : List ℕ} {w : Ledger} 
     along_grown : take (at.path + 1) path' ≡ t.path ++ (e ∷ [])
     along_grown = taken ∙ ap (λ (p : List ℕ). p ++ (e ∷ [])) s.along
 
-    grow_is : {r : Found} → r ≡ sought → grow corners t e ≡ cut r (t.path ++ (e ∷ [])) t.listed
+    grow_is : {r : Option ℕ} → r ≡ sought → grow corners t e ≡ cut r (t.path ++ (e ∷ [])) t.listed
     unfolding grow
-    grow_is q = ap (λ (z : Found). cut z (t.path ++ (e ∷ [])) t.listed) (ap (λ (p : List ℕ). starts_at corners (p ++ (e ∷ [])) (end_of corners e)) (sym s.along) ∙ found_as q)
+    grow_is q = ap (λ (z : Option ℕ). cut z (t.path ++ (e ∷ [])) t.listed) (ap (λ (p : List ℕ). starts_at corners (p ++ (e ∷ [])) (end_of corners e)) (sym s.along) ∙ found_as q)
 
     grown_length : length (t.path ++ (e ∷ [])) ≡ at.path + 1
     grown_length = length-append t.path (e ∷ []) ∙ ap (λ (n : ℕ). n + 1) (sym s.depth)
 
-    stands_on : Nothing ≡ sought → Stands corners (grow corners t e) w₀ path' (record { loops = at.loops; vertices = at.vertices; path = at.path + 1 }) w
+    stands_on : None ≡ sought → Stands corners (grow corners t e) w₀ path' (record { loops = at.loops; vertices = at.vertices; path = at.path + 1 }) w
     stands_on q =
         rw (grow_is q)
         (record {
@@ -122,7 +112,7 @@ module _ {corners : List ℕ} {e f : ℕ} {path places : List ℕ} {w : Ledger} 
               };
         })
 
-    stands_cut : {j : ℕ} {r : Listed} {w' : Ledger} → At j ≡ sought → WasCut corners path' j (at.path + 1) at w r w' → Stands corners (grow corners t e) w₀ path' r w'
+    stands_cut : {j : ℕ} {r : Listed} {w' : Ledger} → Some j ≡ sought → WasCut corners path' j (at.path + 1) at w r w' → Stands corners (grow corners t e) w₀ path' r w'
     stands_cut {j} {r} {w'} q c =
         let l : j < at.path + 1 = found_short q in
         let n : length (take j (t.path ++ (e ∷ []))) ≡ j = length-take-le j (t.path ++ (e ∷ [])) (omega (arith, grown_length)) in
@@ -133,10 +123,10 @@ module _ {corners : List ℕ} {e f : ℕ} {path places : List ℕ} {w : Ledger} 
           lists = subst (λ (p : List ℕ). ListsIn corners (t.listed ++ (drop j p ∷ [])) w₀ r w') along_grown (c.lists t.listed w₀ s.lists);
         })
 
-  pub grew_on : {r : Found} → r ≡ sought → r ≡ Nothing → Grew corners e path at w path' places' (record { loops = at.loops; vertices = at.vertices; path = at.path + 1 }) w
+  pub grew_on : {r : Option ℕ} → r ≡ sought → r ≡ None → Grew corners e path at w path' places' (record { loops = at.loops; vertices = at.vertices; path = at.path + 1 }) w
   grew_on q n = record { kept = pushed; stands = λ t w₀ s. stands_on s (sym n ∙ q) }
 
-  pub grew_cut : {r : Found} {j : ℕ} {a : Listed} {w' : Ledger} → r ≡ sought → r ≡ At j → WasCut corners path' j (at.path + 1) at w a w' → Grew corners e path at w path' places' a w'
+  pub grew_cut : {r : Option ℕ} {j : ℕ} {a : Listed} {w' : Ledger} → r ≡ sought → r ≡ Some j → WasCut corners path' j (at.path + 1) at w a w' → Grew corners e path at w path' places' a w'
   grew_cut q n c =
       let l = found_short (sym n ∙ q) in
       record { kept = path_shorter pushed (omega (arith, c.back)); stands = λ t w₀ s. stands_cut s (sym n ∙ q) c }

@@ -1,7 +1,6 @@
 -- What holds of the path while it grows.
-use Rattle.std.specs.Prelude.{◌≡◌, List, [], ◌∷◌, ◌++◌, ℕ, ◌+◌, ◌-◌, ◌≤◌, ◌<◌, length, get_or, take, drop}
+use Rattle.std.specs.Prelude.{◌≡◌, List, [], ◌∷◌, ◌++◌, ℕ, ◌+◌, ◌-◌, ◌≤◌, ◌<◌, length, get_or, take, drop, Some}
 use Rattle.base_limits.specs.Limits as limits
-use Rattle.surface_rules.specs.declared.Found.TheVariants.{At}
 use Rattle.surface_rules.specs.Edges.{following, start_of, end_of}
 use Rattle.loop_rules.specs.Loops.{Split, starts_at, grow}
 use Rattle.loop_cut.specs.Listing.{ListsLoops}
@@ -76,8 +75,8 @@ pub record GrowRoom (corners : List ℕ) (e f : ℕ) (path places : List ℕ) (w
   pub deep : at.path < length corners
   pub path_room : at.path < length path
   pub rings_room : at.vertices + (at.path + 1) ≤ length w.rings
-  pub lengths_room : (j : ℕ) → starts_at corners (take at.path path ++ (e ∷ [])) (end_of corners e) ≡ At j → at.loops < length w.lengths
-  pub firsts_room : (j : ℕ) → starts_at corners (take at.path path ++ (e ∷ [])) (end_of corners e) ≡ At j → at.loops < length w.firsts
+  pub lengths_room : (j : ℕ) → starts_at corners (take at.path path ++ (e ∷ [])) (end_of corners e) ≡ Some j → at.loops < length w.lengths
+  pub firsts_room : (j : ℕ) → starts_at corners (take at.path path ++ (e ∷ [])) (end_of corners e) ≡ Some j → at.loops < length w.firsts
 
 -- whatever stood there has grown by e
 pub record Grew (corners : List ℕ) (e : ℕ) (path : List ℕ) (at : Listed) (w : Ledger) (path' places' : List ℕ) (r : Listed) (w' : Ledger) : Type 0 where

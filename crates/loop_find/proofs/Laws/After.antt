@@ -1,4 +1,5 @@
 -- The path and the loops after the first k edges of a cycle, behind the loops of the cycles before: one more edge makes them grow, they have room, and no edge of the path starts where the walk stands.
+use Rattle.std.specs.Prelude.{Option, Some}
 use mathlib.Core.Path.{◌≡◌, sym, ap, ◌∙◌}
 use mathlib.Core.Bool.{true}
 use mathlib.Core.List.{List, [], ◌∷◌, ◌++◌, append-nil}
@@ -6,8 +7,6 @@ use Prim.Native.Nat.{ℕ, suc, ◌+◌, ◌*◌, ◌/◌, ◌<◌, ◌≤◌}
 use native.Mathlib.Omega.{arith}
 use lib.ListN.{length, get_or, take, length-append}
 use lib.Seq.{take-suc, take_all}
-use Rattle.surface_rules.specs.declared.Found.{Found}
-use Rattle.surface_rules.specs.declared.Found.TheVariants.{At}
 use Rattle.surface_rules.specs.Edges.{Sound, start_of, end_of, is_open}
 use Rattle.loop_rules.specs.Loops.{Split, starts_at, cut, grow, grow_all, cycle, leads, loops_of, loops_below}
 use Rattle.loop_rules.proofs.Laws.Linked.{FromTo, from_to_cut, closed_from_to}
@@ -57,11 +56,11 @@ module _ (corners : List ℕ) (sound : Sound corners) (h : ℕ) (lh : h < length
   after_few = walk_few corners sound h lh t
 
   -- a loop that the next edge closes has room in the list of loops
-  pub after_room : (k : ℕ) → k < length (cycle corners h) → (j : ℕ) → starts_at corners ((after corners h k).path ++ (ahead corners k h ∷ [])) (end_of corners (ahead corners k h)) ≡ At j → length (after corners h k).listed < length corners / 3
+  pub after_room : (k : ℕ) → k < length (cycle corners h) → (j : ℕ) → starts_at corners ((after corners h k).path ++ (ahead corners k h ∷ [])) (end_of corners (ahead corners k h)) ≡ Some j → length (after corners h k).listed < length corners / 3
   unfolding grow
   after_room k l j q =
-      let g : after corners h (suc k) ≡ cut (At j) ((after corners h k).path ++ (ahead corners k h ∷ [])) (after corners h k).listed =
-      after_more k l ∙ ap (λ (z : Found). cut z ((after corners h k).path ++ (ahead corners k h ∷ [])) (after corners h k).listed) q in
+      let g : after corners h (suc k) ≡ cut (Some j) ((after corners h k).path ++ (ahead corners k h ∷ [])) (after corners h k).listed =
+      after_more k l ∙ ap (λ (z : Option ℕ). cut z ((after corners h k).path ++ (ahead corners k h ∷ [])) (after corners h k).listed) q in
       let n : length (after corners h (suc k)).listed ≡ length (after corners h k).listed + 1 = ap (λ (s : Split). length s.listed) g ∙ length-append (after corners h k).listed _ in
       omega (arith, after_few (suc k) l, after_fits (suc k) l)
 

@@ -1,4 +1,5 @@
 -- The walk around one cycle, edge by edge: an edge that was not walked is the cycle's next one, and one that was is the first again.
+use Rattle.std.specs.Prelude.{Some}
 use mathlib.Core.Path.{◌≡◌, refl, sym, ap, ◌∙◌, subst}
 use mathlib.Core.Bool.{true, true≢false}
 use mathlib.Core.List.{List, [], ◌∷◌, ◌++◌, append-nil, append_assoc}
@@ -8,8 +9,6 @@ use native.Mathlib.Nat.{eq-or-lt_of_le}
 use native.Mathlib.Omega.{arith}
 use lib.ListN.{length, get_or, take, set, length-set}
 use lib.Seq.{get_or-take, take_all, length-take-le}
-use Rattle.base_limits.specs.Limits as limits
-use Rattle.surface_rules.specs.declared.Found.TheVariants.{At}
 use Rattle.surface_rules.specs.Edges.{Sound, following, start_of, end_of, is_open}
 use Rattle.surface_rules.proofs.Laws.Edges.{below_after}
 use Rattle.surface_twins.specs.Workings.Turns.{open_mark}
@@ -148,23 +147,19 @@ module _ {corners : List ℕ} {h : ℕ} {w₀ : Walk} {from : Listed} (pre : Cyc
       fits_next : total next_one.listed + length next_one.path ≤ length corners
       fits_next = after_fits corners sound h pre.edge pre.leading (suc go.gone) more
 
-      -- what stands there is small
-      pub going_turn : get_or w.turns e 0 < open_mark + limits.corners
-      going_turn = let s = at_open.says in let b = pre.room.few in omega (arith, below_after corners sound e going_edge)
-
       module _ {f : ℕ} (fe : f ≡ get_or w.turns e 0 - open_mark) where
         going_after : f ≡ following e
         going_after = let s = at_open.says in omega arith
 
         -- a loop that e closes has its entry
-        entry_room : {j : ℕ} → starts_at corners (take at.path w.path ++ (e ∷ [])) (end_of corners e) ≡ At j → at.loops < length corners / 3
+        entry_room : {j : ℕ} → starts_at corners (take at.path w.path ++ (e ∷ [])) (end_of corners e) ≡ Some j → at.loops < length corners / 3
         entry_room {j} q =
             let c : at.loops ≡ length now.listed = go.stands.lists.count in
             omega (
               arith,
               after_room corners sound h pre.edge pre.leading go.gone more j
-                  (subst (λ (x : ℕ). starts_at corners (now.path ++ (x ∷ [])) (end_of corners x) ≡ At j) go.here
-                  (subst (λ (p : List ℕ). starts_at corners (p ++ (e ∷ [])) (end_of corners e) ≡ At j) go.stands.along q)),
+                  (subst (λ (x : ℕ). starts_at corners (now.path ++ (x ∷ [])) (end_of corners x) ≡ Some j) go.here
+                  (subst (λ (p : List ℕ). starts_at corners (p ++ (e ∷ [])) (end_of corners e) ≡ Some j) go.stands.along q)),
             )
 
         pub going_room : GrowRoom corners e f w.path w.places w.ledger at

@@ -1,4 +1,5 @@
 -- The table of turns tells every half-edge's state: what is not open has a turn, below both marks, and an open edge has one of the marks.
+use Rattle.std.specs.Prelude.{Option, Some, None}
 use mathlib.Core.Path.{◌≡◌, refl, sym, ap, ap₂, ◌∙◌, subst}
 use mathlib.Core.Bool.{Bool, true, false, ◌||◌, true≢false, or_assoc, or-false, or-true}
 use mathlib.Core.List.{List, [], ◌∷◌, ◌++◌}
@@ -11,8 +12,6 @@ use lib.ListN.{length, get_or, set}
 use lib.Seq.{get_or-set_same, get_or-set_other}
 use borrow.Author.Tests.{eqb-true, eq-eqb, ne_eqb}
 use Rattle.base_limits.specs.Limits as limits
-use Rattle.surface_rules.specs.declared.Found.{Found}
-use Rattle.surface_rules.specs.declared.Found.TheVariants.{At, Nothing}
 use Rattle.surface_rules.specs.Edges.{Sound, following, twin, is_open}
 use Rattle.surface_rules.proofs.Laws.Tests.{eq_or_not}
 use Rattle.surface_rules.proofs.Laws.Edges.{below_after, twin_says, open_none, none_open, not_open}
@@ -62,9 +61,9 @@ pub turned_begins : (corners turns : List ℕ) → Turns corners turns → Turne
 unfolding Turns Turned holds
 turned_begins corners turns h e l = h e l ∙ go (twin corners e)
   where
-    go : (f : Found) → turn_by f e ≡ turn_now f false e
-    go (At g) = refl
-    go Nothing = refl
+    go : (f : Option ℕ) → turn_by f e ≡ turn_now f false e
+    go (Some g) = refl
+    go None = refl
 
 -- the table with a list that holds the same
 pub turned_same : (corners a b turns : List ℕ) → a ≡ b → Turned corners a turns → Turned corners b turns
@@ -81,15 +80,15 @@ module _ (corners : List ℕ) (sound : Sound corners) (few : length corners ≤ 
   unfolding Turned step
   closed_turn e l o =
       let t = not_open corners e o in
-      let q : get_or turns e 0 ≡ following t.0 = table e l ∙ ap (λ (f : Found). turn_now f (holds e walked) e) t.1 in
-      (q ∙ sym (ap (λ (f : Found). across f e) t.1), omega (arith, below_after corners sound t.0 (twin_says corners e t.0 t.1).0))
+      let q : get_or turns e 0 ≡ following t.0 = table e l ∙ ap (λ (f : Option ℕ). turn_now f (holds e walked) e) t.1 in
+      (q ∙ sym (ap (λ (f : Option ℕ). across f e) t.1), omega (arith, below_after corners sound t.0 (twin_says corners e t.0 t.1).0))
 
   -- an open edge has a mark
   pub open_mark_lem : (e : ℕ) → e < length corners → is_open corners e ≡ true → walked_mark ≤ get_or turns e 0
   unfolding Turned
-  open_mark_lem e l o = go (holds e walked) (table e l ∙ ap (λ (f : Found). turn_now f (holds e walked) e) (open_none corners e o))
+  open_mark_lem e l o = go (holds e walked) (table e l ∙ ap (λ (f : Option ℕ). turn_now f (holds e walked) e) (open_none corners e o))
     where
-      go : (t : Bool) → get_or turns e 0 ≡ turn_now Nothing t e → walked_mark ≤ get_or turns e 0
+      go : (t : Bool) → get_or turns e 0 ≡ turn_now None t e → walked_mark ≤ get_or turns e 0
       go true q = omega arith
       go false q = omega arith
 
@@ -98,10 +97,10 @@ module _ (corners : List ℕ) (sound : Sound corners) (few : length corners ≤ 
   unfolding Turned
   open_at e l m = go (twin corners e) refl (holds e walked) refl
     where
-      go : (f : Found) → twin corners e ≡ f → (t : Bool) → holds e walked ≡ t → OpenAt corners walked turns e
-      go (At g) p t q = let s : get_or turns e 0 ≡ following g = table e l ∙ ap (λ (f : Found). turn_now f (holds e walked) e) p in absurd (omega (arith, below_after corners sound g (twin_says corners e g p).0))
-      go Nothing p true q = let s : get_or turns e 0 ≡ walked_mark = table e l ∙ ap₂ (λ (f : Found) (t : Bool). turn_now f t e) p q in absurd (omega arith)
-      go Nothing p false q = record { opens = none_open corners e p; new = q; says = table e l ∙ ap₂ (λ (f : Found) (t : Bool). turn_now f t e) p q }
+      go : (f : Option ℕ) → twin corners e ≡ f → (t : Bool) → holds e walked ≡ t → OpenAt corners walked turns e
+      go (Some g) p t q = let s : get_or turns e 0 ≡ following g = table e l ∙ ap (λ (f : Option ℕ). turn_now f (holds e walked) e) p in absurd (omega (arith, below_after corners sound g (twin_says corners e g p).0))
+      go None p true q = let s : get_or turns e 0 ≡ walked_mark = table e l ∙ ap₂ (λ (f : Option ℕ) (t : Bool). turn_now f t e) p q in absurd (omega arith)
+      go None p false q = record { opens = none_open corners e p; new = q; says = table e l ∙ ap₂ (λ (f : Option ℕ) (t : Bool). turn_now f t e) p q }
 
   -- and what stands below it was walked, if it is open
   pub walked_at : (e : ℕ) → e < length corners → get_or turns e 0 < open_mark → is_open corners e ≡ true → Among e walked
@@ -110,7 +109,7 @@ module _ (corners : List ℕ) (sound : Sound corners) (few : length corners ≤ 
     where
       go : (t : Bool) → holds e walked ≡ t → Among e walked
       go true q = holds_among e walked q
-      go false q = let s : get_or turns e 0 ≡ open_mark + following e = table e l ∙ ap₂ (λ (f : Found) (t : Bool). turn_now f t e) (open_none corners e o) q in absurd (omega arith)
+      go false q = let s : get_or turns e 0 ≡ open_mark + following e = table e l ∙ ap₂ (λ (f : Option ℕ) (t : Bool). turn_now f t e) (open_none corners e o) q in absurd (omega arith)
 
   -- one more edge is walked
   pub turned_more : (e : ℕ) → e < length turns → is_open corners e ≡ true → Turned corners (walked ++ (e ∷ [])) (set turns e walked_mark)
@@ -120,7 +119,7 @@ module _ (corners : List ℕ) (sound : Sound corners) (few : length corners ≤ 
       (λ (q : x ≡ e).
       ap (λ (z : ℕ). get_or (set turns e walked_mark) z 0) q
       ∙ get_or-set_same turns e walked_mark 0 l
-      ∙ sym (ap₂ (λ (f : Found) (t : Bool). turn_now f t x) (ap (twin corners) q ∙ open_none corners e o) (holds_append x walked (e ∷ []) ∙ ap (λ (t : Bool). holds x walked || t) (ap (λ (z : ℕ). holds z (e ∷ [])) q ∙ holds_one e) ∙ or-true (holds x walked))))
+      ∙ sym (ap₂ (λ (f : Option ℕ) (t : Bool). turn_now f t x) (ap (twin corners) q ∙ open_none corners e o) (holds_append x walked (e ∷ []) ∙ ap (λ (t : Bool). holds x walked || t) (ap (λ (z : ℕ). holds z (e ∷ [])) q ∙ holds_one e) ∙ or-true (holds x walked))))
       (λ (q : x ≡ e → ⊥).
       get_or-set_other turns e x walked_mark 0 q
       ∙ table x m

@@ -1,34 +1,17 @@
 -- `list_cycle` walks the cycle edge by edge until it comes to one that was walked, which is the first.
-use Prim.Native.Nat.{◌-◌, ◌<◌}
 use mathlib.Core.Path.{refl}
 use native.Mathlib.Omega.{arith}
-use lib.ListN.{length}
-use Rattle.loop_find.proofs.Laws.Going.{going_begins, going_index, going_turn, going_room, going_landing, going_on, going_less, going_ends}
+use Rattle.loop_find.proofs.Laws.Going.{going_begins, going_index, going_room, going_landing, going_on, going_less, going_ends}
 use Rattle.loop_find.proofs.list_cycle.Goals as goal
 
 pub loop-turns-init : goal.loop-turns-init
 loop-turns-init c = going_begins c.requires
 
 pub offset_bounds-turns-e : goal.offset_bounds-turns-e
-offset_bounds-turns-e c = omega (arith, (let it : c.loop-turns.e < length c.loop-turns.turns = going_index c.requires c.loop-turns.invariant in it))
+offset_bounds-turns-e c = omega (arith, going_index c.requires c.loop-turns.invariant)
 
 pub bounds-turns-e : goal.bounds-turns-e
-bounds-turns-e c = (let it : c.loop-turns.e < length c.loop-turns.turns = going_index c.requires c.loop-turns.invariant in it)
-
-pub offset_bounds-turns-e-in-loop-turns : goal.offset_bounds-turns-e-in-loop-turns
-offset_bounds-turns-e-in-loop-turns c = omega (arith, (let it : c.loop-turns.e < length c.loop-turns.turns = going_index c.requires c.loop-turns.invariant in it))
-
-pub bounds-turns-e-in-loop-turns : goal.bounds-turns-e-in-loop-turns
-bounds-turns-e-in-loop-turns c = (let it : c.loop-turns.e < length c.loop-turns.turns = going_index c.requires c.loop-turns.invariant in it)
-
-pub overflow_cast-f : goal.overflow_cast-f
-overflow_cast-f c = omega (arith, going_turn c.requires c.loop-turns.invariant c.loop-turns-test.true)
-
-pub offset_bounds-turns-e-in-loop-turns-2 : goal.offset_bounds-turns-e-in-loop-turns-2
-offset_bounds-turns-e-in-loop-turns-2 c = omega (arith, (let it : c.loop-turns.e < length c.loop-turns.turns = going_index c.requires c.loop-turns.invariant in it))
-
-pub bounds-turns-e-in-loop-turns-2 : goal.bounds-turns-e-in-loop-turns-2
-bounds-turns-e-in-loop-turns-2 c = (let it : c.loop-turns.e < length c.loop-turns.turns = going_index c.requires c.loop-turns.invariant in it)
+bounds-turns-e c = going_index c.requires c.loop-turns.invariant
 
 pub grow-at-requires : goal.grow-at-requires
 grow-at-requires c = going_room c.requires c.loop-turns.invariant c.loop-turns-test.true refl

@@ -1,5 +1,4 @@
 -- `list_with` goes over all half-edges, walks a cycle where one leads, and passes over those that do not.
-use Prim.Native.Nat.{◌-◌}
 use Rattle.loop_find.proofs.Laws.Through.{through_begins, through_skips, through_room, through_on, through_ends}
 use Rattle.loop_find.proofs.list_with.Goals as goal
 
@@ -24,5 +23,5 @@ loop-h-preserved c =
       firsts_same = search c.list_cycle-at.auto;
     })
 
-pub returns : goal.returns
-returns c = record { lists_loops = through_ends c.requires c.loop-h.invariant c.loop-h-test.false; keeps_turns = (_, c.loop-h.invariant.turned) }
+pub returns-clause-lists_loops : goal.returns-clause-lists_loops
+returns-clause-lists_loops c = through_ends c.requires c.loop-h.invariant c.loop-h-test.false

@@ -1,8 +1,6 @@
 -- What holds while the code walks, and what is left of the table of turns.
-use Rattle.std.specs.Prelude.{◌≡◌, Bool, true, false, ◌||◌, List, [], ◌∷◌, ℕ, suc, ◌+◌, ◌/◌, ◌≤◌, ◌<◌, eqb, length, get_or}
+use Rattle.std.specs.Prelude.{◌≡◌, Bool, true, false, ◌||◌, List, [], ◌∷◌, ℕ, suc, ◌+◌, ◌/◌, ◌≤◌, ◌<◌, eqb, length, get_or, Option, Some, None}
 use Rattle.base_limits.specs.Limits as limits
-use Rattle.surface_rules.specs.declared.Found.{Found}
-use Rattle.surface_rules.specs.declared.Found.TheVariants.{At, Nothing}
 use Rattle.surface_rules.specs.Edges.{Sound, following, twin}
 use Rattle.surface_twins.specs.Workings.Turns.{open_mark}
 use Rattle.loop_rules.specs.Loops.{leads, loops_below}
@@ -19,10 +17,10 @@ holds e [] = false
 holds e (x ∷ l) = eqb e x || holds e l
 
 -- the turn from e, or the mark of an open edge, walked or not
-abbrev pub turn_now : Found → Bool → ℕ → ℕ
-turn_now (At g) w e = following g
-turn_now Nothing true e = walked_mark
-turn_now Nothing false e = open_mark + following e
+abbrev pub turn_now : Option ℕ → Bool → ℕ → ℕ
+turn_now (Some g) w e = following g
+turn_now None true e = walked_mark
+turn_now None false e = open_mark + following e
 
 -- the table has every half-edge's turn, once the edges `walked` were walked
 unfoldable pub Turned : List ℕ → List ℕ → List ℕ → Type 0

@@ -1,5 +1,5 @@
 -- What is quiet stays quiet one half-edge further on, where that one is.
-use mathlib.Core.Path.{◌≡◌, refl, sym, subst}
+use mathlib.Core.Path.{◌≡◌, refl, sym}
 use mathlib.Core.Bool.{Bool, true, false, ◌&&◌, true≢false}
 use mathlib.Core.List.{List}
 use mathlib.Core.Logic.{⊎_elim}
@@ -36,6 +36,3 @@ quiet_before turns h i l q = quiet_join turns h (h + 1) i (quiet_more turns h h 
 pub all_quiet : (turns : List ℕ) (h i : ℕ) (all : Bool) → (all ≡ true → Quiet turns h i) → (all && ltb (get_or turns i 0) open_mark) ≡ true → Quiet turns h (i + 1)
 all_quiet turns h i true q e = quiet_more turns h i (q refl) (ltb-true _ _ e)
 all_quiet turns h i false q e = absurd (true≢false (sym e))
-
-pub quiet_end : (turns : List ℕ) (h i n : ℕ) (all : Bool) → (all ≡ true → Quiet turns h i) → i ≡ n → all ≡ true → Quiet turns h n
-quiet_end turns h i n all q e t = subst (Quiet turns h) e (q t)

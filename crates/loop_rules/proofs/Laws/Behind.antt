@@ -1,10 +1,9 @@
 -- What a walk lists is put behind what was listed before and does not depend on it, since a cut looks only at the path; so a walk can be
 -- taken in parts.
+use Rattle.std.specs.Prelude.{Option, Some, None}
 use mathlib.Core.Path.{◌≡◌, refl, ap, ◌∙◌}
 use mathlib.Core.List.{List, [], ◌∷◌, ◌++◌, append-nil, append_assoc}
 use Prim.Native.Nat.{ℕ}
-use Rattle.surface_rules.specs.declared.Found.{Found}
-use Rattle.surface_rules.specs.declared.Found.TheVariants.{At, Nothing}
 use Rattle.surface_rules.specs.Edges.{end_of}
 use Rattle.loop_rules.specs.Loops.{Split, starts_at, cut, grow, grow_all}
 
@@ -21,9 +20,9 @@ module _ (corners : List ℕ) where
   unfolding grow
   grow_behind ls t e = go (starts_at corners (t.path ++ (e ∷ [])) (end_of corners e))
     where
-      go : (f : Found) → cut f (t.path ++ (e ∷ [])) (ls ++ t.listed) ≡ behind ls (cut f (t.path ++ (e ∷ [])) t.listed)
-      go (At j) = rw append_assoc
-      go Nothing = refl
+      go : (f : Option ℕ) → cut f (t.path ++ (e ∷ [])) (ls ++ t.listed) ≡ behind ls (cut f (t.path ++ (e ∷ [])) t.listed)
+      go (Some j) = rw append_assoc
+      go None = refl
 
   pub grow_all_behind : (ls : List (List ℕ)) (t : Split) (es : List ℕ) → grow_all corners (behind ls t) es ≡ behind ls (grow_all corners t es)
   unfolding grow_all

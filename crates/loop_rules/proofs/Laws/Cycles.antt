@@ -1,4 +1,5 @@
 -- The open edges fall into cycles: next is one-to-one, so the first edge that comes a second time on the way from h is h itself.
+use Rattle.std.specs.Prelude.{Option, Some, None}
 use mathlib.Core.Path.{◌≡◌, refl, sym, ap, ◌∙◌}
 use mathlib.Core.Bool.{Bool, true, false, cond}
 use mathlib.Core.List.{List, [], ◌∷◌}
@@ -9,8 +10,6 @@ use native.Mathlib.Omega.{arith}
 use lib.Dec.{eqb}
 use lib.ListN.{length, get_or}
 use borrow.Author.Tests.{eqb-true, eqb-false, eq-eqb}
-use Rattle.surface_rules.specs.declared.Found.{Found}
-use Rattle.surface_rules.specs.declared.Found.TheVariants.{At, Nothing}
 use Rattle.surface_rules.specs.Smallest.{least}
 use Rattle.surface_rules.specs.Edges.{Sound, is_open}
 use Rattle.surface_rules.proofs.Laws.Smallest.{least_never, least_sound, least_first}
@@ -90,9 +89,9 @@ module _ (corners : List ℕ) (sound : Sound corners) where
     pub period : (p : ℕ) × Period corners h p
     period = go (least (λ (k : ℕ). eqb (ahead corners (suc k) h) h) (length corners)) refl
       where
-        go : (f : Found) → least (λ (k : ℕ). eqb (ahead corners (suc k) h) h) (length corners) ≡ f → (p : ℕ) × Period corners h p
-        go (At p) e = let s = least_sound _ _ _ e in (p, record { short = s.0; closes = eqb-true _ _ s.1; first = least_first _ _ _ e })
-        go Nothing e =
+        go : (f : Option ℕ) → least (λ (k : ℕ). eqb (ahead corners (suc k) h) h) (length corners) ≡ f → (p : ℕ) × Period corners h p
+        go (Some p) e = let s = least_sound _ _ _ e in (p, record { short = s.0; closes = eqb-true _ _ s.1; first = least_first _ _ _ e })
+        go None e =
             absurd
             (crowded (length corners) (λ k. ahead corners k h) (λ i l. ahead_below h lh i)
             (λ i j l m q. new i j l (λ k n. least_never _ _ e k (omega arith)) q))

@@ -1,4 +1,5 @@
 -- Next is one-to-one on the open edges: each step of a turn can be taken back, no step leads to the edge where a turn begins, so a turn never repeats an edge and ends.
+use Rattle.std.specs.Prelude.{Option, Some, None}
 use mathlib.Core.Path.{◌≡◌, refl, sym, ap, ◌∙◌}
 use mathlib.Core.Bool.{true, false}
 use mathlib.Core.List.{List}
@@ -7,8 +8,6 @@ use native.Mathlib.Nat.{le_refl, le_of_suc-le-suc}
 use native.Mathlib.Decide.{le_ind}
 use native.Mathlib.Omega.{arith}
 use lib.ListN.{length}
-use Rattle.surface_rules.specs.declared.Found.{Found}
-use Rattle.surface_rules.specs.declared.Found.TheVariants.{At, Nothing}
 use Rattle.surface_rules.specs.Smallest.{least}
 use Rattle.surface_rules.specs.Edges.{Sound, following, start_of, end_of, twin, is_open}
 use Rattle.surface_rules.proofs.Laws.Smallest.{least_never, least_sound, least_first}
@@ -18,25 +17,25 @@ use Rattle.loop_rules.proofs.Laws.Pigeon.{crowded}
 
 -- ---- a turn that came to an open edge stays there
 
-pub turn_stays : (corners : List ℕ) (k n e a : ℕ) → e ≡ turn corners k a → twin corners e ≡ Nothing → k ≤ n → e ≡ turn corners n a
+pub turn_stays : (corners : List ℕ) (k n e a : ℕ) → e ≡ turn corners k a → twin corners e ≡ None → k ≤ n → e ≡ turn corners n a
 unfolding turn step
 turn_stays corners k n e a h t l = le_ind (λ (m : ℕ). e ≡ turn corners m a) h (λ m q p. rw (← p, t)) n l
 
 -- ---- one step
 
 -- an edge that is not open has a twin, by which its step goes
-steps_by : (corners : List ℕ) (e : ℕ) → is_open corners e ≡ false → (g : ℕ) × (twin corners e ≡ At g) × (step corners e ≡ following g)
+steps_by : (corners : List ℕ) (e : ℕ) → is_open corners e ≡ false → (g : ℕ) × (twin corners e ≡ Some g) × (step corners e ≡ following g)
 unfolding step
-steps_by corners e h = let t = not_open corners e h in (t.0, t.1, ap (λ (f : Found). across f e) t.1)
+steps_by corners e h = let t = not_open corners e h in (t.0, t.1, ap (λ (f : Option ℕ). across f e) t.1)
 
 -- a step keeps the vertex
 pub step_start : (corners : List ℕ) (e : ℕ) → start_of corners (step corners e) ≡ start_of corners e
 unfolding step
 step_start corners e = go (twin corners e) refl
   where
-    go : (f : Found) → twin corners e ≡ f → start_of corners (across f e) ≡ start_of corners e
-    go (At g) d = (twin_says corners e g d).1.ends
-    go Nothing d = refl
+    go : (f : Option ℕ) → twin corners e ≡ f → start_of corners (across f e) ≡ start_of corners e
+    go (Some g) d = (twin_says corners e g d).1.ends
+    go None d = refl
 
 -- so the next edge starts where h ends
 pub next_start : (corners : List ℕ) (h : ℕ) → start_of corners (next corners h) ≡ end_of corners h
@@ -61,15 +60,15 @@ module _ (corners : List ℕ) (sound : Sound corners) where
       let a = steps_by corners e oe in
       let b = steps_by corners f of in
       let g : a.0 ≡ b.0 = following_inj _ _ (sym a.2 ∙ q ∙ b.2) in
-      twin_inj corners sound e f b.0 le lf (a.1 ∙ ap At g) b.1
+      twin_inj corners sound e f b.0 le lf (a.1 ∙ ap Some g) b.1
 
   step_below : (e : ℕ) → e < length corners → step corners e < length corners
   unfolding step
   step_below e l = go (twin corners e) refl
     where
-      go : (f : Found) → twin corners e ≡ f → across f e < length corners
-      go (At g) d = below_after corners sound g (twin_says corners e g d).0
-      go Nothing d = l
+      go : (f : Option ℕ) → twin corners e ≡ f → across f e < length corners
+      go (Some g) d = below_after corners sound g (twin_says corners e g d).0
+      go None d = l
 
   pub turn_below : (e : ℕ) → e < length corners → (k : ℕ) → turn corners k e < length corners
   unfolding turn
@@ -125,13 +124,13 @@ module _ (corners : List ℕ) (sound : Sound corners) where
     unfolding next
     reach = go (least (λ (i : ℕ). is_open corners (hand h i)) (suc (length corners))) refl
       where
-        go : (f : Found) → least (λ (i : ℕ). is_open corners (hand h i)) (suc (length corners)) ≡ f → (k : ℕ) × Reaches corners h k
-        go (At k) e =
+        go : (f : Option ℕ) → least (λ (i : ℕ). is_open corners (hand h i)) (suc (length corners)) ≡ f → (k : ℕ) × Reaches corners h k
+        go (Some k) e =
             let s = least_sound _ _ _ e in
             let w : k ≤ length corners = le_of_suc-le-suc s.0 in
             let stays = turn_stays corners k (length corners) (hand h k) (following h) refl (open_none corners (hand h k) s.1) w in
             (k, record { within = w; lands = sym stays; opens = s.1; closed = least_first _ _ _ e })
-        go Nothing e =
+        go None e =
             absurd
             (crowded (length corners) (hand h) (λ i l. hand_below h lh i)
             (λ i j l m q. differ i j l (λ k n. least_never _ _ e k (omega arith)) q))

@@ -1,12 +1,11 @@
 -- A walk loses no edge and makes none: counts and lengths, or whatever adds up over lists in a row, come to the same over the listed
 -- loops with the path as over the edges walked, since a cut only parts the path.
+use Rattle.std.specs.Prelude.{Option, Some, None}
 use mathlib.Core.Path.{◌≡◌, refl, sym, ap, ◌∙◌}
 use mathlib.Core.List.{List, [], ◌∷◌, ◌++◌, flatten, append-nil}
 use Prim.Native.Nat.{ℕ, ◌+◌}
 use native.Mathlib.Omega.{arith}
 use lib.ListN.{length, take, drop, length-append, take-append-drop}
-use Rattle.surface_rules.specs.declared.Found.{Found}
-use Rattle.surface_rules.specs.declared.Found.TheVariants.{At, Nothing}
 use Rattle.surface_rules.specs.Edges.{end_of}
 use Rattle.surface_rules.proofs.Laws.Lists.{flatten_append}
 use Rattle.loop_rules.specs.Loops.{Split, starts_at, cut, grow, grow_all}
@@ -21,9 +20,9 @@ flatten_snoc a l = flatten_append a (l ∷ []) ∙ ap (λ (z : List ℕ). flatte
 -- ---- what adds up
 
 module _ (m : List ℕ → ℕ) (adds : (a b : List ℕ) → m (a ++ b) ≡ m a + m b) where
-  cut_adds : (f : Found) (p : List ℕ) (ls : List (List ℕ)) → m (flatten (cut f p ls).listed) + m (cut f p ls).path ≡ m (flatten ls) + m p
-  cut_adds Nothing p ls = refl
-  cut_adds (At j) p ls =
+  cut_adds : (f : Option ℕ) (p : List ℕ) (ls : List (List ℕ)) → m (flatten (cut f p ls).listed) + m (cut f p ls).path ≡ m (flatten ls) + m p
+  cut_adds None p ls = refl
+  cut_adds (Some j) p ls =
       let a : m (flatten (ls ++ (drop j p ∷ []))) ≡ m (flatten ls) + m (drop j p) = ap m (flatten_snoc ls (drop j p)) ∙ adds (flatten ls) (drop j p) in
       let b : m p ≡ m (take j p) + m (drop j p) = ap m (sym (take-append-drop j p)) ∙ adds (take j p) (drop j p) in
       omega arith

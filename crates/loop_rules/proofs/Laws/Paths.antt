@@ -1,5 +1,6 @@
 -- A path that grows meets no vertex twice and never its own end, since it is cut back to the first edge that starts there; so what is
 -- cut off comes back to where it began and meets no vertex twice, and a walk that comes back to where it began leaves no path behind.
+use Rattle.std.specs.Prelude.{Option, Some, None}
 use mathlib.Core.Path.{◌≡◌, refl, sym, ap, ◌∙◌, subst}
 use mathlib.Core.List.{List, [], ◌∷◌, ◌++◌, map-append}
 use Prim.Native.Nat.{ℕ, zero, suc, ◌<◌}
@@ -8,8 +9,6 @@ use native.Mathlib.Omega.{arith}
 use lib.ListN.{length, get_or, take, drop, length-drop, length-map}
 use lib.Seq.{get_or-take, length-take-le}
 use borrow.Author.Tests.{eqb-true, eqb-false, ne_eqb}
-use Rattle.surface_rules.specs.declared.Found.{Found}
-use Rattle.surface_rules.specs.declared.Found.TheVariants.{At, Nothing}
 use Rattle.surface_rules.specs.Edges.{start_of, end_of}
 use Rattle.surface_rules.proofs.Laws.Lists.{map_at}
 use Rattle.surface_rules.proofs.Laws.Smallest.{least_sound, least_never, least_first, never_least}
@@ -48,7 +47,7 @@ module _ (corners : List ℕ) where
   walked_fresh s = record { path = path_none s; loops = each_none (Loop corners) }
 
   -- no edge of a path starts where it ends, so it is not cut there again
-  pub path_free : (s : ℕ) (p : List ℕ) (x : ℕ) → PathFrom corners s p x → starts_at corners p x ≡ Nothing
+  pub path_free : (s : ℕ) (p : List ℕ) (x : ℕ) → PathFrom corners s p x → starts_at corners p x ≡ None
   unfolding starts_at
   path_free s p x h = never_least _ (length p) (λ i l. ne_eqb _ _ (h.free i l))
 
@@ -83,13 +82,13 @@ module _ (corners : List ℕ) where
       apart : Distinct (ring corners p)
       apart = push_apart s t.path e h.path
 
-      go : (f : Found) → starts_at corners p x ≡ f → Walked corners s (cut f p t.listed) x
-      go Nothing d =
+      go : (f : Option ℕ) → starts_at corners p x ≡ f → Walked corners s (cut f p t.listed) x
+      go None d =
           record {
             path = record { goes = goes; apart = apart; free = λ i l. eqb-false _ _ (least_never _ _ d i l) };
             loops = h.loops;
           }
-      go (At j) d =
+      go (Some j) d =
           let w = least_sound _ _ _ d in
           let q : start_of corners (get_or p j 0) ≡ x = eqb-true _ _ w.1 in
           let halves = from_to_cut corners s p x j goes w.0 in
@@ -111,7 +110,7 @@ module _ (corners : List ℕ) where
                 }));
           }
 
-  pub grow_free : (s : ℕ) (t : Split) (e : ℕ) → Walked corners s t (start_of corners e) → starts_at corners (grow corners t e).path (end_of corners e) ≡ Nothing
+  pub grow_free : (s : ℕ) (t : Split) (e : ℕ) → Walked corners s t (start_of corners e) → starts_at corners (grow corners t e).path (end_of corners e) ≡ None
   grow_free s t e h = path_free s (grow corners t e).path (end_of corners e) (grow_walked s t e h).path
 
   pub grow_all_walked : (s : ℕ) (t : Split) (x : ℕ) (es : List ℕ) (y : ℕ) → FromTo corners x es y → Walked corners s t x → Walked corners s (grow_all corners t es) y

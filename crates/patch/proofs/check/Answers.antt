@@ -1,16 +1,13 @@
 -- `check` refuses a number that is no pitch, and hands on one that is.
-use mathlib.Core.Path.{◌≡◌}
-use Rattle.base_types.specs.Pitches.{pitch_of}
-use Rattle.base_types.proofs.Laws.Pitches.{named_none, named_is}
+use Rattle.std.proofs.lemmas.Result.{err_from_is_err_and}
 use Rattle.patch_surface.specs.Outcome.{Buffers, buffers}
 use Rattle.patch_surface.proofs.Laws.Answering.{pitch_says}
 use Rattle.patch.proofs.check.Goals as goal
 
-pub returns-in-Nothing : goal.returns-in-Nothing
-returns-in-Nothing c = pitch_says (buffers c.args.grid.now c.args.rings.now c.args.records.now c.args.patches.now) c.args.pitch (named_none _ c.of.ensures c.in-Nothing.is)
+pub returns-in_err-step : goal.returns-in_err-step
+returns-in_err-step c =
+    let p = err_from_is_err_and c.from_residual.result c.from_residual.ensures.1 in
+    rw (p.1, p.2) (pitch_says (buffers c.args.grid.now c.args.rings.now c.args.records.now c.args.patches.now) c.args.pitch c.in_err-step.ensures)
 
-pub returns-in-Is : goal.returns-in-Is
-returns-in-Is c =
-    let p = c.in-Is.step in
-    let e : c.args.pitch ≡ pitch_of p = named_is _ p c.of.ensures c.in-Is.is in
-    rw e c.check_at.ensures
+pub returns : goal.returns
+returns c = rw c.in_ok-step.ensures c.check_at.ensures

@@ -74,20 +74,6 @@ module _ {grid : List ℤ} {input : List ℕ} {rims : List Bool} {rs : List (Lis
     becomes_other e fate m =
         subst (λ (k : Bool). Becomes grid input before k ring fate) (sym (mark_here false (ne_eqb (get_or c₀.states l 0) rim_mark (λ q. e (state_kept ∙ q))))) m
 
-    pub states_in : l < length c.states
-    states_in =
-        let a : length rs ≤ length c₀.states = lent.states_room in
-        let b : length c.states ≡ length c₀.states =
-        ap length g.states_are ∙ over_long (states_of g.fates) c₀.states (omega (arith, at_states)) in
-        omega arith
-
-    pub weights_inside : l < length c.weights
-    weights_inside =
-        let a : length rs ≤ length c₀.weights = lent.weights_room in
-        let b : length c.weights ≡ length c₀.weights =
-        ap length g.weights_are ∙ over_long (weights_of grid (take l rs) g.fates) c₀.weights (omega (arith, at_weights)) in
-        omega arith
-
     -- the next loop's patch has room
     pub patches_in : p + 3 * (length ring - 2) ≤ length c.patches
     patches_in =

@@ -9,12 +9,13 @@ use lib.IntN.{ℤ}
 use lib.ListN.{length, get_or, take, drop, set, length-set}
 use lib.Seq.{set-get_or}
 use Rattle.surface_rules.proofs.Laws.Laid.{laid_none}
+use Rattle.base_limits.specs.Limits as limits
 use Rattle.fill_fates.specs.Fates.{rim}
 use Rattle.fill_fates.specs.Course.{laid_by}
 use Rattle.fill_scratch.specs.Workings.Rings.{Loops, RingPlace, rim_mark}
 use Rattle.fill_scratch.proofs.Laws.Reading.{as_many, length_at, ring_at_lem, places_of}
 use Rattle.patch_all.specs.Workings.Courses.{Docket, docket, Lent, CourseRoom, Ran, CourseDone}
-use Rattle.patch_all.proofs.Laws.Courses.{ran_begins, becomes_rim, states_in, weights_inside, ran_more, laid_next, ran_all}
+use Rattle.patch_all.proofs.Laws.Courses.{ran_begins, becomes_rim, ran_more, laid_next, ran_all}
 
 -- the loop is one of the rings', and the next one's ring begins behind its own
 module _ {grid : List ℤ} {input : List ℕ} {rs : List (List ℕ)} {rings lengths : List ℕ} (s : Loops grid input rs rings lengths) {l : ℕ} where
@@ -95,15 +96,9 @@ module _ {grid : List ℤ} {input rings lengths : List ℕ} {c₀ : Docket} wher
       pub places : RingPlace rings lengths l r
       places = places_of grid input room.rs rings lengths room.loops room.corners.few l r h here.read
 
-      pub state_in : l < length c.states
-      state_in = states_in room.loops room.lent (listed room.loops h) here
+      -- its ring stands among the rings
+      pub ring_within : r + get_or lengths l 0 ≤ length rings
+      ring_within = places.ring_in
 
-      pub weight_in : l < length c.weights
-      weight_in = weights_inside room.loops room.lent (listed room.loops h) here
-
--- there is a mark for each loop
-pub marks_long : {grid : List ℤ} {input rings lengths : List ℕ} {c : Docket} → CourseRoom grid input rings lengths c → length lengths ≤ length c.states
-marks_long {grid} {input} {rings} {lengths} {c} room =
-    let a : length lengths ≡ length room.rs = as_many grid input room.rs rings lengths room.loops in
-    let b : length room.rs ≤ length c.states = room.lent.states_room in
-    omega arith
+      pub rings_few : length rings ≤ limits.corners
+      rings_few = places.rings_few

@@ -15,6 +15,3 @@ returns-then-is_long c = search (takes_long, told_long)
 
 pub patch_middling-requires : goal.patch_middling-requires
 patch_middling-requires c = (c.requires, told_short c.of.ensures c.is_long.ensures c.if-is_long.false, omega (arith, c.if-n-eq3.false, c.requires.ring_of.three))
-
-pub returns : goal.returns
-returns c = c.patch_middling.ensures

@@ -17,8 +17,7 @@ use Rattle.cover_bars.specs.Bars.{barred}
 use Rattle.cover_bars.specs.Workings.Chains.{Tells, LaidRoom, LaidDone, BarsRoom, BarsDone}
 use Rattle.cover_bars.proofs.Laws.Barring.{tells_walkable}
 use Rattle.cover_bars.proofs.Laws.Patches.{patch_inside}
-use Rattle.cover_table.specs.declared.Least.{Least}
-use Rattle.cover_table.specs.declared.Least.TheVariants.{Weight, Nothing}
+use Rattle.std.proofs.Common.{Option, Some, None}
 use Rattle.cover_table.specs.Workings.Loops.{Barring}
 use Rattle.cover_trace.specs.Workings.Patches.{LaysIf, LaysPatch}
 use Rattle.cover_lay.specs.Workings.Patches as laying
@@ -91,18 +90,18 @@ module _ {grid : List ℤ} {ring : List ℕ} {t : Tray} {patches : List ℕ} {s 
         }
 
     -- what was found is so by what the chains tell
-    found : (least is : Least) (patches' : List ℕ) → least ≡ is → LaysPatch grid ring rows' patches s.corners least patches'
+    found : (least is : Option ℕ) (patches' : List ℕ) → least ≡ is → LaysPatch grid ring rows' patches s.corners least patches'
         → (input before : List ℕ) → told input before → LaysIf grid ring (barred input before ring) patches s.corners is patches'
     found least is patches' e answer input before tells =
-        subst (λ (z : Least). LaysIf grid ring (barred input before ring) patches s.corners z patches') e
+        subst (λ (z : Option ℕ). LaysIf grid ring (barred input before ring) patches s.corners z patches') e
         (answer (barred input before ring) (barring input before tells))
 
-    module _ {least : Least} {patches' : List ℕ} (answer : LaysPatch grid ring rows' patches s.corners least patches') where
-      pub takes_none : least ≡ Nothing → {table' : List Float} {r : Became}
+    module _ {least : Option ℕ} {patches' : List ℕ} (answer : LaysPatch grid ring rows' patches s.corners least patches') where
+      pub takes_none : least ≡ None → {table' : List Float} {r : Became}
           → (r.state ≡ stated.left_open) × (r.weight ≡ 0) × (r.corners ≡ s.corners) × (r.edges ≡ s.edges)
           → Takes grid ring t patches s r (tray t.heads t.links t.ends stamps' rows' table') patches'
       takes_none is (state, weighing, corners, edges) input before g b =
-          let x = found least Nothing patches' is answer input before b.tells in
+          let x = found least None patches' is answer input before b.tells in
           record {
             fate = uncovered;
             meets = (pre.1, x.0);
@@ -114,7 +113,7 @@ module _ {grid : List ℤ} {ring : List ℕ} {t : Tray} {patches : List ℕ} {s 
             few = omega arith;
           }
 
-      module _ {w : ℕ} (is : least ≡ Weight w) where
+      module _ {w : ℕ} (is : least ≡ Some w) where
         -- the loop is patched, and its patch stands up to the end
         stands : (c : Cover) → Covers 0 (length ring - 1) c → patches' ≡ laid s.corners (patch_of ring c) patches
             → slice s.corners end patches' ≡ patch_of ring c
@@ -124,7 +123,7 @@ module _ {grid : List ℤ} {ring : List ℕ} {t : Tray} {patches : List ℕ} {s 
 
         pub laid_room : LaidRoom patches' s.corners end t.heads t.links t.ends s.edges
         laid_room =
-            let x = found least (Weight w) patches' is answer room.input room.before room.ready.tells in
+            let x = found least (Some w) patches' is answer room.input room.before room.ready.tells in
             let c : Cover = x.0 in
             let h : Covers 0 (length ring - 1) c = x.1.among.covers in
             let k : end ≤ length patches = room.patches_room in
@@ -147,7 +146,7 @@ module _ {grid : List ℤ} {ring : List ℕ} {t : Tray} {patches : List ℕ} {s 
             → Takes grid ring t patches s (record { state = stated.patched; weight = w; corners = end; edges = f })
             (tray heads' links' ends' stamps' rows' table') patches'
         takes_some {f = f} done input before g b =
-            let x = found least (Weight w) patches' is answer input before b.tells in
+            let x = found least (Some w) patches' is answer input before b.tells in
             let c : Cover = x.0 in
             let h : Covers 0 (length ring - 1) c = x.1.among.covers in
             record {

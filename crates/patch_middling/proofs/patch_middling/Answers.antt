@@ -6,8 +6,8 @@ use Rattle.patch_middling.proofs.patch_middling.Goals as goal
 pub bars_of-requires : goal.bars_of-requires
 bars_of-requires c = bars_room c.requires
 
-pub lay_patch-least-requires : goal.lay_patch-least-requires
-lay_patch-least-requires c = patch_room c.requires c.bars_of.ensures
+pub lay_patch-requires : goal.lay_patch-requires
+lay_patch-requires c = patch_room c.requires c.bars_of.ensures
 
 pub overflow_sub-end : goal.overflow_sub-end
 overflow_sub-end c = omega (arith, c.requires.0.ring_of.three)
@@ -16,10 +16,10 @@ pub overflow_add-end : goal.overflow_add-end
 overflow_add-end c = omega (arith, c.requires.0.patches_room, c.well_formed)
 
 pub chain_laid-edges-requires : goal.chain_laid-edges-requires
-chain_laid-edges-requires c = laid_room c.requires c.bars_of.ensures c.lay_patch-least.ensures c.in-Weight.is
+chain_laid-edges-requires c = laid_room c.requires c.bars_of.ensures c.lay_patch.ensures c.in-Some.is
 
-pub returns-in-Nothing : goal.returns-in-Nothing
-returns-in-Nothing c = takes_none c.requires c.bars_of.ensures c.lay_patch-least.ensures c.in-Nothing.is c.unpatched.ensures
+pub returns-in_default : goal.returns-in_default
+returns-in_default c = (search, takes_none c.requires c.bars_of.ensures c.lay_patch.ensures c.in_default.is c.unpatched.ensures)
 
-pub returns-in-Weight : goal.returns-in-Weight
-returns-in-Weight c = takes_some c.requires c.bars_of.ensures c.lay_patch-least.ensures c.in-Weight.is c.chain_laid-edges.ensures
+pub returns : goal.returns
+returns c = (search, takes_some c.requires c.bars_of.ensures c.lay_patch.ensures c.in-Some.is c.chain_laid-edges.ensures.1)

@@ -9,8 +9,8 @@ use Rattle.surface_rules.specs.Buffers.{over, laid}
 use Rattle.surface_rules.proofs.Laws.Over.{over_none, over_long}
 use Rattle.surface_rules.proofs.Laws.Laid.{laid_over, laid_none, laid_more}
 use Rattle.patch_records.specs.Records.{numbers}
-use Rattle.patch_records.specs.Workings.Columns.{Columns, weights_from, row_of, rows, laid_records, LayRoom}
-use Rattle.patch_records.proofs.Laws.Sevens.{listed, listed_next, listed_none, sevens_length}
+use Rattle.patch_records.specs.Workings.Columns.{Columns, weights_from, row_of, rows, LayRoom}
+use Rattle.patch_records.proofs.Laws.Sevens.{listed_next, listed_none, sevens_length}
 
 -- seven numbers written one after the other are laid at once
 pub seven_laid : (out : List ℕ) (p a b c d e f g : ℕ) → p + 7 ≤ length out
@@ -49,30 +49,20 @@ rows_none c buffer = listed_none (λ (l : ℕ). numbers (row_of c buffer l))
 
 -- the first l records are laid
 pub record Going (c : Columns) (buffer : List ℕ) (l : ℕ) (now : List ℕ) : Type 0 where
-  pub within : l ≤ length c.lengths
   pub kept : length now ≡ length buffer
   pub laid_are : now ≡ over (rows c buffer l) buffer
 
 module _ {c : Columns} {buffer : List ℕ} (room : LayRoom c buffer) where
   pub going_begins : Going c buffer 0 buffer
-  going_begins = record { within = omega arith; kept = refl; laid_are = sym (over_none buffer) ∙ ap (λ (x : List ℕ). over x buffer) (sym (rows_none c buffer)) }
+  going_begins = record { kept = refl; laid_are = sym (over_none buffer) ∙ ap (λ (x : List ℕ). over x buffer) (sym (rows_none c buffer)) }
 
   module _ {l : ℕ} {now : List ℕ} (g : Going c buffer l now) where
-    pub going_ends : length c.lengths ≤ l → now ≡ over (laid_records c buffer) buffer
-    going_ends h = g.laid_are ∙ ap (λ (k : ℕ). over (rows c buffer k) buffer) (let w = g.within in let z : l ≡ length c.lengths = omega arith in z)
-
     module _ (h : l < length c.lengths) where
-      pub weight_in : weights_from (length c.lengths) + l < length now
-      weight_in = let r = room.room in let k = g.kept in omega arith
-
       -- the weight that is read is the one that stood there
       weight_is : get_or now (weights_from (length c.lengths) + l) 0 ≡ get_or buffer (weights_from (length c.lengths) + l) 0
       weight_is =
           ap (λ (x : List ℕ). get_or x (weights_from (length c.lengths) + l) 0) g.laid_are
           ∙ past_at (rows c buffer l) buffer (weights_from (length c.lengths) + l) (omega (arith, rows_length c buffer l))
-
-      pub record_inside : 7 * l + 7 ≤ length now
-      record_inside = let r = room.room in let k = g.kept in omega arith
 
       pub going_on : {r after : List ℕ}
           → r ≡ get_or c.lengths l 0 ∷ get_or c.states l 0 ∷ get_or now (weights_from (length c.lengths) + l) 0 ∷ 0 ∷ get_or c.firsts l 0 ∷ get_or c.pieces l 0 ∷ get_or c.runs l 0 ∷ []
@@ -86,7 +76,6 @@ module _ {c : Columns} {buffer : List ℕ} (room : LayRoom c buffer) where
           ∙ laid_over (rows c buffer l) (numbers (row_of c buffer l)) buffer (7 * l) (sym (rows_length c buffer l))
           ∙ ap (λ (y : List ℕ). over y buffer) (sym (rows_next c buffer l)) in
           record {
-            within = omega arith;
             kept = ap length x ∙ over_long (rows c buffer (l + 1)) buffer (let n = room.room in omega (arith, rows_length c buffer (l + 1)));
             laid_are = x;
           }

@@ -1,24 +1,19 @@
 -- A record is read out of a buffer: what was laid over its start is found there.
-use mathlib.Core.Path.{◌≡◌, refl, sym, ap, ◌∙◌}
+use mathlib.Core.Path.{◌≡◌, refl, ap, ◌∙◌}
 use mathlib.Core.Bool.{cond}
 use mathlib.Core.List.{List}
 use Prim.Native.Nat.{ℕ, ◌+◌, ◌*◌, ◌/◌, ◌<◌, ◌≤◌}
 use native.Mathlib.Omega.{arith}
-use lib.Dec.{ltb}
 use lib.ListN.{length, get_or}
-use borrow.Author.Tests.{lt-ltb, ltb-true}
+use borrow.Author.Tests.{lt-ltb}
 use Rattle.surface_rules.specs.Buffers.{over}
 use Rattle.surface_rules.proofs.Laws.Over.{front_at, over_long}
-use Rattle.surface_rules.proofs.Laws.Tests.{not_so}
 use Rattle.patch_records.specs.declared.Record.{Record}
 use Rattle.patch_records.specs.Records.{numbers, none, record_from, record_in}
 use Rattle.patch_records.proofs.Laws.Sevens.{listed, sevens_length, sevens_at}
 
 pub record_there : (buffer : List ℕ) (l : ℕ) → l < length buffer / 7 → record_in buffer l ≡ record_from buffer (7 * l)
 record_there buffer l h = ap (λ t. cond t (record_from buffer (7 * l)) none) (lt-ltb l (length buffer / 7) h)
-
-pub record_missing : (buffer : List ℕ) (l : ℕ) → length buffer / 7 ≤ l → record_in buffer l ≡ none
-record_missing buffer l h = ap (λ t. cond t (record_from buffer (7 * l)) none) (not_so (ltb l (length buffer / 7)) (λ t. let k = ltb-true l (length buffer / 7) t in absurd (omega arith)))
 
 -- what was listed by sevens and laid over a buffer's start is found there, record by record
 pub record_found : (f : ℕ → Record) (buffer : List ℕ) (n l : ℕ) → l < n → 7 * n ≤ length buffer → record_in (over (listed (λ (k : ℕ). numbers (f k)) n) buffer) l ≡ f l

@@ -9,8 +9,11 @@ use lib.IntN.{ℤ}
 use lib.ListN.{length, take, length-map}
 use Rattle.base_answers.specs.Numbers.{refusing}
 use Rattle.base_answers.specs.declared.Answer.{Answer}
-use Rattle.base_answers.specs.declared.Answer.TheVariants.{Done, NoPitch}
-use Rattle.base_types.specs.Pitches.{pitch_of, is_pitch}
+use Rattle.std.specs.Prelude.{Ok, Err}
+use Rattle.base_answers.specs.declared.Refusal.{Refusal}
+use Rattle.base_answers.specs.declared.Answer.TheVariants.{Refused}
+use Rattle.base_answers.specs.declared.Answer.TheVariants.{Done}
+use Rattle.base_types.specs.Pitches.{pitch_of, Names}
 use Rattle.base_types.specs.declared.Pitch.{Pitch}
 use Rattle.base_limits.specs.Limits as limits
 use Rattle.surface_rules.specs.Refusals.{count_refusal, refusal}
@@ -23,29 +26,26 @@ use Rattle.patch_surface.specs.Outcome.{Buffers, Outcome, outcome, buffers, lent
 use Rattle.patch_surface.specs.Workings.Checking.{Checked, Passed, Checks, PatchRoom, Finishes, Bench}
 use Rattle.patch_surface.specs.declared.Patched.{Patched}
 
--- a refusal as the code makes it
-abbrev pub Refuses : Patched → Answer → Type 0
-Refuses r a = (r.answer ≡ a) × (r.loops ≡ 0) × (r.vertices ≡ 0) × (r.corners ≡ 0)
-
 module _ (pitch : ℕ) (words corners : List ℕ) (b : Buffers) where
   -- what the table says decides
-  pub decided : {r : Patched} {a : Answer} → Refuses r a → refusing a ≡ true → refusal pitch words corners (lent b) (needs words corners) ≡ a → Patches pitch words corners b (outcome r b)
-  decided h t e = rw (e, t) (λ i. record { answer = h.0 i; loops = h.1 i; vertices = h.2 i; corners = h.3 i; left = b })
+  pub decided : {r : Refusal} → refusal pitch words corners (lent b) (needs words corners) ≡ Refused r → Patches pitch words corners b (outcome (Err r) b)
+  decided e = rw e refl
 
-  pub pitch_refuse : {r : Patched} → Refuses r NoPitch → is_pitch pitch ≡ false → Patches pitch words corners b (outcome r b)
-  pitch_refuse h e = decided h refl (pitch_decides pitch words corners (lent b) (needs words corners) e)
+  pub pitch_refuse : {r : Refusal} → Names pitch (Err r) → Patches pitch words corners b (outcome (Err r) b)
+  pitch_refuse n = decided (pitch_decides pitch words corners (lent b) (needs words corners) n.0 ∙ ap Refused (sym n.1))
 
   -- what is promised at a pitch is promised at its number
   pub at_pitch : (p : Pitch) (o : Outcome) → pitch ≡ pitch_of p → Patches (pitch_of p) words corners b o → Patches pitch words corners b o
   at_pitch p o e h = subst (λ (n : ℕ). Patches n words corners b o) (sym e) h
 
-  module _ {a : Answer} {turns : List ℕ} {grid' : List ℤ} (k : Checks pitch words corners b a turns grid') where
-    -- a check refused
-    pub checked_refuse : {r : Patched} → Refuses r a → refusing a ≡ true → Patches pitch words corners b (outcome r (buffers grid' b.rings b.records b.patches))
-    checked_refuse {r} h t =
-        let d = k.0 t in
-        subst (λ (g : List ℤ). Patches pitch words corners b (outcome r (buffers g b.rings b.records b.patches))) (sym d.1) (decided h t (sym d.0))
+  -- a check refused
+  pub checked_refuse : {r : Refusal} {turns : List ℕ} {grid' : List ℤ} → Checks pitch words corners b (Refused r) turns grid'
+      → Patches pitch words corners b (outcome (Err r) (buffers grid' b.rings b.records b.patches))
+  checked_refuse {r} k =
+      let d = k.0 refl in
+      subst (λ (g : List ℤ). Patches pitch words corners b (outcome (Err r) (buffers g b.rings b.records b.patches))) (sym d.1) (decided (sym d.0))
 
+  module _ {a : Answer} {turns : List ℕ} {grid' : List ℤ} (k : Checks pitch words corners b a turns grid') where
     module _ (t : refusing a ≡ false) where
       passed : Passed pitch words corners b turns grid'
       passed = k.1 t
@@ -69,26 +69,25 @@ module _ (pitch : ℕ) (words corners : List ℕ) (b : Buffers) where
       -- no check refused, and it was patched
       pub checked_patches : {r : Patched} {rings' records' patches' : List ℕ}
           → Finishes corners turns (take (length words) grid') (buffers (take (length words) grid') b.rings b.records b.patches) r (buffers (take (length words) grid') rings' records' patches')
-          → Patches pitch words corners b (outcome r (buffers grid' rings' records' patches'))
+          → Patches pitch words corners b (outcome (Ok r) (buffers grid' rings' records' patches'))
       checked_patches {r} {rings'} {records'} {patches'} f =
           rw passed.none_refused
-          (subst (λ (x : List ℤ). Completes pitch words corners b (outcome r (buffers x rings' records' patches'))) (sym passed.laid) (f pitch words checked_here b.grid))
+          (subst (λ (x : List ℤ). Completes pitch words corners b (outcome (Ok r) (buffers x rings' records' patches'))) (sym passed.laid) (f pitch words checked_here b.grid))
 
 -- what all checks say, with the pitch as a number and the counts
 module _ {words corners : List ℕ} (b : Buffers) {turns : List ℕ} where
   says : {pitch : ℕ} {a : Answer} → refusing a ≡ true → refusal pitch words corners (lent b) (needs words corners) ≡ a → Checks pitch words corners b a turns b.grid
   says t e = ((λ q. (sym e, refl)), λ q. absurd (true≢false (sym t ∙ q)))
 
-  pub pitch_says : (pitch : ℕ) → is_pitch pitch ≡ false → Checks pitch words corners b NoPitch turns b.grid
-  pitch_says pitch e = says refl (pitch_decides pitch words corners (lent b) (needs words corners) e)
+  pub pitch_says : (pitch : ℕ) {r : Refusal} → Names pitch (Err r) → Checks pitch words corners b (Refused r) turns b.grid
+  pitch_says pitch n = says refl (pitch_decides pitch words corners (lent b) (needs words corners) n.0 ∙ ap Refused (sym n.1))
 
   pub counts_say : (p : Pitch) {a : Answer} → refusing a ≡ true → a ≡ count_refusal (length words) (length corners) → Checks (pitch_of p) words corners b a turns b.grid
   counts_say p {a} t e = says t (count_decides p words corners (lent b) (needs words corners) a e t)
 
 -- the counts refuse
-pub counts_refuse : (p : Pitch) (words corners : List ℕ) (b : Buffers) {r : Patched} {a : Answer} → Refuses r a → refusing a ≡ true → a ≡ count_refusal (length words) (length corners)
-    → Patches (pitch_of p) words corners b (outcome r b)
-counts_refuse p words corners b {r} {a} h t e = decided (pitch_of p) words corners b h t (count_decides p words corners (lent b) (needs words corners) a e t)
+pub counts_refuse : (p : Pitch) (words corners : List ℕ) (b : Buffers) {r : Refusal} → Refused r ≡ count_refusal (length words) (length corners) → Patches (pitch_of p) words corners b (outcome (Err r) b)
+counts_refuse p words corners b {r} e = decided (pitch_of p) words corners b (count_decides p words corners (lent b) (needs words corners) (Refused r) e refl)
 
 module _ (words : List ℕ) {corners turns path places lengths states firsts runs : List ℕ} {points : ℕ} (c : count_refusal (length words) (length corners) ≡ Done) (p : points ≡ length words / 3) where
   -- room for any surface is room for this one

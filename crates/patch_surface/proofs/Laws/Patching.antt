@@ -1,4 +1,5 @@
 -- From a surface that passed the checks, by its loops and their rims, to what the patcher leaves.
+use Rattle.std.specs.Prelude.{Ok}
 use mathlib.Core.Path.{◌≡◌, ap, ◌∙◌, subst}
 use mathlib.Core.List.{List, []}
 use Prim.Native.Nat.{ℕ, ◌/◌, ◌≤◌}
@@ -80,7 +81,7 @@ module _ {pitch : ℕ} {words corners turns : List ℕ} {grid : List ℤ} (c : C
   pub completes : {rings lengths firsts : List ℕ} {at : Listed} {rings' lengths' firsts' : List ℕ} → ListsLoops corners (loops corners) rings lengths firsts at rings' lengths' firsts'
       → {records patches : List ℕ} {laid : ℕ} {records' patches' : List ℕ} → Fills grid corners records patches laid records' patches' → (before : List ℤ)
       → Completes pitch words corners (buffers before rings records patches)
-      (outcome (record { answer = Done; loops = at.loops; vertices = at.vertices; corners = laid }) (buffers (over (grid_of pitch words) before) rings' records' patches'))
+      (outcome (Ok (record { loops = at.loops; vertices = at.vertices; corners = laid })) (buffers (over (grid_of pitch words) before) rings' records' patches'))
   completes ls {records} f before = (
     f.fates,
     subst (λ (x : List ℤ). Course x corners [] (rim_list x corners) (ring_list corners) f.fates) c.gridded f.course,

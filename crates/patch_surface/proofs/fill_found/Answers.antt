@@ -6,7 +6,7 @@ pub run_course-laid-requires : goal.run_course-laid-requires
 run_course-laid-requires c = (weigh_room c.requires.found_loops c.requires.fill_room.0, c.requires.fill_room.1)
 
 pub lay-requires : goal.lay-requires
-lay-requires c = lay_room c.requires.found_loops c.requires.fill_room.0 c.run_course-laid.ensures c.states-1.given
+lay-requires c = lay_room c.requires.found_loops c.requires.fill_room.0 c.run_course-laid.ensures (search)
 
 pub returns : goal.returns
 returns c = fills c.requires.found_loops c.requires.fill_room.0 c.run_course-laid.ensures c.lay.ensures

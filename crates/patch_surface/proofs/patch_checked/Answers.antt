@@ -1,8 +1,7 @@
 -- `patch_checked` lists the loops, marks the rims, and fills what was found.
-use mathlib.Core.Path.{◌∙◌}
 use Rattle.surface_rules.proofs.Laws.Lists.{as_long}
 use Rattle.survey_rules.proofs.Laws.Parts.{rings_in, lengths_in}
-use Rattle.patch_surface.proofs.Laws.Patching.{found_loops, list_room, mark_room, fill_room, edge_room, completes}
+use Rattle.patch_surface.proofs.Laws.Patching.{found_loops, list_room, mark_room}
 use Rattle.patch_surface.proofs.patch_checked.Goals as goal
 
 pub list_with-listed-requires : goal.list_with-listed-requires
@@ -21,7 +20,7 @@ pub slice_bounds-mark_all-end-4 : goal.slice_bounds-mark_all-end-4
 slice_bounds-mark_all-end-4 c = as_long _ _ (lengths_in c.list_with-listed.ensures.lists_loops)
 
 pub mark_all-requires : goal.mark_all-requires
-mark_all-requires c = mark_room c.requires.patch_room.checked c.requires.patch_room.roomy c.requires.bench c.list_with-listed.ensures.lists_loops c.list_with-listed.ensures.keeps_turns c.turns-1.given c.path-1.given c.places-1.given
+mark_all-requires c = mark_room c.requires.patch_room.checked c.requires.patch_room.roomy c.requires.bench c.list_with-listed.ensures.lists_loops c.list_with-listed.ensures.keeps_turns (search) (search) (search)
 
 pub slice_bounds-fill_found-end : goal.slice_bounds-fill_found-end
 slice_bounds-fill_found-end c = rings_in c.list_with-listed.ensures.lists_loops
@@ -35,18 +34,5 @@ slice_bounds-fill_found-end-3 c = lengths_in c.list_with-listed.ensures.lists_lo
 pub slice_bounds-fill_found-end-4 : goal.slice_bounds-fill_found-end-4
 slice_bounds-fill_found-end-4 c = as_long _ _ (lengths_in c.list_with-listed.ensures.lists_loops)
 
-pub fill_found-laid-requires : goal.fill_found-laid-requires
-fill_found-laid-requires c =
-    let k = c.requires.patch_room.checked in
-    let y = c.requires.patch_room.roomy in
-    let b = c.requires.bench in
-    record {
-      found_loops = found_loops k c.list_with-listed.ensures.lists_loops c.mark_all.ensures b.states_long;
-      fill_room = (
-        fill_room k y b c.states-1.given c.firsts-1.given (c.places-2-1.given ∙ c.places-1.given) c.runs-1.given,
-        edge_room k y b c.turns-1.given (c.path-2-1.given ∙ c.path-1.given),
-      );
-    }
-
-pub returns : goal.returns
-returns c = λ pitch words checked before. completes checked c.list_with-listed.ensures.lists_loops c.fill_found-laid.ensures before
+pub fill_found-laid-requires-clause-found_loops : goal.fill_found-laid-requires-clause-found_loops
+fill_found-laid-requires-clause-found_loops c = found_loops c.requires.patch_room.checked c.list_with-listed.ensures.lists_loops c.mark_all.ensures c.requires.bench.states_long

@@ -1,5 +1,5 @@
 -- What lies between the checks and the patching of a surface that passed them.
-use Rattle.std.specs.Prelude.{◌≡◌, true, false, List, ℕ, ◌*◌, ◌/◌, ◌<◌, ◌≤◌, ℤ, length, get_or}
+use Rattle.std.specs.Prelude.{◌≡◌, true, false, List, ℕ, ◌*◌, ◌/◌, ◌<◌, ◌≤◌, ℤ, length, get_or, Ok}
 use Rattle.base_answers.specs.Numbers.{refusing}
 use Rattle.base_answers.specs.declared.Answer.{Answer}
 use Rattle.base_answers.specs.declared.Answer.TheVariants.{Done}
@@ -82,4 +82,4 @@ abbrev pub Finishes : List ℕ → List ℕ → List ℤ → Buffers → Patched
 Finishes corners turns grid b r b' =
     (pitch : ℕ) (words : List ℕ) → Checked pitch words corners turns grid → (before : List ℤ)
     → Completes pitch words corners (buffers before b.rings b.records b.patches)
-    (outcome r (buffers (over (grid_of pitch words) before) b'.rings b'.records b'.patches))
+    (outcome (Ok r) (buffers (over (grid_of pitch words) before) b'.rings b'.records b'.patches))

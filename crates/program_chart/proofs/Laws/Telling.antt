@@ -1,21 +1,25 @@
 -- A report is put line by line: the answer, the count of the entries, and then one entry after the other.
+use Rattle.std.specs.Prelude.{Result, Ok, Err}
 use mathlib.Core.Path.{◌≡◌, refl, sym, ap, ◌∙◌}
-use mathlib.Core.Bool.{Bool, true, false}
+use mathlib.Core.Bool.{false}
 use mathlib.Core.List.{List, [], ◌∷◌, ◌++◌, flatten, append_assoc}
 use Prim.Native.Nat.{ℕ, suc, ◌+◌, ◌-◌, ◌<◌, ◌≤◌}
 use native.Mathlib.Omega.{arith}
 use lib.ListN.{length, length-append}
 use Rattle.base_answers.specs.Numbers.{refusing}
-use Rattle.base_answers.specs.declared.Answer.{Answer}
+use Rattle.base_answers.specs.declared.Answer.TheVariants.{Done, Refused}
+use Rattle.base_answers.specs.declared.Refusal.{Refusal}
 use Rattle.surface_rules.specs.Buffers.{over, laid}
 use Rattle.surface_rules.proofs.Laws.Laid.{laid_over, laid_length}
 use Rattle.surface_rules.proofs.Laws.Over.{over_long}
 use Rattle.text_digits.proofs.Laws.Laying.{Laying, laying_begins, laying_room, laying_more, laying_ends}
 use Rattle.chart_rules.specs.Report.{numbers, entry_in}
 use Rattle.chart_rules.specs.declared.Entry.{Entry}
+use Rattle.chart_surface.specs.Workings.Charting.{alone}
+use Rattle.chart_surface.specs.declared.Charted.{Charted}
 use Rattle.program_lines.specs.Lines.{line, answer_line, entries=, entry=, PutAt}
 use Rattle.program_chart.specs.Charting.{entry_line}
-use Rattle.program_chart.specs.Workings.Put.{entries_from, lines_from, put_text}
+use Rattle.program_chart.specs.Workings.Put.{entries_from, lines_from, put_text, put_alone}
 
 -- ---- the entries, one by one
 
@@ -39,53 +43,59 @@ module _ (report : List ℕ) (i n : ℕ) where
         → Laying whole at before (lines_from report (i + 1) (n - (i + 1))) next after
     entry_put q = laying_more g (line entry= (numbers e)) (lines_from report (i + 1) (n - (i + 1))) next_is q.put q.behind
 
+-- ---- the line of a refusal
+
+module _ (report before : List ℕ) (w : Result Charted Refusal) where
+  pub refusal_put : {f : Refusal} {after : List ℕ} {r : ℕ} → w ≡ Err f → after ≡ over (answer_line (Refused f)) before → r ≡ length (answer_line (Refused f))
+      → (after ≡ over (put_alone (alone w report)) before) × (r ≡ length (put_alone (alone w report)))
+  unfolding put_text
+  refusal_put h p q = rw h (p, q)
+
+  pub whole_put : {found : Charted} {after : List ℕ} {r : ℕ} → w ≡ Ok found → (after ≡ over (put_text report Done found.entries) before) × (r ≡ length (put_text report Done found.entries))
+      → (after ≡ over (put_alone (alone w report)) before) × (r ≡ length (put_alone (alone w report)))
+  whole_put h p = rw h p
+
+  pub room_put : {found : Charted} → w ≡ Ok found → (refusing (alone w report).answer ≡ false → length (put_alone (alone w report)) ≤ length before) → length (put_text report Done found.entries) ≤ length before
+  room_put {found} h k = let m : (false ≡ false → length (put_alone (alone (Ok found) report)) ≤ length before) = rw h at k in m refl
+
 -- ---- behind the answer's line
 
-module _ (report : List ℕ) (a : Answer) (n : ℕ) (before : List ℕ) {one : List ℕ} {at : ℕ} {t : Bool} (p : one ≡ over (answer_line a) before) (q : at ≡ length (answer_line a)) (d : t ≡ refusing a) where
-  pub refusal_put : t ≡ true → (one ≡ over (put_text report a n) before) × (at ≡ length (put_text report a n))
+module _ (report : List ℕ) (n : ℕ) (before : List ℕ) {one : List ℕ} {at : ℕ} (p : one ≡ over (answer_line Done) before) (q : at ≡ length (answer_line Done)) where
+  abbrev count : List ℕ
+  count = line entries= (n ∷ [])
+
+  abbrev lines : List ℕ
+  lines = lines_from report 0 n
+
+  text_is : put_text report Done n ≡ answer_line Done ++ (count ++ lines)
   unfolding put_text
-  refusal_put h = let e = sym d ∙ h in rw e (p, q)
+  text_is = refl
 
-  module _ (h : t ≡ false) where
-    abbrev count : List ℕ
-    count = line entries= (n ∷ [])
+  long : length (put_text report Done n) ≡ length (answer_line Done) + length count + length lines
+  long = omega (arith, ap length text_is, length-append (answer_line Done) (count ++ lines), length-append count lines)
 
-    abbrev lines : List ℕ
-    lines = lines_from report 0 n
+  -- and there is room for all of it
+  module _ (room : length (put_text report Done n) ≤ length before) where
+    same : length one ≡ length before
+    same = ap length p ∙ over_long (answer_line Done) before (omega (arith, long, room))
 
-    text_is : put_text report a n ≡ answer_line a ++ (count ++ lines)
-    unfolding put_text
-    text_is = let e = sym d ∙ h in rw e
+    pub count_room : at + length count ≤ length one
+    count_room = omega (arith, q, long, same, room)
 
-    long : length (put_text report a n) ≡ length (answer_line a) + length count + length lines
-    long = omega (arith, ap length text_is, length-append (answer_line a) (count ++ lines), length-append count lines)
+    pub entries_begin : {from : ℕ} {two : List ℕ} → PutAt at count one from two → Laying lines from two (lines_from report 0 (n - 0)) from two
+    entries_begin {from} {two} u =
+        let s : length two ≡ length one = ap length u.put ∙ laid_length at one count count_room in
+        let z : n ≡ n - 0 = omega arith in
+        rw (← z) (laying_begins lines two from (omega (arith, u.behind, q, long, same, room, s)))
 
-    -- and there is room for all of it
-    module _ (roomy : refusing a ≡ false → length (put_text report a n) ≤ length before) where
-      room : length (put_text report a n) ≤ length before
-      room = roomy (sym d ∙ h)
-
-      same : length one ≡ length before
-      same = ap length p ∙ over_long (answer_line a) before (omega (arith, long, room))
-
-      pub count_room : at + length count ≤ length one
-      count_room = omega (arith, q, long, same, room)
-
-      module _ {from : ℕ} {two : List ℕ} (u : PutAt at count one from two) where
-        pub entries_begin : Laying lines from two (lines_from report 0 (n - 0)) from two
-        entries_begin =
-            let s : length two ≡ length one = ap length u.put ∙ laid_length at one count count_room in
-            let z : n ≡ n - 0 = omega arith in
-            rw (← z) (laying_begins lines two from (omega (arith, u.behind, q, long, same, room, s)))
-
-    pub entries_end : {from : ℕ} {two : List ℕ} → PutAt at count one from two → {i place : ℕ} {out : List ℕ} → Laying lines from two (lines_from report i (n - i)) place out → n ≤ i
-        → (out ≡ over (put_text report a n) before) × (place ≡ length (put_text report a n))
-    entries_end {from} u {i} g m =
-        let e = laying_ends g (lines_over report i n m) in
-        let c : length (answer_line a ++ count) ≡ length (answer_line a) + length count = length-append (answer_line a) count in (
-          e.0
-              ∙ ap (laid from lines) (u.put ∙ ap (laid at count) p ∙ laid_over (answer_line a) count before at q)
-              ∙ laid_over (answer_line a ++ count) lines before from (omega (arith, u.behind, q, c))
-              ∙ ap (λ (x : List ℕ). over x before) (append_assoc (answer_line a) count lines ∙ sym text_is),
-          omega (arith, e.1, u.behind, q, long),
-        )
+  pub entries_end : {from : ℕ} {two : List ℕ} → PutAt at count one from two → {i place : ℕ} {out : List ℕ} → Laying lines from two (lines_from report i (n - i)) place out → n ≤ i
+      → (out ≡ over (put_text report Done n) before) × (place ≡ length (put_text report Done n))
+  entries_end {from} u {i} g m =
+      let e = laying_ends g (lines_over report i n m) in
+      let c : length (answer_line Done ++ count) ≡ length (answer_line Done) + length count = length-append (answer_line Done) count in (
+        e.0
+            ∙ ap (laid from lines) (u.put ∙ ap (laid at count) p ∙ laid_over (answer_line Done) count before at q)
+            ∙ laid_over (answer_line Done ++ count) lines before from (omega (arith, u.behind, q, c))
+            ∙ ap (λ (x : List ℕ). over x before) (append_assoc (answer_line Done) count lines ∙ sym text_is),
+        omega (arith, e.1, u.behind, q, long),
+      )

@@ -3,12 +3,13 @@ use mathlib.Core.Path.{◌≡◌, refl, sym, ap, ◌∙◌}
 use mathlib.Core.Bool.{Bool, true, false, true≢false}
 use mathlib.Core.Logic.{inl, inr}
 use mathlib.Core.List.{List, [], ◌∷◌, ◌++◌, map, flatten}
-use Prim.Native.Nat.{ℕ, zero, suc, ◌+◌, ◌*◌, ◌<◌, ◌≤◌}
+use Prim.Native.Nat.{ℕ, suc, ◌+◌, ◌*◌, ◌<◌, ◌≤◌}
 use native.Mathlib.Omega.{arith}
 use lib.ListN.{length, get_or}
 use Rattle.base_answers.specs.Numbers.{refusing}
 use Rattle.base_answers.specs.declared.Answer.{Answer}
-use Rattle.base_answers.specs.declared.Answer.TheVariants.{Done, Line}
+use Rattle.base_answers.specs.Answers.{Line}
+use Rattle.base_answers.specs.declared.Answer.TheVariants.{Done}
 use Rattle.base_limits.specs.Limits as limits
 use Rattle.surface_rules.specs.Buffers.{over}
 use Rattle.surface_rules.specs.Edges.{Sound}
@@ -21,11 +22,11 @@ use Rattle.chart_rules.specs.declared.Entry.{Entry}
 use Rattle.chart_rules.proofs.Laws.Reading.{entry_found}
 use Rattle.chart_surface.specs.Workings.Charting.{Alone, alone_if, alone_of}
 use Rattle.text_rules.proofs.Theorems.{Known}
-use Rattle.text_sheet.specs.Sheet.{Sheet, sheet, pitch_said, words_said, corners_said}
+use Rattle.text_sheet.specs.Sheet.{sheet, pitch_said, words_said, corners_said}
 use Rattle.text_sheet.proofs.Laws.Texts.{text_or_fault}
 use Rattle.program_lines.specs.Lines.{line, answer_line, entries=}
 use Rattle.program_chart.specs.Charting.{entry_line, report_text, text_if, text_of, Prints}
-use Rattle.program_chart.specs.Workings.Put.{entries_from, lines_from, put_text}
+use Rattle.program_chart.specs.Workings.Put.{entries_from, lines_from, put_text, put_alone}
 use Rattle.program_chart.specs.Workings.TextCharted.{ChartsText}
 use Rattle.program_chart.proofs.Laws.Widths.{report_most, entries_within, report_short}
 
@@ -49,10 +50,6 @@ refusal_told : (report : List ℕ) (a : Answer) (n : ℕ) → refusing a ≡ tru
 unfolding put_text
 refusal_told report a n e = rw e
 
--- what is put of the report alone
-abbrev put : Alone → List ℕ
-put o = put_text o.report o.answer o.entries
-
 module _ (pitch : ℕ) (words corners report : List ℕ) (full : 4 * limits.triangles ≤ length report) where
   abbrev answers : Answer
   answers = sheet_refusal pitch words corners
@@ -67,33 +64,33 @@ module _ (pitch : ℕ) (words corners report : List ℕ) (full : 4 * limits.tria
   few : refusing answers ≡ false → length corners ≤ limits.corners
   few e = (counts_fit (length words) (length corners) (passed pitch words corners [] [] e).counts).few_corners
 
-  put_if : (t : Bool) → refusing answers ≡ t → put (alone_if t answers pitch words corners report) ≡ text_if t answers pitch words corners
+  put_if : (t : Bool) → refusing answers ≡ t → put_alone (alone_if t answers pitch words corners report) ≡ text_if t answers pitch words corners
   put_if true e = refusal_told report answers 0 e
   put_if false e = report_told entries report (omega (arith, entries_within (grid_of pitch words) corners (sound e) (few e), full))
 
-  pub sheet_told : {o : Alone} → o ≡ alone_of pitch words corners report → put o ≡ text_of pitch words corners
-  sheet_told q = ap put q ∙ put_if (refusing answers) refl
+  pub sheet_told : {o : Alone} → o ≡ alone_of pitch words corners report → put_alone o ≡ text_of pitch words corners
+  sheet_told q = ap put_alone q ∙ put_if (refusing answers) refl
 
-  pub sheet_short : {o : Alone} → o ≡ alone_of pitch words corners report → refusing o.answer ≡ false → length (put o) ≤ report_most
+  pub sheet_short : {o : Alone} → o ≡ alone_of pitch words corners report → refusing o.answer ≡ false → length (put_alone o) ≤ report_most
   sheet_short {o} q r = go (refusing answers) refl (ap (λ (p : Alone). refusing p.answer) (sym q) ∙ r)
     where
-      go : (t : Bool) → refusing answers ≡ t → refusing (alone_if t answers pitch words corners report).answer ≡ false → length (put o) ≤ report_most
+      go : (t : Bool) → refusing answers ≡ t → refusing (alone_if t answers pitch words corners report).answer ≡ false → length (put_alone o) ≤ report_most
       go true e f = absurd (true≢false (sym e ∙ f))
       go false e f =
-          let z : put o ≡ report_text entries = sheet_told q ∙ ap (λ (t : Bool). text_if t answers pitch words corners) e in
+          let z : put_alone o ≡ report_text entries = sheet_told q ∙ ap (λ (t : Bool). text_if t answers pitch words corners) e in
           omega (arith, ap length z, report_short (grid_of pitch words) corners (sound e) (few e))
 
 -- so of every text
 module _ {bytes report : List ℕ} {o : Alone} (k : ChartsText bytes report o) (full : 4 * limits.triangles ≤ length report) where
   pub charts_told : Prints bytes (put_text o.report o.answer o.entries)
   charts_told = record {
-    of_fault = λ line f. ap put (k.of_fault line f) ∙ refusal_told report (Line line) 0 refl;
+    of_fault = λ line f. ap put_alone (k.of_fault line f) ∙ refusal_told report (Line line) 0 refl;
     of_text = λ s t. sheet_told (pitch_said s) (words_said s) (corners_said s) report full (k.of_text s t);
   }
 
   pub charts_short : refusing o.answer ≡ false → length (put_text o.report o.answer o.entries) ≤ report_most
   charts_short r = go (text_or_fault bytes)
     where
-      go : Known sheet bytes → length (put o) ≤ report_most
+      go : Known sheet bytes → length (put_alone o) ≤ report_most
       go (inl t) = let s = t.0 in sheet_short (pitch_said s) (words_said s) (corners_said s) report full (k.of_text s t.1) r
       go (inr f) = absurd (true≢false (ap (λ (p : Alone). refusing p.answer) (sym (k.of_fault f.0 f.1)) ∙ r))

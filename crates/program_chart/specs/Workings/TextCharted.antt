@@ -1,6 +1,6 @@
 -- The sheet of a text charted: the line of its fault, or the report alone of what it says.
 use Rattle.std.specs.Prelude.{◌≡◌, List, ℕ}
-use Rattle.base_answers.specs.declared.Answer.TheVariants.{Line}
+use Rattle.base_answers.specs.Answers.{Line}
 use Rattle.chart_surface.specs.Workings.Charting.{Alone, alone_of}
 use Rattle.text_rules.specs.Text.{TextOf}
 use Rattle.text_rules.specs.Fault.{Fault}

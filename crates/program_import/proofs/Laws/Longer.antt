@@ -9,7 +9,7 @@ use lib.ListN.{length, take, get_or, length-take}
 use lib.Seq.{get_or-take, take_all}
 use Rattle.base_answers.specs.Numbers.{refusing}
 use Rattle.base_answers.specs.declared.Answer.{Answer}
-use Rattle.base_answers.specs.declared.Answer.TheVariants.{Misfit}
+use Rattle.base_answers.specs.Answers.{Misfit}
 use Rattle.base_limits.specs.Limits as limits
 use Rattle.surface_rules.proofs.Laws.Thens.{then_refused}
 use Rattle.stl_facets.specs.Facets.{front, facet_bytes, facets, word_at}

@@ -7,8 +7,11 @@ use native.Mathlib.Omega.{arith}
 use lib.Dec.{leb}
 use lib.ListN.{length, take}
 use borrow.Author.Tests.{leb-true}
+use Rattle.std.specs.Prelude.{Result, Ok, Err}
 use Rattle.base_answers.specs.Numbers.{refusing}
-use Rattle.base_answers.specs.declared.Answer.TheVariants.{Done, Words, Corners, Misfit}
+use Rattle.base_answers.specs.Answers.{Words, Corners, Misfit}
+use Rattle.base_answers.specs.declared.Answer.TheVariants.{Done, Refused}
+use Rattle.base_answers.specs.declared.Refusal.{Refusal}
 use Rattle.base_limits.specs.Limits as limits
 use Rattle.surface_rules.specs.Buffers.{over}
 use Rattle.surface_rules.specs.Refusals.{then_check, count_refusal, buffer_refusal, unnamed_refusal}
@@ -19,11 +22,13 @@ use Rattle.surface_rules.proofs.Laws.Threes.{flat_length, threes_flat}
 use Rattle.check_shape.proofs.Laws.Refusing.{counts_done}
 use Rattle.text_rules.specs.Text.{TextOf}
 use Rattle.text_sheet.specs.Sheet.{sheet_of, sheet}
-use Rattle.text_read.specs.Outcome.{ReadOutcome, not_read}
+use Rattle.text_read.specs.declared.ReadSheet.{ReadSheet}
+use Rattle.text_read.specs.Outcome.{ReadOutcome, read_outcome, not_read}
 use Rattle.stl_facets.specs.Facets.{facets}
 use Rattle.stl_rules.specs.File.{fits}
 use Rattle.stl_rules.specs.Reading.{points_in, corners_in, size_refusal, file_refusal, read_refusal, reads_file}
 use Rattle.stl_rules.proofs.Laws.Files.{corners_count, all_named}
+use Rattle.program_lines.specs.Lines.{answer_line}
 use Rattle.program_import.specs.Importing.{Imports}
 use Rattle.program_import.specs.Workings.Putting.{PutRoom, Puts}
 
@@ -87,29 +92,40 @@ module _ (file words corners : List ℕ) {o : ReadOutcome} (r : o ≡ reads_file
       go true e = refused_given e
       go false e = taken_given (taken file e)
 
-module _ {file : List ℕ} {o : ReadOutcome} (g : Given file o) where
-  passed : refusing o.answer ≡ false → refusing (file_refusal file) ≡ false
-  passed f = ap refusing (sym g.answered) ∙ f
+-- what was read, and what was refused
+module _ {file : List ℕ} (words corners : List ℕ) {w : Result ReadSheet Refusal} (words' corners' : List ℕ) (r : read_outcome w words' corners' ≡ reads_file file words corners)
+    (hw : limits.words ≤ length words) (hc : limits.corners ≤ length corners) where
+  pub sheet_given : {s : ReadSheet} → w ≡ Ok s → Given file (read_outcome (Ok s) words' corners')
+  sheet_given h = given file words corners (rw h at r) hw hc
 
-  pub put_room : {room : List ℕ} → limits.sheet_text ≤ length room → PutRoom (take o.word_count o.words) (take o.corner_count o.corners) room o.answer
+  pub refusal_imports : {f : Refusal} → w ≡ Err f → Imports file (answer_line (Refused f))
+  refusal_imports {f} h =
+      let g : Given file (read_outcome (Err f) words' corners') = given file words corners (rw h at r) hw hc in
+      record { of_sheet = λ d. absurd (true≢false (ap refusing (g.answered ∙ d))); of_refusal = λ _. ap answer_line g.answered }
+
+-- a sheet that was read
+module _ {file : List ℕ} {s : ReadSheet} (words' corners' : List ℕ) (g : Given file (read_outcome (Ok s) words' corners')) where
+  passed : refusing (file_refusal file) ≡ false
+  passed = ap refusing (sym g.answered)
+
+  pub put_room : {room : List ℕ} → limits.sheet_text ≤ length room → PutRoom (take s.words words') (take s.corners corners') room
   put_room h =
+      let t = taken file passed in
       record {
         roomy = h;
-        counted = λ f. let t = taken file (passed f) in
-            ap₂ (λ (ws cs : List ℕ). count_refusal (length ws) (length cs)) (g.words_are (passed f)) (g.corners_are (passed f))
+        counted =
+            ap₂ (λ (ws cs : List ℕ). count_refusal (length ws) (length cs)) (g.words_are passed) (g.corners_are passed)
             ∙ ap₂ count_refusal (flat_length (points_in file)) (corners_count file)
             ∙ sym (counts_done (3 * length (points_in file)) (3 * facets file) (sym (whole_count limits.words (length (points_in file)) (omega (arith, t.few_points)))) refl
             (sym (whole_count limits.corners (facets file) (omega (arith, t.few_facets)))) refl);
-        named = λ f.
-            ap₂ (λ (ws cs : List ℕ). unnamed_refusal cs (length ws / 3)) (g.words_are (passed f)) (g.corners_are (passed f)) ∙ all_named file;
+        named = ap₂ (λ (ws cs : List ℕ). unnamed_refusal cs (length ws / 3)) (g.words_are passed) (g.corners_are passed) ∙ all_named file;
       }
 
-  pub put_imports : {room room' : List ℕ} {r : ℕ} (p : Puts (take o.word_count o.words) (take o.corner_count o.corners) room o.answer r room') → Imports file p.out
+  pub put_imports : {room room' : List ℕ} {r : ℕ} (p : Puts (take s.words words') (take s.corners corners') room r room') → Imports file p.out
   put_imports p =
       record {
-        of_sheet = λ d.
-            let f : refusing (file_refusal file) ≡ false = ap refusing d in
+        of_sheet = λ _.
             subst (λ (l : List _). TextOf sheet p.out (sheet_of 1 l (threes (corners_in file)))) (threes_flat (points_in file))
-            (subst₂ (λ (ws cs : List ℕ). TextOf sheet p.out (sheet_of 1 (threes ws) (threes cs))) (g.words_are f) (g.corners_are f) (p.of_sheet (ap refusing g.answered ∙ f)));
-        of_refusal = λ t. p.of_refusal (ap refusing g.answered ∙ t) ∙ rw g.answered refl;
+            (subst₂ (λ (ws cs : List ℕ). TextOf sheet p.out (sheet_of 1 (threes ws) (threes cs))) (g.words_are passed) (g.corners_are passed) p.of_sheet);
+        of_refusal = λ t. absurd (true≢false (sym t ∙ passed));
       }

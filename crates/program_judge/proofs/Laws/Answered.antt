@@ -1,4 +1,5 @@
 -- The checker's outcome in buffers that are long enough has the answer that is promised, and there is one such answer.
+use Rattle.std.specs.Prelude.{Result, Ok}
 use mathlib.Core.Path.{◌≡◌, refl, sym, ap, ◌∙◌, subst}
 use mathlib.Core.Bool.{Bool, true, false}
 use mathlib.Core.List.{List, []}
@@ -8,6 +9,9 @@ use lib.Dec.{eqb}
 use lib.ListN.{length}
 use Rattle.base_answers.specs.Numbers.{refusing}
 use Rattle.base_answers.specs.declared.Answer.{Answer}
+use Rattle.base_answers.specs.Answers.{judged}
+use Rattle.base_answers.specs.declared.Refusal.{Refusal}
+use Rattle.base_answers.specs.declared.Verdict.{Verdict}
 use Rattle.base_limits.specs.Limits as limits
 use Rattle.surface_rules.specs.Refusals.{refusal, sheet_refusal}
 use Rattle.surface_rules.proofs.Laws.Thens.{three_long}
@@ -34,9 +38,9 @@ module _ (pitch : ℕ) (words corners states set : List ℕ) where
     refused_or true r j = ap (λ (p : Outcome). p.answer) j
     refused_or false r j = counted (eqb (length (loops corners)) (length states)) j
 
-  pub answered : (b b' : Buffers) (r : Judged) → Judges pitch words corners states set b (outcome r b') → length words ≤ limits.words → length corners ≤ limits.corners
+  pub answered : (b b' : Buffers) (r : Result Judged Refusal) → Judges pitch words corners states set b (outcome r b') → length words ≤ limits.words → length corners ≤ limits.corners
       → limits.words ≤ length b.grid → limits.corners ≤ length b.rings → limits.triangles ≤ length b.lengths
-      → Answers pitch words corners states set r.answer
+      → Answers pitch words corners states set (outcome r b').answer
   unfolding Answers
   answered b b' r j hw hc g ri l =
       let e : refusal pitch words corners (lent b) (needs words corners) ≡ sheet_refusal pitch words corners =
@@ -44,6 +48,11 @@ module _ (pitch : ℕ) (words corners states set : List ℕ) where
       (three_long (length b.grid) (length b.rings) (length b.lengths) (length words) (length corners) (length corners / 3) (omega arith) (omega arith) (omega arith)) in
       refused_or b (outcome r b') (refusing (sheet_refusal pitch words corners)) (sheet_refusal pitch words corners)
       (subst (λ (a : Answer). JudgesIf (refusing a) a pitch words corners states set b (outcome r b')) e j)
+
+  pub answered_verdict : (b b' : Buffers) (j : Judged) {v : Result Unit Verdict} → j.verdict ≡ v → Judges pitch words corners states set b (outcome (Ok j) b') → length words ≤ limits.words → length corners ≤ limits.corners
+      → limits.words ≤ length b.grid → limits.corners ≤ length b.rings → limits.triangles ≤ length b.lengths
+      → Answers pitch words corners states set (judged v)
+  answered_verdict b b' j e h hw hc g ri l = subst (λ (v : Result Unit Verdict). Answers pitch words corners states set (judged v)) e (answered b b' (Ok j) h hw hc g ri l)
 
   module _ (a b : Answer) where
     counted_once : (t : Bool) → refusing (sheet_refusal pitch words corners) ≡ false → AnswersCounted t pitch words corners states set a → AnswersCounted t pitch words corners states set b → a ≡ b

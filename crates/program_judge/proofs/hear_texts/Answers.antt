@@ -7,11 +7,11 @@ use Rattle.program_judge.proofs.hear_texts.Goals as goal
 pub take_in-intake-requires : goal.take_in-intake-requires
 take_in-intake-requires c = search (long_words, long_corners)
 
-pub take_set-read-requires : goal.take_set-read-requires
-take_set-read-requires c = few_taken c.take_in-intake.result _ _ _ _ _ c.take_in-intake.ensures
+pub read_behind-read-requires : goal.read_behind-read-requires
+read_behind-read-requires c = few_taken c.take_in-intake.result _ _ _ _ _ c.take_in-intake.ensures
 
 pub hear_taken-requires : goal.hear_taken-requires
-hear_taken-requires c = from_texts _ _ _ _ _ _ _ _ _ _ _ c.take_in-intake.ensures c.take_set-read.ensures (lit≤ tt) (lit≤ tt)
+hear_taken-requires c = from_texts _ _ _ _ _ _ _ _ _ _ _ c.take_in-intake.ensures c.read_behind-read.ensures (lit≤ tt) (lit≤ tt)
 
 pub returns : goal.returns
-returns c = heard_texts _ _ _ _ _ _ _ _ _ _ _ c.take_in-intake.ensures c.take_set-read.ensures (lit≤ tt) (lit≤ tt) _ c.hear_taken.ensures
+returns c = heard_texts _ _ _ _ _ _ _ _ _ _ _ c.take_in-intake.ensures c.read_behind-read.ensures (lit≤ tt) (lit≤ tt) _ c.hear_taken.ensures

@@ -1,12 +1,13 @@
--- `take_set` counts the lines of the set on after the sheet's last.
-use Rattle.program_judge.proofs.Laws.Takes.{points_few, triangles_few, set_unread, set_read_lem}
+-- `take_set` has room for whatever a text says.
+use mathlib.Core.Path.{refl}
+use Rattle.surface_rules.proofs.Laws.Lists.{as_long}
 use Rattle.program_judge.proofs.take_set.Goals as goal
 
-pub last_line-last-requires : goal.last_line-last-requires
-last_line-last-requires c = (search points_few, search triangles_few)
+pub slice_bounds-read_behind-end : goal.slice_bounds-read_behind-end
+slice_bounds-read_behind-end c = search as_long
 
-pub returns-in-Wrong : goal.returns-in-Wrong
-returns-in-Wrong c = search set_unread
-
-pub returns-in-Whole : goal.returns-in-Whole
-returns-in-Whole c = search set_read_lem
+pub returns : goal.returns
+returns c = (
+  refl,
+  (c.requires.set_text_in_bounds.0, record { states_before = c.args.states.now; parts_before = c.args.set.now; states_full = c.requires.full.0; parts_full = c.requires.full.1; taken = c.read_behind-read.ensures }),
+)

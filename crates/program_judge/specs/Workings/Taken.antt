@@ -1,9 +1,10 @@
 -- What was taken in of two texts, from a room or from elsewhere, and what is answered on it. It serves the code: the promise of an answer
 -- is `Hears`, over the texts.
 use Prim.{Unit}
-use Rattle.std.specs.Prelude.{◌≡◌, List, ℕ, ◌+◌, ◌<◌, ◌≤◌, length, take}
+use Rattle.std.specs.Prelude.{◌≡◌, List, ℕ, ◌+◌, ◌<◌, ◌≤◌, length, take, Result, Ok, Err}
+use Rattle.base_answers.specs.declared.Refusal.{Refusal}
 use Rattle.base_answers.specs.declared.Answer.{Answer}
-use Rattle.base_answers.specs.declared.Answer.TheVariants.{Line}
+use Rattle.base_answers.specs.Answers.{Line}
 use Rattle.base_limits.specs.Limits as limits
 use Rattle.surface_rules.specs.Threes.{Three, flat}
 use Rattle.text_rules.specs.Text.{TextOf, both}
@@ -12,31 +13,28 @@ use Rattle.text_rules.specs.Room.{ReadInto}
 use Rattle.text_sheet.specs.Sheet.{head}
 use Rattle.text_read.specs.Workings.Taking.{Takes}
 use Rattle.text_read.specs.declared.Intake.{Intake}
-use Rattle.text_read.specs.declared.Intake.TheVariants.{Whole, Wrong}
 use Rattle.text_read_set.specs.Set.{set}
 use Rattle.text_read_set.specs.Outcome.{set_outcome, ReadsSet}
 use Rattle.text_read_set.specs.declared.ReadSet.{ReadSet}
 use Rattle.program_judge.specs.Hears.{Answers, Hears}
 use Rattle.program_judge.specs.declared.Hearing.{Hearing}
-use Rattle.program_judge.specs.declared.Text.{Text}
-use Rattle.program_judge.specs.declared.Text.TheVariants.{OfSheet, OfSet}
 
 -- a sheet that is counted is no larger than one may be
-abbrev pub Few : Intake → Type 0
-Few (Whole pitch points triangles) = (points ≤ limits.points) × (triangles ≤ limits.triangles)
-Few (Wrong line) = Unit {0}
+abbrev pub Few : Result Intake ℕ → Type 0
+Few (Ok s) = (s.points ≤ limits.points) × (s.triangles ≤ limits.triangles)
+Few (Err line) = Unit {0}
 
 -- as many lines as the text of a sheet has
 abbrev pub lines_of : ℕ → ℕ → ℕ → ℕ
 lines_of pitch points triangles = length (head pitch) + (points + triangles + 2)
 
 -- the set that the bytes say is read behind a whole sheet, and nothing behind a wrong line
-abbrev pub TakesSet : Intake → List ℕ → ReadSet → List ℕ → List ℕ → List ℕ → List ℕ → Type 0
-TakesSet (Whole pitch points triangles) bytes r states' parts' states parts = ReadsSet bytes (lines_of pitch points triangles) states parts (set_outcome r states' parts')
-TakesSet (Wrong line) bytes r states' parts' states parts = Unit {0}
+abbrev pub TakesSet : Result Intake ℕ → List ℕ → Result ReadSet Refusal → List ℕ → List ℕ → List ℕ → List ℕ → Type 0
+TakesSet (Ok s) bytes r states' parts' states parts = ReadsSet bytes (lines_of s.pitch s.points s.triangles) states parts (set_outcome r states' parts')
+TakesSet (Err line) bytes r states' parts' states parts = Unit {0}
 
 -- From such bytes a sheet was taken in, and a set behind it into buffers of a set's full size; and what the buffers held before.
-pub record SheetOf (bytes : List ℕ) (intake : Intake) (words corners : List ℕ) : Type 0 where
+pub record SheetOf (bytes : List ℕ) (intake : Result Intake ℕ) (words corners : List ℕ) : Type 0 where
   pub words_before : List ℕ
   pub corners_before : List ℕ
   pub taken : Takes bytes intake words corners words_before corners_before
@@ -52,38 +50,17 @@ abbrev pub Somehow : Hearing → List ℕ → List ℕ → List ℕ → List ℕ
 Somehow h words corners states parts = (bytes : List ℕ) × (patches : List ℕ) × SheetOf bytes h.sheet words corners × SetOf patches h states parts
 
 -- from the first n bytes of a room that is longer than the longest text
-abbrev pub SheetIn : List ℕ → ℕ → Intake → List ℕ → List ℕ → Type 0
+abbrev pub SheetIn : List ℕ → ℕ → Result Intake ℕ → List ℕ → List ℕ → Type 0
 SheetIn room n intake words corners = (limits.sheet_text < length room) × SheetOf (take n room) intake words corners
 
 abbrev pub SetIn : List ℕ → ℕ → Hearing → List ℕ → List ℕ → Type 0
 SetIn room n h states parts = (limits.set_text < length room) × SetOf (take n room) h states parts
 
-abbrev pub Taken : Intake → List ℕ → List ℕ → Type 0
+abbrev pub Taken : Result Intake ℕ → List ℕ → List ℕ → Type 0
 Taken intake words corners = (room : List ℕ) × (n : ℕ) × SheetIn room n intake words corners
 
 abbrev pub SetTaken : Hearing → List ℕ → List ℕ → Type 0
 SetTaken h states parts = (room : List ℕ) × (n : ℕ) × SetIn room n h states parts
-
--- buffers of the full size of a sheet and a set
-pub record Full (words corners states parts : List ℕ) : Type 0 where
-  pub words_full : limits.words ≤ length words
-  pub corners_full : limits.corners ≤ length corners
-  pub states_full : limits.states ≤ length states
-  pub parts_full : limits.set_corners ≤ length parts
-
--- what is there before a text is taken in, and after it; a set leaves the sheet as it was
-abbrev pub Before : Text → List ℕ → List ℕ → Type 0
-Before OfSheet words corners = Unit {0}
-Before (OfSet intake) words corners = Taken intake words corners
-
-abbrev pub TakesText : Text → List ℕ → ℕ → Hearing → List ℕ → List ℕ → List ℕ → List ℕ → List ℕ → List ℕ → Type 0
-TakesText OfSheet room n h words' corners' states' parts' words corners = SheetIn room n h.sheet words' corners'
-TakesText (OfSet intake) room n h words' corners' states' parts' words corners =
-    (h.sheet ≡ intake) × (words' ≡ words) × (corners' ≡ corners) × SetIn room n h states' parts'
-
--- from whichever room
-abbrev pub TookText : Text → Hearing → List ℕ → List ℕ → List ℕ → List ℕ → List ℕ → List ℕ → Type 0
-TookText text h words' corners' states' parts' words corners = (room : List ℕ) × (n : ℕ) × TakesText text room n h words' corners' states' parts' words corners
 
 -- what is answered on the bytes, whichever they are,
 unfoldable pub HearsOf : Hearing → List ℕ → List ℕ → List ℕ → List ℕ → Answer → Type 0

@@ -8,7 +8,7 @@ use lib.Seq.{drop-cons}
 use Rattle.surface_rules.specs.Buffers.{laid}
 use Rattle.text_digits.specs.Numeral.{size, decimal}
 use Rattle.text_digits.proofs.Laws.Exactly.{ended_length}
-use Rattle.text_digits.proofs.Laws.Laying.{Laying, laying_begins, laying_room, laying_more, laying_last, laying_left, laying_ends}
+use Rattle.text_digits.proofs.Laws.Laying.{Laying, laying_begins, laying_room, laying_more, laying_ends}
 use Rattle.text_rules.specs.Text.{feed}
 use Rattle.text_sheet.specs.Sheet.{comma}
 use Rattle.program_lines.specs.Lines.{joined, line, PutAt}
@@ -76,51 +76,6 @@ key_put key {l} {before} {after} {at} h q n = record { laying = laying_more (lay
 ended : {whole before rest out : List ℕ} {at place : ℕ} → Laying whole at before rest place out → rest ≡ [] → PutAt at whole before place out
 ended g e = let h = laying_ends g e in record { put = h.0; behind = h.1 }
 
-module _ {whole before out : List ℕ} {at place a : ℕ} where
-  pub number_fits : {l : List ℕ} → Lining whole at before (a ∷ l) place out → place + size a + 1 ≤ length out
-  number_fits {l = []} g = omega (arith, g.laying.same, g.laying.room, g.laying.reach, last_length a)
-  number_fits {l = b ∷ l} g = omega (arith, g.laying.same, g.laying.room, g.laying.reach, next_length a b l)
-
-  pub next_put : {b next : ℕ} {l after : List ℕ} → Lining whole at before (a ∷ b ∷ l) place out → PutAt place (decimal a ++ (comma ∷ [])) out next after
-      → Lining whole at before (b ∷ l) next after
-  next_put {b} {l = l} g q = record { laying = laying_more g.laying (decimal a ++ (comma ∷ [])) (joined (b ∷ l)) (joined_next a b l) q.put q.behind }
-
-  pub last_put : {next : ℕ} {after : List ℕ} → Lining whole at before (a ∷ []) place out → PutAt place (decimal a ++ (feed ∷ [])) out next after → PutAt at whole before next after
-  last_put g q = ended (laying_more g.laying (decimal a ++ (feed ∷ [])) (joined []) (joined_last a) q.put q.behind) joined_none
-
--- lines of one number, of two and of three, number by number behind the key
-module _ (key out one : List ℕ) (at a : ℕ) where
-  abbrev Room : List ℕ → Type 0
-  Room l = at + length (line key (a ∷ l)) ≤ length out
-
-  pub first_room : (l : List ℕ) → Room l → one ≡ laid at key out → at + length key + size a + 1 ≤ length one
-  first_room l h p = number_fits (key_put key {l = a ∷ l} h p refl)
-
-  pub one_put : {r : ℕ} {after : List ℕ} → Room [] → one ≡ laid at key out → PutAt (at + length key) (decimal a ++ (feed ∷ [])) one r after
-      → PutAt at (line key (a ∷ [])) out r after
-  one_put h p q = last_put (key_put key h p refl) q
-
-  module _ (b i : ℕ) (two : List ℕ) where
-    pub second : (l : List ℕ) → Room (b ∷ l) → one ≡ laid at key out → PutAt (at + length key) (decimal a ++ (comma ∷ [])) one i two
-        → Lining (line key (a ∷ b ∷ l)) at out (b ∷ l) i two
-    second l h p q = next_put (key_put key {l = a ∷ b ∷ l} h p refl) q
-
-    pub second_room : (l : List ℕ) → Room (b ∷ l) → one ≡ laid at key out → PutAt (at + length key) (decimal a ++ (comma ∷ [])) one i two
-        → i + size b + 1 ≤ length two
-    second_room l h p q = number_fits (second l h p q)
-
-    pub two_put : {r : ℕ} {after : List ℕ} → Room (b ∷ []) → one ≡ laid at key out → PutAt (at + length key) (decimal a ++ (comma ∷ [])) one i two
-        → PutAt i (decimal b ++ (feed ∷ [])) two r after → PutAt at (line key (a ∷ b ∷ [])) out r after
-    two_put h p q s = last_put (second [] h p q) s
-
-pub third_room : {whole before two three l : List ℕ} {at b c i j : ℕ} → Lining whole at before (b ∷ c ∷ l) i two → PutAt i (decimal b ++ (comma ∷ [])) two j three
-    → j + size c + 1 ≤ length three
-third_room g q = number_fits (next_put g q)
-
-pub three_put : {whole before two three after : List ℕ} {at b c i j r : ℕ} → Lining whole at before (b ∷ c ∷ []) i two → PutAt i (decimal b ++ (comma ∷ [])) two j three
-    → PutAt j (decimal c ++ (feed ∷ [])) three r after → PutAt at whole before r after
-three_put g q t = last_put (next_put g q) t
-
 -- numbers of a list, one by one
 module _ (l : List ℕ) (i : ℕ) where
   at_next : i + 1 < length l → joined (drop i l) ≡ (decimal (get_or l i 0) ++ (comma ∷ [])) ++ joined (drop (i + 1) l)
@@ -155,12 +110,6 @@ module _ {whole before out l : List ℕ} {at place i : ℕ} (g : Lining whole at
   pub number_put : {after : List ℕ} {next : ℕ} → PutAt place (decimal (get_or l i 0) ++ (e ∷ [])) out next after → Lining whole at before (drop (i + 1) l) next after
   number_put q = record { laying = laying_more g.laying (decimal (get_or l i 0) ++ (e ∷ [])) (joined (drop (i + 1) l)) (joined_at l i h k) q.put q.behind }
 
--- all numbers of a line, as a whole of their own, and put to the end
-pub lining_left : {whole l before out : List ℕ} {at place : ℕ} → Lining whole at before l place out → Lining (joined l) place out l place out
-lining_left g = record { laying = laying_left g.laying }
-
-pub lining_ends : {whole before middle out l : List ℕ} {at from place : ℕ} (i : ℕ) → Lining whole at before l from middle → Lining (joined l) from middle (drop i l) place out
-    → length l ≤ i → PutAt at whole before place out
-lining_ends {l = l} i f g h =
-    let e = laying_ends g.laying (ap joined (drop_of_length-le l h) ∙ joined_none) in
-    ended (laying_last f.laying e.0 e.1) refl
+-- all numbers of a line are put
+pub lining_ends : {whole before out : List ℕ} {at place : ℕ} (l : List ℕ) (i : ℕ) → Lining whole at before (drop i l) place out → length l ≤ i → PutAt at whole before place out
+lining_ends l i g h = ended g.laying (ap joined (drop_of_length-le l h) ∙ joined_none)

@@ -2,8 +2,8 @@
 use Rattle.program_lines.proofs.Laws.Loops.{counts_room, ring_room, patch_fits, patch_last}
 use Rattle.program_lines.proofs.put_loop.Goals as goal
 
-pub put_six-i-requires : goal.put_six-i-requires
-put_six-i-requires c = search counts_room
+pub put_line-i-requires : goal.put_line-i-requires
+put_line-i-requires c = search counts_room
 
 pub put_ring-j-requires : goal.put_ring-j-requires
 put_ring-j-requires c = search ring_room

@@ -4,9 +4,6 @@ use Rattle.program_lines.specs.Workings.Telling.{inventory}
 use Rattle.program_lines.proofs.Laws.Nexts.{Typed, next_place, patch_in, next_wide, next_tells}
 use Rattle.program_lines.proofs.put_next.Goals as goal
 
-pub record_at-kept-requires : goal.record_at-kept-requires
-record_at-kept-requires c = tt
-
 pub corners_of-k-requires : goal.corners_of-k-requires
 corners_of-k-requires c = let h = next_place c.requires.next_room c.record_at-kept.ensures in (omega (arith, h), omega (arith, h))
 
@@ -16,12 +13,6 @@ overflow_add-r c = omega (arith, next_place c.requires.next_room c.record_at-kep
 pub offset_bounds-rings-r : goal.offset_bounds-rings-r
 offset_bounds-rings-r c = omega (arith, next_place c.requires.next_room c.record_at-kept.ensures)
 
-pub slice_bounds-put_loop-count : goal.slice_bounds-put_loop-count
-slice_bounds-put_loop-count c = omega arith
-
-pub slice_bounds-put_loop-start : goal.slice_bounds-put_loop-start
-slice_bounds-put_loop-start c = omega (arith, next_place c.requires.next_room c.record_at-kept.ensures)
-
 pub slice_bounds-put_loop-end : goal.slice_bounds-put_loop-end
 slice_bounds-put_loop-end c = omega (arith, next_place c.requires.next_room c.record_at-kept.ensures)
 
@@ -30,12 +21,6 @@ overflow_add-p c = omega (arith, patch_in c.requires.next_room c.record_at-kept.
 
 pub offset_bounds-patches-p : goal.offset_bounds-patches-p
 offset_bounds-patches-p c = omega (arith, patch_in c.requires.next_room c.record_at-kept.ensures c.corners_of-k.ensures)
-
-pub slice_bounds-put_loop-count-2 : goal.slice_bounds-put_loop-count-2
-slice_bounds-put_loop-count-2 c = omega arith
-
-pub slice_bounds-put_loop-start-2 : goal.slice_bounds-put_loop-start-2
-slice_bounds-put_loop-start-2 c = omega (arith, patch_in c.requires.next_room c.record_at-kept.ensures c.corners_of-k.ensures)
 
 pub slice_bounds-put_loop-end-2 : goal.slice_bounds-put_loop-end-2
 slice_bounds-put_loop-end-2 c = omega (arith, patch_in c.requires.next_room c.record_at-kept.ensures c.corners_of-k.ensures)
@@ -50,9 +35,6 @@ overflow_add-result c = omega (arith, next_place c.requires.next_room c.record_a
 
 pub overflow_add-result-2 : goal.overflow_add-result-2
 overflow_add-result-2 c = omega (arith, next_place c.requires.next_room c.record_at-kept.ensures, c.well_formed)
-
-pub overflow_add-result-3 : goal.overflow_add-result-3
-overflow_add-result-3 c = omega (arith, patch_in c.requires.next_room c.record_at-kept.ensures c.corners_of-k.ensures, c.well_formed)
 
 pub returns : goal.returns
 returns c =

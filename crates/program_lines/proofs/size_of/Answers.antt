@@ -3,9 +3,6 @@ use native.Mathlib.Omega.{arith}
 use Rattle.program_lines.proofs.Laws.Digits.{sized_more, sized_end, size_word}
 use Rattle.program_lines.proofs.size_of.Goals as goal
 
-pub loop-v-init : goal.loop-v-init
-loop-v-init c = omega arith
-
 pub overflow_add-size : goal.overflow_add-size
 overflow_add-size c = omega (arith, size_word c.args.n (omega arith))
 

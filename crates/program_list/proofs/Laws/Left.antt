@@ -8,7 +8,7 @@ use native.Mathlib.Omega.{arith}
 use lib.ListN.{length, length-map}
 use Rattle.base_answers.specs.Numbers.{refusing}
 use Rattle.base_answers.specs.declared.Answer.{Answer}
-use Rattle.base_answers.specs.declared.Answer.TheVariants.{Line}
+use Rattle.base_answers.specs.Answers.{Line}
 use Rattle.base_limits.specs.Limits as limits
 use Rattle.surface_rules.specs.Edges.{Sound}
 use Rattle.surface_rules.specs.Refusals.{refusal}

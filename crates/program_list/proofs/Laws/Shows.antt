@@ -22,14 +22,14 @@ use Rattle.cover_weight.specs.Weight.{Coordinates}
 use Rattle.cover_weight.proofs.Laws.Named.{named_on_grid}
 use Rattle.cover_weight.proofs.Laws.Strides.{longest_stride, stride_most}
 use Rattle.cover_weight.proofs.Laws.Totals.{cover_below}
-use Rattle.fill_fates.specs.Fates.{Fate, patched, long, uncovered, rim, state_of, weighs, lays, Meets, Becomes}
+use Rattle.fill_fates.specs.Fates.{Fate, patched, long, uncovered, rim, state_of, weighs, lays, Becomes}
 use Rattle.fill_fates.specs.Course.{Course, ring_list, laid_by}
 use Rattle.fill_fates.proofs.Laws.Grows.{laid_more}
 use Rattle.rim_pieces.specs.Computed.{numbers_below, many, smallest_of, piece_of}
 use Rattle.rim_pieces.specs.Pieces.{triangle_count}
 use Rattle.rim_pieces.proofs.Laws.Uniting.{numbers_length, numbers_at, smallest_low}
 use Rattle.rim_rules.specs.Rims.{loop_at, stride, run_of, run_at, piece_at}
-use Rattle.patch_records.specs.Records.{numbers, fate_at, record_of, records_of}
+use Rattle.patch_records.specs.Records.{numbers, fate_at, records_of}
 use Rattle.patch_records.proofs.Laws.Sevens.{listed, listed_none, listed_next}
 use Rattle.program_lines.specs.Listing.{Shown}
 use Rattle.program_lines.specs.Workings.Telling.{Fits, nothing}

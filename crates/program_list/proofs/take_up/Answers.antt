@@ -1,37 +1,27 @@
 -- `take_up` has room for the words of the longest sheet, and hands on what the checks say.
-use Rattle.surface_rules.proofs.Laws.Lists.{as_long}
+use Rattle.std.proofs.lemmas.Result.{err_from_is_err_and}
 use Rattle.text_sheet.proofs.Laws.Rooms.{long_words}
-use Rattle.patch_surface.specs.Outcome.{Buffers, buffers}
-use Rattle.program_list.proofs.Laws.Taken.{full_corners, wrong_takes, words_small, corners_small, words_in, corners_inside, whole_takes}
+use Rattle.text_read.proofs.Laws.Deliver.{whole_mapped}
+use Rattle.patch_surface.specs.Outcome.{buffers}
+use Rattle.program_list.proofs.Laws.Taken.{full_corners, wrong_takes, refused_takes, whole_takes}
 use Rattle.program_list.proofs.take_up.Goals as goal
 
 pub take_in-requires : goal.take_in-requires
 take_in-requires c = (long_words _, full_corners _ _ c.requires.corners_full)
 
-pub overflow_mul-w : goal.overflow_mul-w
-overflow_mul-w c = search words_small
+pub returns-in_err-sheet : goal.returns-in_err-sheet
+returns-in_err-sheet c =
+    let p = err_from_is_err_and c.from_residual.result c.from_residual.ensures.1 in
+    let t = wrong_takes (buffers c.args.grid.now c.args.rings.now c.args.records.now c.args.patches.now) c.args.turns.now c.take_in.result _ _ _ c.take_in.ensures c.in_err-sheet.ensures.cases in
+    rw (p.1, p.2) (record { takes_up = t.0; took = t.1 })
 
-pub overflow_mul-c : goal.overflow_mul-c
-overflow_mul-c c = search corners_small
+pub returns-in_err-check : goal.returns-in_err-check
+returns-in_err-check c =
+    let p = err_from_is_err_and c.from_residual-in_err-check.result c.from_residual-in_err-check.ensures.1 in
+    let t = refused_takes (whole_mapped c.take_in.result c.take_in.ensures c.in_ok-sheet.ensures.cases) (buffers c.args.grid.now c.args.rings.now c.args.records.now c.args.patches.now) c.in_err-check.ensures in
+    rw (p.1, p.2) (record { takes_up = t.0; took = t.1 })
 
-pub slice_bounds-words-end : goal.slice_bounds-words-end
-slice_bounds-words-end c = search words_in
-
-pub slice_bounds-check-end : goal.slice_bounds-check-end
-slice_bounds-check-end c = search (as_long, words_in)
-
-pub slice_bounds-check-end-in-Whole : goal.slice_bounds-check-end-in-Whole
-slice_bounds-check-end-in-Whole c = search corners_inside
-
-pub slice_bounds-check-end-in-Whole-2 : goal.slice_bounds-check-end-in-Whole-2
-slice_bounds-check-end-in-Whole-2 c = search (as_long, corners_inside)
-
-pub returns-in-Wrong : goal.returns-in-Wrong
-returns-in-Wrong c =
-    let t = wrong_takes c.args.text.now _ _ _ _ c.take_in.ensures (buffers c.args.grid.now c.args.rings.now c.args.records.now c.args.patches.now) c.args.turns.now c.in-Wrong.is in
-    record { takes_up = t.0; took = t.1 }
-
-pub returns-in-Whole : goal.returns-in-Whole
-returns-in-Whole c =
-    let t = whole_takes c.args.text.now _ _ _ _ c.take_in.ensures (buffers c.args.grid.now c.args.rings.now c.args.records.now c.args.patches.now) _ c.in-Whole.is c.check-answer.ensures in
+pub returns : goal.returns
+returns c =
+    let t = whole_takes (whole_mapped c.take_in.result c.take_in.ensures c.in_ok-sheet.ensures.cases) (buffers c.args.grid.now c.args.rings.now c.args.records.now c.args.patches.now) c.in_ok-check.ensures in
     record { takes_up = t.0; took = t.1 }

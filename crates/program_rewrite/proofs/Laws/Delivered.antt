@@ -4,7 +4,8 @@ use mathlib.Core.List.{List, [], ◌∷◌}
 use Prim.Native.Nat.{ℕ, ◌/◌, ◌≤◌}
 use native.Mathlib.Omega.{arith}
 use lib.ListN.{length}
-use Rattle.base_answers.specs.declared.Answer.TheVariants.{Done, Unnamed}
+use Rattle.base_answers.specs.Answers.{Unnamed}
+use Rattle.base_answers.specs.declared.Answer.TheVariants.{Done}
 use Rattle.base_limits.specs.Limits as limits
 use Rattle.surface_rules.specs.Buffers.{over}
 use Rattle.surface_rules.specs.Refusals.{buffer_refusal, unnamed_refusal}

@@ -2,8 +2,8 @@
 use Rattle.program_rewrite.proofs.Laws.Printed.{refused_lies, written_lies}
 use Rattle.program_rewrite.proofs.write.Goals as goal
 
-pub returns-then-refuses : goal.returns-then-refuses
-returns-then-refuses c = refused_lies _ _ _ _ _ c.write-written.ensures c.refuses.ensures c.if-refuses.true c.put_answer.ensures.out_value.0 c.put_answer.ensures.out_value.1
+pub returns-in-Ok : goal.returns-in-Ok
+returns-in-Ok c = written_lies _ _ _ _ _ c.write.ensures c.in-Ok.is
 
-pub returns : goal.returns
-returns c = written_lies _ _ _ _ _ c.write-written.ensures c.refuses.ensures c.if-refuses.false
+pub returns-in-Err : goal.returns-in-Err
+returns-in-Err c = refused_lies _ _ _ _ _ c.write.ensures c.in-Err.is c.put_answer.ensures.out_value.0 c.put_answer.ensures.out_value.1

@@ -23,7 +23,7 @@ use Rattle.program_lines.proofs.Laws.Widths.{widest, width_share}
 use Rattle.program_roll.specs.declared.TheConstants.{HEAD, LISTING}
 use Rattle.program_roll.specs.Sections.{head, between}
 use Rattle.program_roll.specs.Workings.Listed.{Listed}
-use Rattle.program_roll.specs.Workings.Roll.{Begins, Going, Fills, FillsOn, Few, whole, PutsAll}
+use Rattle.program_roll.specs.Workings.Roll.{Begins, Fills, FillsOn, Few, whole, PutsAll}
 use Rattle.program_roll.proofs.Laws.Between.{between_none, between_more}
 use Rattle.program_roll.proofs.Laws.Going.{going_begins}
 

@@ -1,5 +1,4 @@
 -- `fill`: from loop to loop, there was room for each.
-use Prim.Native.Nat.{◌-◌}
 use native.Mathlib.Omega.{arith}
 use Rattle.program_roll.proofs.Laws.Filling.{filling_begins, filling_room, filling_within, filling_one, filling_more, filling_full, filling_all}
 use Rattle.program_roll.proofs.fill.Goals as goal

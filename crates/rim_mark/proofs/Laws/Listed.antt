@@ -6,8 +6,7 @@ use Prim.Native.Nat.{ℕ, ◌/◌, ◌≤◌}
 use native.Mathlib.Omega.{arith}
 use lib.IntN.{ℤ}
 use lib.ListN.{length, get_or, take, length-map}
-use Rattle.surface_rules.specs.Buffers.{over}
-use Rattle.surface_rules.proofs.Laws.Over.{front_in, over_again}
+use Rattle.surface_rules.proofs.Laws.Over.{front_in}
 use Rattle.loop_rules.specs.Loops.{loops, ring}
 use Rattle.loop_cut.specs.Listing.{first_of, ListsLoops}
 use Rattle.loop_cut.specs.declared.Listed.{Listed}
@@ -19,7 +18,7 @@ use Rattle.rim_rules.specs.Rims.{rim_list}
 use Rattle.fill_fates.specs.Course.{ring_list}
 use Rattle.fill_scratch.specs.Workings.Rings.{Loops, Input, Marks}
 use Rattle.fill_scratch.proofs.Laws.Rings.{loops_of_lem}
-use Rattle.rim_mark.specs.Workings.Marking.{mark_of, Found, MarkRoom, Marked, AllRoom}
+use Rattle.rim_mark.specs.Workings.Marking.{Found, MarkRoom, Marked, AllRoom}
 use Rattle.rim_mark.proofs.Laws.Crossing.{still_crossing}
 use Rattle.rim_mark.proofs.Laws.Marks.{marks_stand, rims_many, first_at}
 
@@ -63,14 +62,6 @@ module _ {pitch : ℕ} {words corners table : List ℕ} (k : Known pitch words c
     }
 
     module _ {marks : List ℕ} (marked : Marked g corners firsts' marks) where
-      -- of the first half-edges nothing is left
-      pub all_marked : marks ≡ over (map mark_of (rim_list g corners)) firsts
-      all_marked =
-          marked
-          ∙ ap (over (map mark_of (rim_list g corners))) ls.all_firsts
-          ∙ over_again (map mark_of (rim_list g corners)) (map first_of (loops corners)) firsts
-          (length-map (rim_list g corners) mark_of ∙ rims_many g corners ∙ sym (length-map (loops corners) first_of))
-
       pub marks_here : Marks (rim_list g corners) marks
       marks_here = marks_stand g corners firsts' firsts_long marked
 

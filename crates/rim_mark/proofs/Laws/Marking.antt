@@ -22,12 +22,12 @@ use Rattle.fill_scratch.specs.Workings.Rings.{rim_mark}
 use Rattle.fill_scratch.proofs.Laws.Reading.{as_many}
 use Rattle.rim_pieces.specs.Pieces.{triangle_count}
 use Rattle.rim_pieces.specs.Computed.{numbers_below, piece_of, piece_numbers}
-use Rattle.rim_pieces.specs.Workings.Flooding.{Cleared, NumberRoom, Numbers}
+use Rattle.rim_pieces.specs.Workings.Flooding.{Cleared, Numbers}
 use Rattle.rim_pieces.proofs.Laws.Uniting.{number_at}
 use Rattle.rim_pieces.proofs.Theorems as pieces
 use Rattle.rim_rules.specs.Rims.{loop_at, run_at, piece_at, is_rim, rim_list}
 use Rattle.rim_rules.proofs.Theorems.{not_itself, none_rim, one_rim, alone_rim}
-use Rattle.rim_mark.specs.Workings.Running.{ring_run, MeasureRoom, Measures, MeasuresAll}
+use Rattle.rim_mark.specs.Workings.Running.{ring_run, Measures, MeasuresAll}
 use Rattle.rim_mark.specs.Workings.Ranking.{HouseRoom, Houses, RankRoom, Rivals, Ranks, told_mark, told_marks, TellRoom}
 use Rattle.rim_mark.specs.Workings.Marking.{mark_of, Found, Marked, AllMarked}
 use Rattle.rim_mark.proofs.Laws.Running.{run_at_lem}
@@ -83,9 +83,6 @@ module _ {grid : List ℤ} {corners rings lengths firsts turns : List ℕ} (foun
 
   -- ---- two or more
 
-  pub number_room : {queue pieces : List ℕ} → triangle_count corners ≤ length queue → triangle_count corners ≤ length pieces → NumberRoom corners turns queue pieces
-  number_room q p = record { crossing = found.crossing; queue_long = q; pieces_long = p }
-
   first_in : (l : ℕ) → l < length lengths → first_of (loop_at corners l) / 3 < triangle_count corners
   first_in l h =
       let k : l < length (loops corners) = omega (arith, many_loops) in
@@ -104,15 +101,6 @@ module _ {grid : List ℤ} {corners rings lengths firsts turns : List ℕ} (foun
   -- there are no more loops than triangles
   pub homes_long : {long : ℕ} → triangle_count corners ≤ long → length lengths ≤ long
   homes_long h = omega (arith, many_loops, loops_third corners sound)
-
-  pub measure_room : {runs : List ℕ} → length lengths ≤ length runs → MeasureRoom grid rings lengths runs
-  measure_room long = record {
-    input = corners;
-    rs = ring_list corners;
-    loops = found.listed;
-    few = found.crossing.few;
-    room = omega (arith, many_loops, length-map (loops corners) (ring corners));
-  }
 
   -- the run of a loop by its ring is its run
   measured_is : (l : ℕ) → l < length lengths → ring_run grid (get_or (ring_list corners) l []) ≡ run_at grid corners l

@@ -8,6 +8,7 @@ use lib.IntN.{ℤ}
 use lib.ListN.{length, get_or, take, drop, set, length-set, length-append}
 use lib.Seq.{get_or-set_same, get_or-set_other}
 use Rattle.surface_rules.proofs.Laws.Tests.{eq_or_not}
+use Rattle.base_limits.specs.Limits as limits
 use Rattle.fill_scratch.specs.Workings.Rings.{RingOf, Loops, RingPlace}
 use Rattle.fill_scratch.proofs.Laws.Reading.{as_many, length_at, ring_at_lem, ring_next, places_of}
 use Rattle.rim_mark.specs.Workings.Running.{ring_run, RingRoom, MeasureRoom}
@@ -39,6 +40,13 @@ module _ {due : ℕ → Type 0} {grid : List ℤ} {rings lengths runs₀ : List 
     module _ (h : l < length lengths) where
       pub places : RingPlace rings lengths l r
       places = places_of grid room.input room.rs rings lengths room.loops room.few l r h (m.read room.input room.rs room.loops)
+
+      -- its ring stands among the rings
+      pub ring_within : r + get_or lengths l 0 ≤ length rings
+      ring_within = places.ring_in
+
+      pub rings_few : length rings ≤ limits.corners
+      rings_few = places.rings_few
 
       pub run_in : l < length runs
       run_in = let a = as_many grid room.input room.rs rings lengths room.loops in let b = room.room in let c = m.kept in omega (arith, a)

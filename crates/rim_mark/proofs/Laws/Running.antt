@@ -14,7 +14,7 @@ use Rattle.surface_rules.proofs.Laws.Lists.{map_at}
 use Rattle.loop_rules.specs.Loops.{loops, ring}
 use Rattle.loop_rules.proofs.Laws.Linked.{Closed, closed_next}
 use Rattle.loop_rules.proofs.Theorems.{three_or_more, loop_closes}
-use Rattle.cover_weight.specs.Weight.{stride_of, Names}
+use Rattle.cover_weight.specs.Weight.{stride_of}
 use Rattle.cover_weight.proofs.Laws.Strides.{longest_stride, stride_most}
 use Rattle.rim_rules.specs.Rims.{loop_at, stride, run_of, run_at}
 use Rattle.rim_mark.specs.Workings.Running.{sum_below, stride_at, closing_stride, ring_run, RingRoom}
@@ -47,13 +47,6 @@ pub record Running (grid : List ℤ) (ring : List ℕ) (i run : ℕ) : Type 0 wh
   pub sum : run ≡ up_to grid ring i
 
 module _ {grid : List ℤ} {ring : List ℕ} (room : RingRoom grid ring) where
-  -- the points whose strides are taken
-  pub first_named : Names grid (get_or ring 0 0)
-  first_named = room.named 0 room.some
-
-  pub last_named : Names grid (get_or ring (length ring - 1) 0)
-  last_named = room.named (length ring - 1) (let s = room.some in omega arith)
-
   up_most : (i : ℕ) → i < limits.corners → up_to grid ring i ≤ longest_stride * limits.corners
   unfolding up_to
   up_most i h =
@@ -67,12 +60,6 @@ module _ {grid : List ℤ} {ring : List ℕ} (room : RingRoom grid ring) where
 
   module _ {i r : ℕ} (a : Running grid ring i r) where
     module _ (h : i < length ring - 1) where
-      pub here_named : Names grid (get_or ring i 0)
-      here_named = room.named i (omega arith)
-
-      pub next_named : Names grid (get_or ring (i + 1) 0)
-      next_named = room.named (i + 1) (omega arith)
-
       module _ {s : ℕ} (f : s ≡ stride_of grid (get_or ring i 0) (get_or ring (i + 1) 0)) where
         up_more : r + s ≡ up_to grid ring (i + 1)
         unfolding up_to sum_below

@@ -32,9 +32,6 @@ module _ {homes best : List ℕ} {n : ℕ} {marks₀ : List ℕ} (room : TellRoo
   told_begins = record { within = omega arith; kept = refl; told = sym (over_none marks₀) }
 
   module _ {l : ℕ} {marks : List ℕ} (m : Told homes best marks₀ n l marks) where
-    pub told_ends : n ≤ l → marks ≡ over (told_marks homes best n) marks₀
-    told_ends h = let w = m.within in m.told ∙ ap (λ (k : ℕ). over (told_marks homes best k) marks₀) (let z : l ≡ n = omega arith in z)
-
     module _ (h : l < n) where
       pub mark_in : l < length marks
       mark_in = let a = room.marks_long in let b = m.kept in omega arith

@@ -3,20 +3,11 @@ use mathlib.Core.Path.{◌∙◌}
 use native.Mathlib.Omega.{arith}
 use Rattle.survey_rules.proofs.Laws.Known.{still_long}
 use Rattle.rim_pieces.proofs.Theorems.{count_is}
-use Rattle.rim_mark.proofs.Laws.Marking.{many_loops, number_room, homes_long, measure_room, house_room, clear_room, rank_room, tell_room, home_is, marked, all_run}
+use Rattle.rim_mark.proofs.Laws.Marking.{many_loops, homes_long, house_room, rank_room, tell_room, home_is, marked, all_run}
 use Rattle.rim_mark.proofs.mark_counted.Goals as goal
-
-pub measure_all-requires : goal.measure_all-requires
-measure_all-requires c = measure_room c.requires.found (omega (arith, c.requires.runs_long, many_loops c.requires.found))
-
-pub number-count-requires : goal.number-count-requires
-number-count-requires c = number_room c.requires.found c.requires.pieces_long c.requires.path_long
 
 pub house-requires : goal.house-requires
 house-requires c = house_room c.requires.found c.number-count.ensures (still_long c.requires.path_long c.number-count.auto.pieces) (still_long (homes_long c.requires.found c.requires.pieces_long) c.number-count.auto.queue)
-
-pub clear-requires : goal.clear-requires
-clear-requires c = clear_room c.requires.found c.number-count.ensures (still_long c.requires.path_long c.number-count.auto.pieces) (still_long c.requires.path_long c.number-count.auto.pieces)
 
 pub rank-requires : goal.rank-requires
 rank-requires c =

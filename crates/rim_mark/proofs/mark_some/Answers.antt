@@ -7,7 +7,7 @@ use lib.IntN.{ℤ}
 use lib.ListN.{length}
 use Rattle.survey_rules.proofs.Laws.Known.{still_long}
 use Rattle.rim_mark.specs.Workings.Marking.{MarkRoom}
-use Rattle.rim_mark.proofs.Laws.Marking.{number_room, homes_long, measure_room, house_room, clear_room, rank_room, rivals_run, tell_room, marked}
+use Rattle.rim_mark.proofs.Laws.Marking.{homes_long, house_room, rank_room, rivals_run, tell_room, marked}
 use Rattle.rim_mark.proofs.mark_some.Goals as goal
 
 -- the table of turns has room for a piece of each loop
@@ -15,25 +15,13 @@ turned : {grid : List ℤ} {corners rings lengths turns path places marks : List
     → length lengths ≤ length turns
 turned room = homes_long room.found (omega (arith, room.found.crossing.long))
 
-pub number-count-requires : goal.number-count-requires
-number-count-requires c = let r = c.requires.mark_room in number_room r.found r.path_long r.places_long
-
 pub house-requires : goal.house-requires
 house-requires c = house_room c.requires.mark_room.found c.number-count.ensures (still_long c.requires.mark_room.places_long c.number-count.auto.pieces) (turned c.requires.mark_room)
-
-pub clear-requires : goal.clear-requires
-clear-requires c = clear_room c.requires.mark_room.found c.number-count.ensures (still_long c.requires.mark_room.places_long c.number-count.auto.pieces) (still_long c.requires.mark_room.path_long c.number-count.auto.queue)
 
 pub find_rivals-requires : goal.find_rivals-requires
 find_rivals-requires c =
     rank_room c.requires.mark_room.found c.number-count.ensures (still_long c.requires.mark_room.places_long c.number-count.auto.pieces) c.house.ensures (still_long (turned c.requires.mark_room) c.house.auto.homes) c.clear.ensures
     (still_long c.requires.mark_room.path_long c.number-count.auto.queue) c.requires.lengths_in_bounds
-
-pub measure-requires : goal.measure-requires
-measure-requires c = measure_room c.requires.mark_room.found (still_long c.requires.lengths_in_bounds c.find_rivals.auto.runs)
-
-pub clear-requires-2 : goal.clear-requires-2
-clear-requires-2 c = clear_room c.requires.mark_room.found c.number-count.ensures (still_long c.requires.mark_room.places_long c.number-count.auto.pieces) (still_long c.requires.mark_room.path_long (c.find_rivals.auto.firsts ∙ c.clear.auto.pieces ∙ c.number-count.auto.queue))
 
 pub rank-requires : goal.rank-requires
 rank-requires c =

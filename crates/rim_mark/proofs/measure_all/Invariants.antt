@@ -1,11 +1,6 @@
 -- `measure_all` adds up ring after ring.
-use Prim.Native.Nat.{◌-◌}
-use lib.ListN.{length}
 use Rattle.rim_mark.proofs.Laws.Measuring.{Measured, Every}
 use Rattle.rim_mark.proofs.measure_all.Given as goal
 
 abbrev pub invariant-loop-l : goal.invariant-loop-l
 invariant-loop-l l = Measured Every l.grid l.rings l.lengths l.initial.runs l.l l.r l.runs
-
-abbrev pub decreases-loop-l : goal.decreases-loop-l
-decreases-loop-l l = length l.lengths - l.l

@@ -4,7 +4,6 @@ use mathlib.Core.List.{List}
 use Prim.Native.Nat.{ℕ, ◌+◌, ◌<◌, ◌≤◌}
 use native.Mathlib.Omega.{arith}
 use lib.ListN.{length, get_or, length-set}
-use Rattle.base_limits.specs.Limits as limits
 use Rattle.rim_pieces.specs.Pieces.{triangle_count}
 use Rattle.rim_pieces.specs.Workings.Flooding.{none, Flooded, flooded, queued, label_at, Crossing, Flooding, AroundRoom, Arounds, SpreadRoom, Spreads, Between, NumberRoom, Numbers}
 use Rattle.rim_pieces.proofs.Laws.Pushing.{push}
@@ -17,9 +16,6 @@ pub record Spreading (turns : List ℕ) (from p : ℕ) (at₀ : Flooded) (done :
   pub pieces_same : length at.pieces ≡ length at₀.pieces
 
 module _ {turns : List ℕ} {from p : ℕ} {at₀ : Flooded} where
-  pub spreading_begins : Spreading turns from p at₀ from at₀
-  spreading_begins = record { goes = λ corners root x f. f; queue_same = refl; pieces_same = refl }
-
   module _ {done : ℕ} {at : Flooded} (s : Spreading turns from p at₀ done at) where
     module _ (r : SpreadRoom turns from p at₀) where
       pub now : Flooding r.corners r.root p from done at
@@ -27,9 +23,6 @@ module _ {turns : List ℕ} {from p : ℕ} {at₀ : Flooded} where
 
       pub end_in : at.count ≤ length at.queue
       end_in = let f = now.flood in let a = f.within in let b = f.queue_long in omega arith
-
-      pub queued_few : done < at.count → queued at done < limits.corners
-      queued_few l = let a = now.flood.queued_in done l in let b = r.crossing.few in omega arith
 
       pub around_room : done < at.count → AroundRoom turns (queued at done) p at
       around_room l = record { corners = r.corners; root = r.root; start = from; done = done; crossing = r.crossing; next = l; here = refl; flooding = now }
@@ -70,9 +63,6 @@ module _ {corners turns queue₀ pieces₀ : List ℕ} (r : NumberRoom corners t
     small = let a = s.between.no_more in let b = s.between.within in let c = r.crossing.few in omega arith
 
     module _ (l : t < triangle_count corners) where
-      pub triangle_in : t < length at.pieces
-      triangle_in = let a = s.between.flood.pieces_long in omega arith
-
       pub numbering_passes : (label_at at t ≡ none → ⊥) → Numbering corners (t + 1) p at m n
       numbering_passes f = record { between = between_passes s.between l f; queue_same = s.queue_same; pieces_same = s.pieces_same }
 

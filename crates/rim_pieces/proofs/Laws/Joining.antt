@@ -1,5 +1,6 @@
 -- Joined triangles are a group: the way back takes the same edges. Two numberings of the pieces are one, since from triangle to triangle each
 -- gives a number that is already there or the next one.
+use Rattle.std.specs.Prelude.{Some}
 use mathlib.Core.Path.{◌≡◌, refl, sym, ap, ◌∙◌}
 use mathlib.Core.List.{List}
 use mathlib.Core.Logic.{⊎_elim}
@@ -7,7 +8,6 @@ use Prim.Native.Nat.{ℕ, zero, suc, ◌/◌, ◌<◌, ◌≤◌}
 use native.Mathlib.Nat.{not-suc-le-zero, eq-or-lt_of_le, le_of_suc-le-suc}
 use native.Mathlib.Omega.{arith}
 use lib.ListN.{length, get_or}
-use Rattle.surface_rules.specs.declared.Found.TheVariants.{At}
 use Rattle.surface_rules.specs.Edges.{Sound, twin}
 use Rattle.surface_rules.proofs.Laws.Edges.{twin_says, twin_is}
 use Rattle.rim_pieces.specs.Pieces.{triangle_count, Shares, Joined, itself, onward, Numbered}
@@ -36,7 +36,7 @@ join_back itself = itself
 join_back (onward x y b s) = join_on (join_one (share_back s)) (join_back b)
 
 -- the triangle across a half-edge shares that edge
-pub twin_shares : (corners : List ℕ) (h g : ℕ) → h < length corners → twin corners h ≡ At g → Shares corners (h / 3) (g / 3)
+pub twin_shares : (corners : List ℕ) (h g : ℕ) → h < length corners → twin corners h ≡ Some g → Shares corners (h / 3) (g / 3)
 twin_shares corners h g l e =
     let s = twin_says corners h g e in
     record {
@@ -51,7 +51,7 @@ twin_shares corners h g l e =
     }
 
 -- on a surface that is not refused a shared edge is a half-edge and its twin
-pub shares_twin : (corners : List ℕ) → Sound corners → (t u : ℕ) (s : Shares corners t u) → twin corners s.here ≡ At s.there
+pub shares_twin : (corners : List ℕ) → Sound corners → (t u : ℕ) (s : Shares corners t u) → twin corners s.here ≡ Some s.there
 shares_twin corners sound t u s = twin_is corners sound s.here s.there s.there_in (record { starts = s.starts; ends = s.ends })
 
 -- a triangle that shares an edge is one of the surface

@@ -1,13 +1,12 @@
 -- A loop lies in one piece: the turn goes on across shared edges only, so the next edge lies in the piece of the one before, and so does the whole
 -- cycle; and a loop is cut out of one cycle.
+use Rattle.std.specs.Prelude.{Option, Some, None}
 use mathlib.Core.Path.{◌≡◌, refl, sym, ◌∙◌, subst}
 use mathlib.Core.Bool.{Bool, true, false, cond}
 use mathlib.Core.List.{List, [], ◌++◌, append-nil}
 use Prim.Native.Nat.{ℕ, zero, suc, ◌/◌, ◌<◌, ◌≤◌}
 use native.Mathlib.Omega.{arith}
 use lib.ListN.{length, get_or}
-use Rattle.surface_rules.specs.declared.Found.{Found}
-use Rattle.surface_rules.specs.declared.Found.TheVariants.{At, Nothing}
 use Rattle.surface_rules.specs.Edges.{Sound, following, twin, is_open}
 use Rattle.loop_rules.specs.Next.{across, step, turn, next}
 use Rattle.loop_rules.specs.Loops.{cycle, leads, loops_of, loops_below, loops}
@@ -33,9 +32,9 @@ module _ (corners : List ℕ) (sound : Sound corners) where
   unfolding step
   step_joined e l = go (twin corners e) refl
     where
-      go : (f : Found) → twin corners e ≡ f → Joined corners (e / 3) (across f e / 3)
-      go (At g) d = subst (Joined corners (e / 3)) (sym (same_triangle g)) (join_one (twin_shares corners e g l d))
-      go Nothing d = itself
+      go : (f : Option ℕ) → twin corners e ≡ f → Joined corners (e / 3) (across f e / 3)
+      go (Some g) d = subst (Joined corners (e / 3)) (sym (same_triangle g)) (join_one (twin_shares corners e g l d))
+      go None d = itself
 
   turn_joined : (h : ℕ) → h < length corners → (k : ℕ) → Joined corners (h / 3) (turn corners k (following h) / 3)
   unfolding turn

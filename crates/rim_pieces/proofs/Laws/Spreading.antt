@@ -1,13 +1,12 @@
 -- The flood goes on: what has a number keeps it, so what was closed stays closed; and a triangle that shares an edge with one of piece p and has a
 -- number has p, since it is of this flood or was closed before it.
+use Rattle.std.specs.Prelude.{Option, Some, None}
 use mathlib.Core.Path.{◌≡◌, refl, sym, ap, ◌∙◌, subst}
 use mathlib.Core.List.{List}
 use mathlib.Core.Logic.{⊎_elim}
 use Prim.Native.Nat.{ℕ, ◌+◌, ◌*◌, ◌/◌, ◌<◌, ◌≤◌}
 use native.Mathlib.Omega.{arith}
 use lib.ListN.{length, get_or}
-use Rattle.surface_rules.specs.declared.Found.{Found}
-use Rattle.surface_rules.specs.declared.Found.TheVariants.{At, Nothing}
 use Rattle.surface_rules.specs.Edges.{Sound, following, twin}
 use Rattle.surface_rules.proofs.Laws.Tests.{eq_or_not, lt_or_le}
 use Rattle.surface_rules.proofs.Laws.Edges.{twin_says, below_after}
@@ -68,27 +67,27 @@ same_triangle g = omega arith
 
 module _ {corners turns : List ℕ} (x : Crossing corners turns) (h : ℕ) (l : h < length corners) where
   -- by what stands in the table
-  pub open_none : walked_mark ≤ get_or turns h 0 → twin corners h ≡ Nothing
+  pub open_none : walked_mark ≤ get_or turns h 0 → twin corners h ≡ None
   open_none m = go (twin corners h) refl
     where
-      go : (f : Found) → twin corners h ≡ f → twin corners h ≡ Nothing
-      go (At g) e =
+      go : (f : Option ℕ) → twin corners h ≡ f → twin corners h ≡ None
+      go (Some g) e =
           let a = x.shared h g l e in
           let b = below_after corners x.sound g (twin_says corners h g e).0 in
           let c = x.few in
           absurd (omega arith)
-      go Nothing e = e
+      go None e = e
 
-  pub shared_at : get_or turns h 0 < walked_mark → (g : ℕ) × (twin corners h ≡ At g) × (get_or turns h 0 / 3 ≡ g / 3) × (g / 3 < triangle_count corners)
+  pub shared_at : get_or turns h 0 < walked_mark → (g : ℕ) × (twin corners h ≡ Some g) × (get_or turns h 0 / 3 ≡ g / 3) × (g / 3 < triangle_count corners)
   shared_at m = go (twin corners h) refl
     where
-      go : (f : Found) → twin corners h ≡ f → (g : ℕ) × (twin corners h ≡ At g) × (get_or turns h 0 / 3 ≡ g / 3) × (g / 3 < triangle_count corners)
-      go (At g) e =
+      go : (f : Option ℕ) → twin corners h ≡ f → (g : ℕ) × (twin corners h ≡ Some g) × (get_or turns h 0 / 3 ≡ g / 3) × (g / 3 < triangle_count corners)
+      go (Some g) e =
           let a = x.shared h g l e in
           let b = (twin_says corners h g e).0 in
           let c = x.sound.triples in
           (g, e, ap (λ (k : ℕ). k / 3) a ∙ same_triangle g, omega arith)
-      go Nothing e = let a = x.unshared h l e in absurd (omega arith)
+      go None e = let a = x.unshared h l e in absurd (omega arith)
 
 module _ {corners turns : List ℕ} {root p start done : ℕ} {at : Flooded} (x : Crossing corners turns) (h : ℕ) (l : h < length corners)
     (mine : label_at at (h / 3) ≡ p) (f : Flooding corners root p start done at) where
@@ -181,7 +180,7 @@ module _ {corners : List ℕ} (sound : Sound corners) {t root p start done : ℕ
 
   across_all : (u : ℕ) → Shares corners t u → label_at at₃ u < none
   across_all u s =
-      let e : twin corners s.here ≡ At s.there = shares_twin corners sound t u s in
+      let e : twin corners s.here ≡ Some s.there = shares_twin corners sound t u s in
       let a = s.of_first in
       let b : s.there / 3 ≡ u = s.of_second in
       let first : s.here ≡ 3 * t → label_at at₃ u < none = λ i.

@@ -1,5 +1,6 @@
 -- The computed numbers are the numbers of the pieces: two triangles have one smallest exactly if they are joined, since what is equal stays equal
 -- and what is made equal is joined; and there are as many smaller smallest ones as numbers before.
+use Rattle.std.specs.Prelude.{Option, Some, None}
 use mathlib.Core.Path.{◌≡◌, refl, sym, ap, ◌∙◌, subst}
 use mathlib.Core.Bool.{Bool, true, false, cond}
 use mathlib.Core.List.{List, [], ◌∷◌, ◌++◌, map}
@@ -11,8 +12,6 @@ use lib.Dec.{eqb, leb}
 use lib.ListN.{length, get_or, length-append, get_or-append}
 use lib.Seq.{get_or-append-add}
 use borrow.Author.Tests.{eq-eqb, eqb-true, leb-true, leb-false}
-use Rattle.surface_rules.specs.declared.Found.{Found}
-use Rattle.surface_rules.specs.declared.Found.TheVariants.{At, Nothing}
 use Rattle.surface_rules.specs.Edges.{Sound, twin}
 use Rattle.surface_rules.proofs.Laws.Edges.{twin_says}
 use Rattle.rim_pieces.specs.Pieces.{triangle_count, Shares, Joined, itself, onward, Numbered}
@@ -88,7 +87,7 @@ record Merged (corners : List ℕ) (k : ℕ) (l : List ℕ) : Type 0 where
   pub long : length l ≡ triangle_count corners
   pub low : (t : ℕ) → t < triangle_count corners → get_or l t 0 ≤ t
   pub kin : (t : ℕ) → t < triangle_count corners → Joined corners t (get_or l t 0)
-  pub made : (h g : ℕ) → h < k → twin corners h ≡ At g → get_or l (h / 3) 0 ≡ get_or l (g / 3) 0
+  pub made : (h g : ℕ) → h < k → twin corners h ≡ Some g → get_or l (h / 3) 0 ≡ get_or l (g / 3) 0
 
 module _ (corners : List ℕ) (sound : Sound corners) where
   abbrev n : ℕ
@@ -97,15 +96,15 @@ module _ (corners : List ℕ) (sound : Sound corners) where
   third_in : (h : ℕ) → h < length corners → h / 3 < n
   third_in h l = let c = sound.triples in omega arith
 
-  merge_none : (k : ℕ) (l : List ℕ) → twin corners k ≡ Nothing → Merged corners k l → Merged corners (suc k) l
+  merge_none : (k : ℕ) (l : List ℕ) → twin corners k ≡ None → Merged corners k l → Merged corners (suc k) l
   merge_none k l e m = record {
     long = m.long;
     low = m.low;
     kin = m.kin;
-    made = λ h g i t. ⊎_elim (λ (q : h ≡ k). absurd (let d : twin corners k ≡ At g = ap (twin corners) (sym q) ∙ t in let z : ◌≡◌ {A = ℕ} 0 1 = cc in omega arith)) (λ (q : h < k). m.made h g q t) (eq-or-lt_of_le (le_of_suc-le-suc i));
+    made = λ h g i t. ⊎_elim (λ (q : h ≡ k). absurd (let d : twin corners k ≡ Some g = ap (twin corners) (sym q) ∙ t in let z : ◌≡◌ {A = ℕ} 0 1 = cc in omega arith)) (λ (q : h < k). m.made h g q t) (eq-or-lt_of_le (le_of_suc-le-suc i));
   }
 
-  module _ (k g : ℕ) (l : List ℕ) (i : k < length corners) (e : twin corners k ≡ At g) (m : Merged corners k l) where
+  module _ (k g : ℕ) (l : List ℕ) (i : k < length corners) (e : twin corners k ≡ Some g) (m : Merged corners k l) where
     abbrev a : ℕ
     a = get_or l (k / 3) 0
 
@@ -153,7 +152,7 @@ module _ (corners : List ℕ) (sound : Sound corners) where
           let y = united_at (f / 3) (third_in f (twin_says corners h f t).0) in
           ⊎_elim
           (λ (q : h ≡ k).
-          let w : f ≡ g = let d : twin corners k ≡ At f = ap (twin corners) (sym q) ∙ t in cc in
+          let w : f ≡ g = let d : twin corners k ≡ Some f = ap (twin corners) (sym q) ∙ t in cc in
           x ∙ ap (λ (v : ℕ). one a b (get_or l (v / 3) 0)) q ∙ one_both a b ∙ ap (λ (v : ℕ). one a b (get_or l (v / 3) 0)) (sym w) ∙ sym y)
           (λ (q : h < k). x ∙ ap (one a b) (m.made h f q t) ∙ sym y)
           (eq-or-lt_of_le (le_of_suc-le-suc j));
@@ -169,9 +168,9 @@ module _ (corners : List ℕ) (sound : Sound corners) where
   }
   merged (suc k) l = go (merged k (omega arith)) (twin corners k) refl
     where
-      go : Merged corners k (smallest_by corners k) → (f : Found) → twin corners k ≡ f → Merged corners (suc k) (unite_across f k (smallest_by corners k))
-      go m (At g) e = merge_at k g (smallest_by corners k) l e m
-      go m Nothing e = merge_none k (smallest_by corners k) e m
+      go : Merged corners k (smallest_by corners k) → (f : Option ℕ) → twin corners k ≡ f → Merged corners (suc k) (unite_across f k (smallest_by corners k))
+      go m (Some g) e = merge_at k g (smallest_by corners k) l e m
+      go m None e = merge_none k (smallest_by corners k) e m
 
   -- ---- the smallest of a piece
 

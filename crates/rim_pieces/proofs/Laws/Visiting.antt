@@ -22,9 +22,6 @@ module _ {turns : List ℕ} {h p : ℕ} {at : Flooded} where
   visits_new m n corners root start done x l mine f = visit_new x h l mine f m n
 
   module _ (r : VisitRoom turns h p at) where
-    pub edge_in : h < length turns
-    edge_in = let a = r.edge in let b = r.crossing.long in omega arith
-
     pub across_in : get_or turns h 0 < walked_mark → get_or turns h 0 / 3 < length at.pieces
     across_in m =
         let s = shared_at r.crossing h r.edge m in

@@ -1,7 +1,5 @@
 -- `number` floods from the smallest triangle that has no number, piece after piece.
-use Prim.Native.Nat.{◌-◌}
-use native.Mathlib.Omega.{arith}
-use Rattle.rim_pieces.proofs.Laws.Floods.{numbering_begins, small, triangle_in, numbering_passes, queue_in, spread_room, numbering_more, numbering_ends}
+use Rattle.rim_pieces.proofs.Laws.Floods.{numbering_begins, numbering_passes, queue_in, spread_room, numbering_more, numbering_ends}
 use Rattle.rim_pieces.proofs.number.Goals as goal
 
 pub loop-t-init : goal.loop-t-init
@@ -9,23 +7,14 @@ loop-t-init c =
     numbering_begins c.requires c.clear.ensures.kept
     c.clear.ensures.clear
 
-pub bounds-pieces-t : goal.bounds-pieces-t
-bounds-pieces-t c = search (triangle_in, c.loop-t.invariant, c.requires, c.loop-t-test)
-
 pub loop-t-preserved-then-pieces-t : goal.loop-t-preserved-then-pieces-t
 loop-t-preserved-then-pieces-t c = search (numbering_passes, c.loop-t.invariant, c.requires, c.loop-t-test)
-
-pub bounds-pieces-t-in-loop-t : goal.bounds-pieces-t-in-loop-t
-bounds-pieces-t-in-loop-t c = search (triangle_in, c.loop-t.invariant, c.requires, c.loop-t-test)
 
 pub bounds-queue-count : goal.bounds-queue-count
 bounds-queue-count c = search (queue_in, c.loop-t.invariant, c.requires, c.loop-t-test)
 
 pub spread-count-requires : goal.spread-count-requires
 spread-count-requires c = search (spread_room, c.loop-t.invariant, c.requires, c.loop-t-test)
-
-pub overflow_add-p : goal.overflow_add-p
-overflow_add-p c = omega (arith, small c.requires c.loop-t.invariant)
 
 pub loop-t-preserved : goal.loop-t-preserved
 loop-t-preserved c =

@@ -1,20 +1,13 @@
 -- `spread` takes triangle after triangle out of the queue.
-use Prim.Native.Nat.{◌-◌}
 use native.Mathlib.Omega.{arith}
-use Rattle.rim_pieces.proofs.Laws.Floods.{spreading_begins, end_in, queued_few, around_room, spreading_more, spreading_ends}
+use Rattle.rim_pieces.proofs.Laws.Floods.{end_in, around_room, spreading_more, spreading_ends}
 use Rattle.rim_pieces.proofs.spread.Goals as goal
-
-pub loop-done-init : goal.loop-done-init
-loop-done-init c = spreading_begins
 
 pub offset_bounds-queue-done : goal.offset_bounds-queue-done
 offset_bounds-queue-done c = omega (arith, (end_in c.loop-done.invariant c.requires), c.loop-done-test)
 
 pub bounds-queue-done : goal.bounds-queue-done
 bounds-queue-done c = omega (arith, (end_in c.loop-done.invariant c.requires), c.loop-done-test)
-
-pub overflow_cast-t : goal.overflow_cast-t
-overflow_cast-t c = omega (arith, queued_few c.loop-done.invariant c.requires c.loop-done-test.true)
 
 pub around-end-requires : goal.around-end-requires
 around-end-requires c = search (around_room, c.loop-done.invariant, c.requires, c.loop-done-test)

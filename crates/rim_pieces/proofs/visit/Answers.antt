@@ -1,9 +1,6 @@
 -- `visit` looks across one half-edge.
-use Rattle.rim_pieces.proofs.Laws.Visiting.{visits_open, visits_old, visits_new, edge_in, across_in, room_in}
+use Rattle.rim_pieces.proofs.Laws.Visiting.{visits_open, visits_old, visits_new, across_in, room_in}
 use Rattle.rim_pieces.proofs.visit.Goals as goal
-
-pub bounds-turns-h : goal.bounds-turns-h
-bounds-turns-h c = search edge_in
 
 pub returns-then-turn-ge-WALKED : goal.returns-then-turn-ge-WALKED
 returns-then-turn-ge-WALKED c = search visits_open
@@ -13,9 +10,6 @@ bounds-pieces-u c = search (across_in c.requires)
 
 pub returns-then-pieces-u : goal.returns-then-pieces-u
 returns-then-pieces-u c = search visits_old
-
-pub bounds-pieces-u-2 : goal.bounds-pieces-u-2
-bounds-pieces-u-2 c = search (across_in c.requires)
 
 pub bounds-queue-count : goal.bounds-queue-count
 bounds-queue-count c = search (room_in c.requires)

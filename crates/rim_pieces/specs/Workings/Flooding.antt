@@ -1,7 +1,6 @@
 -- How a piece is flooded from its smallest triangle.
-use Rattle.std.specs.Prelude.{◌≡◌, List, ℕ, ◌+◌, ◌/◌, ◌<◌, ◌≤◌, length, get_or}
+use Rattle.std.specs.Prelude.{◌≡◌, List, ℕ, ◌+◌, ◌/◌, ◌<◌, ◌≤◌, length, get_or, Some, None}
 use Rattle.base_limits.specs.Limits as limits
-use Rattle.surface_rules.specs.declared.Found.TheVariants.{At, Nothing}
 use Rattle.surface_rules.specs.Edges.{Sound, following, twin}
 use Rattle.loop_leaders.specs.Workings.Leading.{walked_mark}
 use Rattle.rim_pieces.specs.Pieces.{triangle_count, Shares, Joined, Numbered}
@@ -36,8 +35,8 @@ pub record Crossing (corners turns : List ℕ) : Type 0 where
   pub sound : Sound corners
   pub few : length corners ≤ limits.corners
   pub long : length corners ≤ length turns
-  pub shared : (h g : ℕ) → h < length corners → twin corners h ≡ At g → get_or turns h 0 ≡ following g
-  pub unshared : (h : ℕ) → h < length corners → twin corners h ≡ Nothing → walked_mark ≤ get_or turns h 0
+  pub shared : (h g : ℕ) → h < length corners → twin corners h ≡ Some g → get_or turns h 0 ≡ following g
+  pub unshared : (h : ℕ) → h < length corners → twin corners h ≡ None → walked_mark ≤ get_or turns h 0
 
 -- The triangles that have a number are those in the queue, none twice. Numbers are at most p. All below `root` have one.
 pub record Flood (corners : List ℕ) (root p : ℕ) (at : Flooded) : Type 0 where
@@ -101,7 +100,7 @@ pub record VisitRoom (turns : List ℕ) (h p : ℕ) (at : Flooded) : Type 0 wher
 pub record Visited (corners : List ℕ) (h root p start done : ℕ) (at at' : Flooded) : Type 0 where
   pub flooding : Flooding corners root p start done at'
   pub stay : Stay at at'
-  pub across : (g : ℕ) → twin corners h ≡ At g → label_at at' (g / 3) < none
+  pub across : (g : ℕ) → twin corners h ≡ Some g → label_at at' (g / 3) < none
 
 abbrev pub Visits : List ℕ → ℕ → ℕ → Flooded → Flooded → Type 0
 Visits turns h p at at' =

@@ -1,13 +1,6 @@
 -- `after` goes on where a facet's bytes are held, so that the sum is at most the length.
-use Prim.Native.Nat.{◌+◌, ◌≤◌}
-use native.Mathlib.Omega.{arith}
-use lib.ListN.{length}
-use Rattle.stl_facets.specs.Facets.{facet_bytes}
 use Rattle.stl_facets.proofs.Laws.{held_room, held_ends, stays, goes_on}
 use Rattle.stl_facets.proofs.after.Goals as goal
-
-pub overflow_add-result : goal.overflow_add-result
-overflow_add-result c = let h : c.args.at + facet_bytes ≤ length c.args.file.now = search held_room in omega arith
 
 pub returns-then-holds_facet : goal.returns-then-holds_facet
 returns-then-holds_facet c = search (goes_on, held_room)

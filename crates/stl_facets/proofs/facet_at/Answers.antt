@@ -2,9 +2,6 @@
 use Rattle.stl_facets.proofs.Laws.{held_room, held_ends, at_end, is_given}
 use Rattle.stl_facets.proofs.facet_at.Goals as goal
 
-pub facet_of-requires : goal.facet_of-requires
-facet_of-requires c = search held_room
-
 pub returns-then-holds_facet : goal.returns-then-holds_facet
 returns-then-holds_facet c = search (is_given, held_room)
 

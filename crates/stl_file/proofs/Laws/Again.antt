@@ -1,4 +1,5 @@
 -- Corners under the numbers of first use: as many as before, two of them the same point exactly if they were, and so the same edges open.
+use Rattle.std.specs.Prelude.{Option}
 use mathlib.Core.Path.{◌≡◌, refl, sym, ap, ap₂, ◌∙◌}
 use mathlib.Core.Bool.{Bool, true, not, ◌&&◌}
 use mathlib.Core.List.{List}
@@ -8,7 +9,6 @@ use native.Mathlib.Omega.{arith}
 use lib.Dec.{eqb}
 use lib.ListN.{length, get_or, length-map}
 use borrow.Author.Tests.{eq-eqb, ne_eqb, eqb-true}
-use Rattle.surface_rules.specs.declared.Found.{Found}
 use Rattle.surface_rules.specs.Smallest.{least, any}
 use Rattle.surface_rules.specs.Edges.{following, start_of, end_of, goes, twin, is_open}
 use Rattle.surface_rules.proofs.Laws.Edges.{following_below}
@@ -76,5 +76,5 @@ module _ (corners : List ℕ) where
     pub again_open : is_open (corners_again corners) h ≡ is_open corners h
     unfolding is_open twin
     again_open =
-        ap (λ (f : Found). not (any f))
+        ap (λ (f : Option ℕ). not (any f))
         (ap (least (goes (corners_again corners) (end_of (corners_again corners) h) (start_of (corners_again corners) h))) again_length ∙ least_same _ _ (length corners) again_goes)

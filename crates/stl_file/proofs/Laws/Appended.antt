@@ -1,5 +1,6 @@
 -- Two lists of triangles, one behind the other: their facets, and the first corner that names no point, which is the first list's, or else the
 -- second's, counted on.
+use Rattle.std.specs.Prelude.{Option, Some, None}
 use mathlib.Core.Path.{◌≡◌, refl, sym, ap, ◌∙◌}
 use mathlib.Core.Bool.{Bool, true, false}
 use mathlib.Core.List.{List, [], ◌∷◌, ◌++◌, map, flatten, map-append}
@@ -9,9 +10,7 @@ use native.Mathlib.Omega.{arith}
 use lib.Dec.{leb}
 use lib.ListN.{length, get_or, get_or-append, length-append}
 use lib.Seq.{get_or-append-add}
-use Rattle.base_answers.specs.declared.Answer.TheVariants.{Unnamed}
-use Rattle.surface_rules.specs.declared.Found.{Found}
-use Rattle.surface_rules.specs.declared.Found.TheVariants.{At, Nothing}
+use Rattle.base_answers.specs.Answers.{Unnamed}
 use Rattle.surface_rules.specs.Smallest.{least}
 use Rattle.surface_rules.specs.Threes.{Three, three, threes}
 use Rattle.surface_rules.specs.Refusals.{unnamed, refuse_at, then_check, unnamed_refusal}
@@ -41,25 +40,25 @@ facets_append words n corners patches h =
 -- ---- any search, of which what is below m goes by p and the rest by q
 
 module _ (r p q : ℕ → Bool) (m n : ℕ) (front : (k : ℕ) → k < m → r k ≡ p k) (rest : (k : ℕ) → k < n → r (m + k) ≡ q k) where
-  least_front : (i : ℕ) → least p m ≡ At i → least r (m + n) ≡ At i
+  least_front : (i : ℕ) → least p m ≡ Some i → least r (m + n) ≡ Some i
   least_front i e =
       let s = least_sound p m i e in
       least_at r i (m + n) (never_least r i (λ k l. front k (omega (arith, s.0)) ∙ least_first p m i e k l)) (front i s.0 ∙ s.1) (omega (arith, s.0))
 
   -- where p finds nothing, r finds nothing before what q finds
-  module _ (e : least p m ≡ Nothing) where
+  module _ (e : least p m ≡ None) where
     below : (j : ℕ) → j ≤ n → ((k : ℕ) → k < j → q k ≡ false) → (k : ℕ) → k < m + j → (k < m) ⊎ (m ≤ k) → r k ≡ false
     below j b w k l (inl h) = front k h ∙ least_never p m e k h
     below j b w k l (inr h) =
         let z : m + (k - m) ≡ k = omega arith in
         ap r (sym z) ∙ rest (k - m) (omega arith) ∙ w (k - m) (omega arith)
 
-    least_rest : (i : ℕ) → least q n ≡ At i → least r (m + n) ≡ At (m + i)
+    least_rest : (i : ℕ) → least q n ≡ Some i → least r (m + n) ≡ Some (m + i)
     least_rest i f =
         let s = least_sound q n i f in
         least_at r (m + i) (m + n) (never_least r (m + i) (λ k l. below i (omega (arith, s.0)) (least_first q n i f) k l (lt_or_le k m))) (rest i s.0 ∙ s.1) (omega (arith, s.0))
 
-    least_neither : least q n ≡ Nothing → least r (m + n) ≡ Nothing
+    least_neither : least q n ≡ None → least r (m + n) ≡ None
     least_neither f = never_least r (m + n) (λ k l. below n (omega arith) (least_never q n f) k l (lt_or_le k m))
 
 -- ---- corners and patches
@@ -73,20 +72,20 @@ module _ (corners patches : List ℕ) (points : ℕ) where
   unfolding unnamed
   behind k h = ap (leb points) (get_or-append-add corners patches k 0)
 
-  abbrev found : Found
+  abbrev found : Option ℕ
   found = least (unnamed (after corners patches) points) (length (after corners patches))
 
   whole : found ≡ least (unnamed (after corners patches) points) (length corners + length patches)
   whole = ap (least (unnamed (after corners patches) points)) (length-append corners patches)
 
-  pub first_in_corners : (i : ℕ) → least (unnamed corners points) (length corners) ≡ At i → found ≡ At i
+  pub first_in_corners : (i : ℕ) → least (unnamed corners points) (length corners) ≡ Some i → found ≡ Some i
   first_in_corners i e = whole ∙ least_front _ (unnamed corners points) (unnamed patches points) (length corners) (length patches) in_front behind i e
 
-  module _ (e : least (unnamed corners points) (length corners) ≡ Nothing) where
-    pub first_in_patches : (i : ℕ) → least (unnamed patches points) (length patches) ≡ At i → found ≡ At (length corners + i)
+  module _ (e : least (unnamed corners points) (length corners) ≡ None) where
+    pub first_in_patches : (i : ℕ) → least (unnamed patches points) (length patches) ≡ Some i → found ≡ Some (length corners + i)
     first_in_patches i f = whole ∙ least_rest _ (unnamed corners points) (unnamed patches points) (length corners) (length patches) in_front behind e i f
 
-    pub first_nowhere : least (unnamed patches points) (length patches) ≡ Nothing → found ≡ Nothing
+    pub first_nowhere : least (unnamed patches points) (length patches) ≡ None → found ≡ None
     first_nowhere f = whole ∙ least_neither _ (unnamed corners points) (unnamed patches points) (length corners) (length patches) in_front behind e f
 
   -- "4 (counted on through the patches)"
@@ -94,8 +93,8 @@ module _ (corners patches : List ℕ) (points : ℕ) where
       ≡ then_check (unnamed_refusal corners points) (refuse_at (λ (i : ℕ). Unnamed (length corners + i)) (least (unnamed patches points) (length patches)))
   counted_on = go (least (unnamed corners points) (length corners)) refl (least (unnamed patches points) (length patches)) refl
     where
-      go : (f : Found) → least (unnamed corners points) (length corners) ≡ f → (g : Found) → least (unnamed patches points) (length patches) ≡ g
+      go : (f : Option ℕ) → least (unnamed corners points) (length corners) ≡ f → (g : Option ℕ) → least (unnamed patches points) (length patches) ≡ g
           → unnamed_refusal (after corners patches) points ≡ then_check (refuse_at Unnamed f) (refuse_at (λ (i : ℕ). Unnamed (length corners + i)) g)
-      go (At i) e g d = ap (refuse_at Unnamed) (first_in_corners i e)
-      go Nothing e (At i) d = ap (refuse_at Unnamed) (first_in_patches e i d)
-      go Nothing e Nothing d = ap (refuse_at Unnamed) (first_nowhere e d)
+      go (Some i) e g d = ap (refuse_at Unnamed) (first_in_corners i e)
+      go None e (Some i) d = ap (refuse_at Unnamed) (first_in_patches e i d)
+      go None e None d = ap (refuse_at Unnamed) (first_nowhere e d)

@@ -1,5 +1,6 @@
 -- A written file that is read: its corners are the triangles' corners, point by point; it has no more points than the surface; and where no two
 -- points are alike, it is the surface under the numbers of first use.
+use Rattle.std.specs.Prelude.{Option, Some, None}
 use mathlib.Core.Path.{◌≡◌, refl, sym, ap, ap₂, ◌∙◌, subst}
 use mathlib.Core.Bool.{Bool, true, false, true≢false, cond, ◌&&◌}
 use mathlib.Core.List.{List, [], ◌∷◌, map}
@@ -10,10 +11,9 @@ use lib.Dec.{eqb}
 use lib.ListN.{length, get_or, length-map}
 use lib.Seq.{ext_get_or}
 use borrow.Author.Tests.{eq-eqb, ne_eqb, le-leb, leb-false}
-use Rattle.base_answers.specs.declared.Answer.TheVariants.{Done, Corners, Words, Unnamed}
+use Rattle.base_answers.specs.Answers.{Corners, Words, Unnamed}
+use Rattle.base_answers.specs.declared.Answer.TheVariants.{Done}
 use Rattle.base_limits.specs.Limits as limits
-use Rattle.surface_rules.specs.declared.Found.{Found}
-use Rattle.surface_rules.specs.declared.Found.TheVariants.{At, Nothing}
 use Rattle.surface_rules.specs.Smallest.{least}
 use Rattle.surface_rules.specs.Refusals.{then_check, refuse_at, unnamed, unnamed_refusal, buffer_refusal}
 use Rattle.surface_rules.specs.Threes.{Three}
@@ -45,9 +45,9 @@ pub named_says : (points : ℕ) (corners : List ℕ) → unnamed_refusal corners
 unfolding unnamed
 named_says points corners d = go (least (unnamed corners points) (length corners)) refl d
   where
-    go : (f : Found) → least (unnamed corners points) (length corners) ≡ f → refuse_at Unnamed f ≡ Done → Named points corners
-    go (At i) e q = let z : ◌≡◌ {A = ℕ} 0 1 = cc in absurd (omega arith)
-    go Nothing e q = λ i h. leb-false _ _ (least_never (unnamed corners points) (length corners) e i h)
+    go : (f : Option ℕ) → least (unnamed corners points) (length corners) ≡ f → refuse_at Unnamed f ≡ Done → Named points corners
+    go (Some i) e q = let z : ◌≡◌ {A = ℕ} 0 1 = cc in absurd (omega arith)
+    go None e q = λ i h. leb-false _ _ (least_never (unnamed corners points) (length corners) e i h)
 
 -- what is met of numbers below n are at most n, each met once: by the pigeonhole
 module _ (same : ℕ → ℕ → Bool) (self : (v : ℕ) → same v v ≡ true) (l : List ℕ) where

@@ -1,11 +1,11 @@
 -- Things under other names are met in the same order and have the same numbers, where the names tell them apart as before.
+use Rattle.std.specs.Prelude.{Option}
 use mathlib.Core.Path.{◌≡◌, refl, sym, ap, ◌∙◌}
 use mathlib.Core.Bool.{Bool, true, false, cond}
 use mathlib.Core.List.{List, [], ◌∷◌, ◌++◌, map, map-append}
 use Prim.Native.Nat.{ℕ, zero, suc, ◌<◌}
 use native.Mathlib.Omega.{arith}
 use lib.ListN.{length, get_or, length-map}
-use Rattle.surface_rules.specs.declared.Found.{Found}
 use Rattle.surface_rules.specs.Smallest.{least, any}
 use Rattle.surface_rules.proofs.Laws.Smallest.{least_same}
 use Rattle.surface_rules.proofs.Laws.Lists.{map_at}
@@ -59,7 +59,7 @@ module _ {A B : Type 0} (same_a : A → A → Bool) (no_a : A) (same_b : B → B
 
   meet_map : (met : List A) (x : A) → All P met → P x → meet same_b no_b (map f met) (f x) ≡ map f (meet same_a no_a met x)
   unfolding meet
-  meet_map met x v p = ap (λ (s : Found). cond (any s) (map f met) (map f met ++ (f x ∷ []))) (stands_map met x v p) ∙ go (any (stands same_a no_a met x))
+  meet_map met x v p = ap (λ (s : Option ℕ). cond (any s) (map f met) (map f met ++ (f x ∷ []))) (stands_map met x v p) ∙ go (any (stands same_a no_a met x))
     where
       go : (b : Bool) → cond b (map f met) (map f met ++ (f x ∷ [])) ≡ map f (cond b met (met ++ (x ∷ [])))
       go true = refl

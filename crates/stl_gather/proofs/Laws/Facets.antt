@@ -1,42 +1,37 @@
 -- Facet after facet: three corners each, and after the last the points and their numbers lie at the buffers' starts.
 use mathlib.Core.Path.{◌≡◌, refl, sym, ap, ◌∙◌, subst}
-use mathlib.Core.Bool.{true, false}
 use mathlib.Core.List.{List, [], ◌∷◌, ◌++◌, map, map-append}
 use Prim.Native.Nat.{ℕ, zero, suc, ◌+◌, ◌-◌, ◌*◌, ◌<◌, ◌≤◌}
 use native.Mathlib.Omega.{arith}
 use lib.ListN.{length, get_or, take}
-use borrow.Author.Tests.{leb-true, leb-false}
 use Rattle.base_limits.specs.Limits as limits
 use Rattle.surface_rules.specs.Threes.{Three, three, flat}
-use Rattle.stl_facets.specs.Facets.{front, facet_bytes, facets, holds_facet, behind}
+use Rattle.stl_facets.specs.Facets.{front, facet_bytes, facets}
 use Rattle.stl_rules.specs.FirstUse.{stands, index_or, numbers}
 use Rattle.stl_rules.specs.File.{corners_to, agree, point_at, corner_place}
 use Rattle.stl_rules.specs.Reading.{none, points_in, corners_in}
 use Rattle.stl_rules.proofs.Laws.Files.{agree_self}
 use Rattle.stl_rules.proofs.Laws.Uses.{uses_distinct, stands_at}
-use Rattle.stl_gather.specs.declared.Met.{Met}
-use Rattle.stl_gather.specs.declared.Met.TheVariants.{Points, TooMany}
+use Rattle.std.specs.Prelude.{Some, None}
 use Rattle.stl_gather.specs.Gathering.{GatherRoom, Gathers}
 use Rattle.stl_gather.specs.Workings.Racks.{point_in, Kept, Named, met_by, Rack, rack, RackedTo, SettleRoom, Settled, FacetRoom}
 use Rattle.stl_gather.proofs.Laws.Racks.{met_grows, rack_begins}
 
 -- ---- what a call of `settle` says, where i is written as j
 
-module _ (file : List ℕ) (w : Rack) (i : ℕ) (r : Met) (s : Settled file w i r) where
-  pub settled_racked : {j n : ℕ} → r ≡ Points n → i ≡ j → RackedTo file w j n
+module _ (file : List ℕ) (w : Rack) (i : ℕ) where
+  pub settled_racked : {j n : ℕ} → Settled file w i (Some n) → i ≡ j → RackedTo file w j n
   unfolding Settled
-  settled_racked {j} {n} e q = subst (λ (z : ℕ). RackedTo file w z n) q (subst (Settled file w i) e s)
+  settled_racked {n = n} s q = subst (λ (z : ℕ). RackedTo file w z n) q s
 
   -- more corners only add points
-  pub settled_full : r ≡ TooMany → (j : ℕ) → i ≤ j → length w.links < length (met_by file j)
+  pub settled_full : (j : ℕ) → Settled file w i None → i ≤ j → length w.links < length (met_by file j)
   unfolding Settled
-  settled_full e j q =
-      let l : length w.links < length (met_by file i) = subst (Settled file w i) e s in
-      rw (let z : j ≡ i + (j - i) = omega arith in z) (omega (arith, l, met_grows file i (j - i)))
+  settled_full j s q = rw (let z : j ≡ i + (j - i) = omega arith in z) (omega (arith, s, met_grows file i (j - i)))
 
-  pub settled_stops : r ≡ TooMany → (j : ℕ) → i ≤ j → Settled file w j TooMany
+  pub settled_stops : (j : ℕ) → Settled file w i None → i ≤ j → Settled file w j None
   unfolding Settled
-  settled_stops e j q = settled_full e j q
+  settled_stops j s q = settled_full j s q
 
 -- the rack's lists are as long as they were
 pub record SameSizes (w₀ w : Rack) : Type 0 where
@@ -60,77 +55,44 @@ sizes_go_on s t =
 -- ---- a facet's corners
 
 -- so many of the three are done
-pub record Turning (file : List ℕ) (w₀ w : Rack) (at i n place corner points : ℕ) : Type 0 where
+pub record Turning (file : List ℕ) (w₀ w : Rack) (at i n done points : ℕ) : Type 0 where
   pub room : FacetRoom file w₀ at i n
-  pub racked : RackedTo file w corner points
-  pub done : ℕ
-  pub there : place ≡ at + 12 * done
-  pub next : corner ≡ i + done
-  pub within : done ≤ 3
+  pub racked : RackedTo file w (i + done) points
   pub same : SameSizes w₀ w
 
-pub facet_begins : {file : List ℕ} {w : Rack} {at i n : ℕ} → FacetRoom file w at i n → Turning file w w at i n at i n
-facet_begins {w = w} room = record { room = room; racked = room.racked; done = 0; there = omega arith; next = omega arith; within = omega arith; same = sizes_begin w }
-
-module _ {file : List ℕ} {w₀ w : Rack} {at i n place corner points : ℕ} (t : Turning file w₀ w at i n place corner points) where
-  pub facet_few : (place < 65536) × (corner < 65536)
-  facet_few = let r = t.room in (omega (arith, t.there, t.within, r.few, r.place), omega (arith, t.next, t.within, r.few, r.first))
-
-  pub facet_ends : i + 3 ≤ corner → Settled file w (i + 3) (Points points)
+module _ {file : List ℕ} {w₀ w : Rack} {at i n done points : ℕ} (t : Turning file w₀ w at i n done points) where
+  pub facet_ends : done ≡ 3 → Settled file w (i + 3) (Some points)
   unfolding Settled
-  facet_ends l = subst (λ (z : ℕ). RackedTo file w z points) (let z : corner ≡ i + 3 = omega (arith, t.next, t.within) in z) t.racked
+  facet_ends e = subst (λ (z : ℕ). RackedTo file w (i + z) points) e t.racked
 
-  module _ (more : corner < i + 3) where
-    pub facet_corner : SettleRoom file w place corner points
+  module _ (more : done < 3) where
+    pub facet_corner : SettleRoom file w (at + 12 * done) (i + done) points
     unfolding corner_place
     facet_corner =
         let r = t.room in
         record {
           racked = t.racked;
-          place = omega (arith, more, t.there, t.next, r.first, r.place);
-          inside = omega (arith, more, t.there, t.next, r.inside);
+          place = omega (arith, more, r.first, r.place);
+          inside = omega (arith, more, r.inside);
           room = omega (arith, more, t.same.corners_same, r.room);
         }
 
-    pub facet_goes_on : {w' : Rack} {r : Met} {m : ℕ} → Settled file w' (corner + 1) r → r ≡ Points m → SameSizes w w' → Turning file w₀ w' at i n (place + 12) (corner + 1) m
-    facet_goes_on {w'} {r} s e same =
-        record {
-          room = t.room;
-          racked = settled_racked file w' (corner + 1) r s e refl;
-          done = t.done + 1;
-          there = omega (arith, t.there);
-          next = omega (arith, t.next);
-          within = omega (arith, more, t.next);
-          same = sizes_go_on t.same same;
-        }
+    pub facet_goes_on : {w' : Rack} {m : ℕ} → Settled file w' (i + done + 1) (Some m) → SameSizes w w' → Turning file w₀ w' at i n (done + 1) m
+    facet_goes_on {w'} s same = record { room = t.room; racked = settled_racked file w' (i + done + 1) s (omega arith); same = sizes_go_on t.same same }
 
 -- ---- the whole file
 
 -- so many facets are done
-pub record Going (file : List ℕ) (w₀ w : Rack) (at i n : ℕ) : Type 0 where
-  pub racked : RackedTo file w i n
-  pub done : ℕ
-  pub place : at ≡ front + facet_bytes * done
-  pub corner : i ≡ 3 * done
-  pub within : done ≤ facets file
+pub record Going (file : List ℕ) (w₀ w : Rack) (done n : ℕ) : Type 0 where
+  pub racked : RackedTo file w (3 * done) n
   pub whole : length file ≡ front + facet_bytes * facets file
   pub few : facets file ≤ limits.triangles
   pub room : 3 * facets file ≤ length w.corners
   pub same : SameSizes w₀ w
 
-pub going_begins : {file ws cs heads links : List ℕ} → GatherRoom file ws cs heads links → Going file (rack ws cs heads links) (rack ws cs heads links) front 0 0
+pub going_begins : {file ws cs heads links : List ℕ} → GatherRoom file ws cs heads links → Going file (rack ws cs heads links) (rack ws cs heads links) 0 0
 going_begins {ws = ws} {cs = cs} {heads = heads} {links = links} g =
-    record {
-      racked = rack_begins g;
-      done = 0;
-      place = refl;
-      corner = refl;
-      within = omega arith;
-      whole = g.whole;
-      few = g.few;
-      room = g.room;
-      same = sizes_begin (rack ws cs heads links);
-    }
+    record { racked = rack_begins g; whole = g.whole; few = g.few; room = g.room; same = sizes_begin (rack ws cs heads links) }
 
 -- the numbers of all corners
 take_more : (l : List ℕ) (n : ℕ) → n < length l → take (suc n) l ≡ take n l ++ (get_or l n 0 ∷ [])
@@ -165,12 +127,11 @@ take_flat (t ∷ l) (x ∷ y ∷ z ∷ ws) h w =
         let a : 3 * suc k ≡ suc (suc (suc (3 * k))) = omega arith in
         sym (rw a (rw (let e : suc (suc (suc (3 * k))) + 1 ≡ suc (suc (suc (3 * k + 1))) = omega arith in e, let e : suc (suc (suc (3 * k))) + 2 ≡ suc (suc (suc (3 * k + 2))) = omega arith in e) refl))
 
-module _ {file : List ℕ} {w₀ w : Rack} {at i n : ℕ} (g : Going file w₀ w at i n) where
-  pub going_ends : holds_facet file at ≡ false → Gathers file (length w₀.links) (Points n) w.words w.corners
+module _ {file : List ℕ} {w₀ w : Rack} {done n : ℕ} (g : Going file w₀ w done n) where
+  pub going_ends : done ≡ facets file → Gathers file (length w₀.links) (Some n) w.words w.corners
   unfolding Gathers points_in corners_in met_by Kept Named numbers
   going_ends h =
-      let q : i ≡ 3 * facets file = omega (arith, leb-false (at + facet_bytes) (length file) h, g.within, g.place, g.corner, g.whole) in
-      let p : RackedTo file w (3 * facets file) n = subst (λ (z : ℕ). RackedTo file w z n) q g.racked in
+      let p : RackedTo file w (3 * facets file) n = subst (λ (z : ℕ). RackedTo file w (3 * z) n) h g.racked in
       record {
         count = p.count;
         within = rw (← g.same.links_same) p.within;
@@ -187,48 +148,16 @@ module _ {file : List ℕ} {w₀ w : Rack} {at i n : ℕ} (g : Going file w₀ w
       }
 
   -- a facet more begins here
-  module _ (h : holds_facet file at ≡ true) where
-    here : at + facet_bytes ≤ length file
-    here = leb-true (at + facet_bytes) (length file) h
-
-    more : g.done < facets file
-    more = omega (arith, here, g.place, g.whole)
-
-    pub going_few : (at < 65536) × (i < 65536)
-    going_few = let f : facets file ≤ limits.triangles = g.few in (omega (arith, more, g.place), omega (arith, more, g.corner))
-
-    pub going_facet : FacetRoom file w (at + 12) i n
-    going_facet =
-        let f : facets file ≤ limits.triangles = g.few in
-        record {
-          racked = g.racked;
-          facet = g.done;
-          few = omega (arith, more);
-          first = g.corner;
-          place = omega (arith, g.place);
-          inside = omega (arith, here);
-          room = omega (arith, more, g.corner, g.room);
-        }
-
-    pub going_less : {at' : ℕ} → at' ≡ behind file at → length file - at' < length file - at
-    unfolding behind
-    going_less q = rw (q, h) (omega (arith, here))
-
-    module _ (w' : Rack) (r : Met) (s : Settled file w' (i + 3) r) (same : SameSizes w w') where
-      pub going_stops : r ≡ TooMany → (ws cs : List ℕ) → Gathers file (length w₀.links) TooMany ws cs
+  module _ (more : done < facets file) where
+    module _ {w' : Rack} (same : SameSizes w w') where
+      pub going_stops : (ws cs : List ℕ) → Settled file w' (3 * done + 3) None → Gathers file (length w₀.links) None ws cs
       unfolding Gathers points_in met_by
-      going_stops e ws cs =
-          rw (← g.same.links_same, ← same.links_same) (settled_full file w' (i + 3) r s e (3 * facets file) (omega (arith, more, g.corner)))
+      going_stops ws cs s = rw (← g.same.links_same, ← same.links_same) (settled_full file w' (3 * done + 3) (3 * facets file) s (omega (arith, more)))
 
-      pub going_on : {m at' : ℕ} → r ≡ Points m → at' ≡ behind file at → Going file w₀ w' at' (i + 3) m
-      unfolding behind
-      going_on e q =
+      pub going_on : {m : ℕ} → Settled file w' (3 * done + 3) (Some m) → Going file w₀ w' (done + 1) m
+      going_on s =
           record {
-            racked = settled_racked file w' (i + 3) r s e refl;
-            done = g.done + 1;
-            place = rw (q, h) (omega (arith, g.place));
-            corner = omega (arith, g.corner);
-            within = omega (arith, more);
+            racked = settled_racked file w' (3 * done + 3) s (omega arith);
             whole = g.whole;
             few = g.few;
             room = rw same.corners_same g.room;

@@ -10,8 +10,6 @@ use lib.Dec.{eqb}
 use lib.ListN.{length, get_or, set, length-set, get_or-replicate}
 use lib.Seq.{get_or-set_same, get_or-set_other}
 use borrow.Author.Count.{below_more}
-use Rattle.surface_rules.specs.declared.Found.{Found}
-use Rattle.surface_rules.specs.declared.Found.TheVariants.{At, Nothing}
 use Rattle.surface_rules.specs.Threes.{Three, three}
 use Rattle.surface_rules.proofs.Laws.Tests.{eq_or_not, lt_or_le}
 use Rattle.surface_rules.proofs.Laws.Lists.{next_set}
@@ -23,7 +21,7 @@ use Rattle.stl_rules.specs.File.{corners_to, agree, point_at, corner_place}
 use Rattle.stl_rules.specs.Reading.{none}
 use Rattle.stl_rules.proofs.Laws.Files.{all_three, agree_self}
 use Rattle.stl_rules.proofs.Laws.Uses.{more_before, more_last, more_length, uses_more, meet_known, meet_new, meet_length}
-use Rattle.stl_gather.specs.declared.Met.TheVariants.{Points, TooMany}
+use Rattle.std.specs.Prelude.{Some, None, Option}
 use Rattle.stl_gather.specs.Gathering.{GatherRoom}
 use Rattle.stl_gather.specs.Workings.Racks.{bucket_of, bucket_at, home, in_bucket, point_in, Kept, Headed, Linked, Names, Named, met_by, Rack, rack, Racked, RackedTo, SeekRoom, Seeks, SettleRoom, Settled}
 use Rattle.stl_gather.proofs.Laws.Buckets.{bucket_small, bucket_home, bucket_other, head_home, head_rest, top_same}
@@ -243,15 +241,15 @@ module _ {file : List ℕ} {w : Rack} {at i n a b c h : ℕ} (seen : Seen file w
         here = λ q. head_home (length w.heads) met h n last head_is q ∙ seen.bucket;
       }
 
-  module _ (f : Found) (s : Seeks w.words a b c last f) where
-    pub found_few : {k : ℕ} → f ≡ At k → k < n
+  module _ (f : Option ℕ) (s : Seeks w.words a b c last f) where
+    pub found_few : {k : ℕ} → f ≡ Some k → k < n
     unfolding Seeks
-    found_few {k} e = let r : Seeks w.words a b c last (At k) = subst (Seeks w.words a b c last) e s in omega (arith, r.0, head_few)
+    found_few {k} e = let r : Seeks w.words a b c last (Some k) = subst (Seeks w.words a b c last) e s in omega (arith, r.0, head_few)
 
-    pub settle_known : {k : ℕ} → f ≡ At k → Settled file (rack w.words (set w.corners i k) w.heads w.links) (i + 1) (Points n)
+    pub settle_known : {k : ℕ} → f ≡ Some k → Settled file (rack w.words (set w.corners i k) w.heads w.links) (i + 1) (Some n)
     unfolding Seeks Settled Kept
     settle_known {k} e =
-        let r : Seeks w.words a b c last (At k) = subst (Seeks w.words a b c last) e s in
+        let r : Seeks w.words a b c last (Some k) = subst (Seeks w.words a b c last) e s in
         let l : k < n = found_few e in
         let q : get_or met k none ≡ point_at file (corner_place i) = sym (room.racked.kept k l) ∙ r.1 ∙ point_is in
         let m : met_by file (i + 1) ≡ met =
@@ -260,11 +258,11 @@ module _ {file : List ℕ} {w : Rack} {at i n a b c h : ℕ} (seen : Seen file w
         in
         rw m (rack_known room.racked room.room k l q)
 
-    module _ (e : f ≡ Nothing) where
+    module _ (e : f ≡ None) where
       other : (k : ℕ) → k < length met → agree (get_or met k none) (three a b c) ≡ false
       unfolding Seeks Kept
       other k m =
-          let r : Seeks w.words a b c last Nothing = subst (Seeks w.words a b c last) e s in
+          let r : Seeks w.words a b c last None = subst (Seeks w.words a b c last) e s in
           let l : k < n = subst (λ (z : ℕ). k < z) (sym room.racked.count) m in
           ⊎_elim
           (λ (q : k < last). ap (λ (p : Three). agree p (three a b c)) (sym (room.racked.kept k l)) ∙ r k q)
@@ -274,10 +272,10 @@ module _ {file : List ℕ} {w : Rack} {at i n a b c h : ℕ} (seen : Seen file w
       met_new : met_by file (i + 1) ≡ met ++ (three a b c ∷ [])
       met_new = met_more file i ∙ ap (meet agree none met) (sym point_is) ∙ meet_new agree none met (three a b c) other
 
-      pub settle_full : length w.links ≤ n → Settled file w (i + 1) TooMany
+      pub settle_full : length w.links ≤ n → Settled file w (i + 1) None
       unfolding Settled
       settle_full l = rw met_new (omega (arith, room.racked.count, more_length none met (three a b c)))
 
-      pub settle_new : n < length w.links → Settled file (laden w i n a b c h) (i + 1) (Points (n + 1))
+      pub settle_new : n < length w.links → Settled file (laden w i n a b c h) (i + 1) (Some (n + 1))
       unfolding Settled
       settle_new more = rw met_new (rack_new room.racked room.room point_is seen.bucket more)

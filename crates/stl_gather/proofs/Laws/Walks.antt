@@ -1,6 +1,7 @@
 -- The walk along the chain of a point's words passes every point of their bucket, the last first, so that what it passed has other words.
+use Rattle.std.specs.Prelude.{Some, None}
 use mathlib.Core.Path.{◌≡◌, refl, sym, ap, ◌∙◌, subst}
-use mathlib.Core.Bool.{true, false}
+use mathlib.Core.Bool.{Bool, true, false, ◌&&◌}
 use mathlib.Core.List.{List}
 use mathlib.Core.Logic.{⊎_elim}
 use Prim.Native.Nat.{ℕ, ◌+◌, ◌-◌, ◌*◌, ◌<◌, ◌≤◌}
@@ -9,7 +10,6 @@ use native.Mathlib.Nat.{eq-or-lt_of_le}
 use lib.Dec.{eqb}
 use lib.ListN.{length, get_or}
 use borrow.Author.Tests.{eq-eqb, ne_eqb}
-use Rattle.surface_rules.specs.declared.Found.TheVariants.{At, Nothing}
 use Rattle.surface_rules.specs.Threes.{Three, three}
 use Rattle.surface_rules.proofs.Laws.Tests.{lt_or_le}
 use Rattle.surface_twins.specs.Workings.Chains.{top}
@@ -36,17 +36,23 @@ pub record Standing (ws links : List ℕ) (k : ℕ) : Type 0 where
 -- ---- the words of a point
 
 module _ (ws : List ℕ) (k a b c : ℕ) where
-  pub first_other : (get_or ws (3 * k) 0 ≡ a → ⊥) → false ≡ agree (point_in ws k) (three a b c)
-  unfolding agree point_in
-  first_other h = rw (ne_eqb _ _ h) refl
+  -- whether the first two agree
+  abbrev two : Bool
+  two = eqb (get_or ws (3 * k) 0) a && eqb (get_or ws (3 * k + 1) 0) b
 
-  pub second_other : get_or ws (3 * k) 0 ≡ a → (get_or ws (3 * k + 1) 0 ≡ b → ⊥) → false ≡ agree (point_in ws k) (three a b c)
-  unfolding agree point_in
-  second_other p h = rw (eq-eqb _ _ p, ne_eqb _ _ h) refl
+  pub first_agrees : {t : Bool} → t ≡ eqb (get_or ws (3 * k + 1) 0) b → get_or ws (3 * k) 0 ≡ a → t ≡ two
+  first_agrees e p = e ∙ sym (rw (eq-eqb _ _ p) refl)
 
-  pub third_tells : get_or ws (3 * k) 0 ≡ a → get_or ws (3 * k + 1) 0 ≡ b → eqb (get_or ws (3 * k + 2) 0) c ≡ agree (point_in ws k) (three a b c)
+  pub first_other : {t : Bool} → t ≡ eqb (get_or ws (3 * k) 0) a → (get_or ws (3 * k) 0 ≡ a → ⊥) → t ≡ two
+  first_other e h = e ∙ rw (ne_eqb _ _ h) refl
+
+  pub third_tells : {t : Bool} → t ≡ two → t ≡ true → eqb (get_or ws (3 * k + 2) 0) c ≡ agree (point_in ws k) (three a b c)
   unfolding agree point_in
-  third_tells p q = rw (eq-eqb _ _ p, eq-eqb _ _ q) refl
+  third_tells e h = rw (← e, h) refl
+
+  pub two_other : {t : Bool} → t ≡ two → t ≡ false → t ≡ agree (point_in ws k) (three a b c)
+  unfolding agree point_in
+  two_other e h = h ∙ sym (rw (← e, h) refl)
 
 -- ---- the walk
 
@@ -61,7 +67,7 @@ module _ {ws links : List ℕ} {last a b c : ℕ} where
     abbrev met : List Three
     met = w.room.met
 
-    pub walk_ends : g ≤ 0 → Seeks ws a b c last Nothing
+    pub walk_ends : g ≤ 0 → Seeks ws a b c last None
     unfolding Seeks Kept
     walk_ends l k m = ap (λ (p : Three). agree p (three a b c)) (w.room.kept k m) ∙ w.passed k (omega arith) m
 
@@ -70,7 +76,7 @@ module _ {ws links : List ℕ} {last a b c : ℕ} where
       unfolding Linked
       link_is = w.room.linked (g - 1) (omega (arith, w.within)) ∙ ap (λ (z : ℕ). top (in_bucket size met z) (g - 1)) (w.here more)
 
-      pub walk_found : true ≡ agree (point_in ws (g - 1)) (three a b c) → Seeks ws a b c last (At (g - 1))
+      pub walk_found : true ≡ agree (point_in ws (g - 1)) (three a b c) → Seeks ws a b c last (Some (g - 1))
       unfolding Seeks
       walk_found s = (omega (arith, w.within), agree_says _ _ (sym s))
 

@@ -3,7 +3,7 @@ use mathlib.Core.Path.{◌≡◌}
 use mathlib.Core.List.{List}
 use Prim.Native.Nat.{ℕ, ◌+◌}
 use native.Mathlib.Omega.{arith}
-use lib.ListN.{length, length-set}
+use lib.ListN.{length}
 use Rattle.stl_facets.specs.Facets.{plain_at}
 use Rattle.stl_gather.specs.Workings.Racks.{Rack, SettleRoom, bucket_of}
 use Rattle.stl_gather.proofs.Laws.Racks.{Seen, head_inside, settle_seeks, found_few, settle_known, settle_full, settle_new}
@@ -28,23 +28,17 @@ pub overflow_cast-cs : goal.overflow_cast-cs
 overflow_cast-cs c =
     omega (
       arith,
-      found_few (seen c.requires c.plain_at-a.ensures c.plain_at-b.ensures c.plain_at-c.ensures c.bucket-h.ensures) _ c.seek.ensures c.in-At.is,
+      found_few (seen c.requires c.plain_at-a.ensures c.plain_at-b.ensures c.plain_at-c.ensures c.bucket-h.ensures) _ c.seek.ensures c.in-Some.is,
       c.requires.racked,
     )
 
-pub returns-in-At : goal.returns-in-At
-returns-in-At c = settle_known (seen c.requires c.plain_at-a.ensures c.plain_at-b.ensures c.plain_at-c.ensures c.bucket-h.ensures) _ c.seek.ensures c.in-At.is
+pub returns-in-Some : goal.returns-in-Some
+returns-in-Some c = settle_known (seen c.requires c.plain_at-a.ensures c.plain_at-b.ensures c.plain_at-c.ensures c.bucket-h.ensures) _ c.seek.ensures c.in-Some.is
 
 pub returns-then-links-n : goal.returns-then-links-n
 returns-then-links-n c =
     settle_full (seen c.requires c.plain_at-a.ensures c.plain_at-b.ensures c.plain_at-c.ensures c.bucket-h.ensures) _ c.seek.ensures c.in_default.is
     (omega (arith, c.if-links-n.true))
-
-pub bounds-ws-n-2 : goal.bounds-ws-n-2
-bounds-ws-n-2 c = rw length-set (omega (arith, c.if-links-n.false))
-
-pub bounds-ws-n-3 : goal.bounds-ws-n-3
-bounds-ws-n-3 c = rw (length-set, length-set) (omega (arith, c.if-links-n.false))
 
 pub offset_bounds-heads-h-2 : goal.offset_bounds-heads-h-2
 offset_bounds-heads-h-2 c = omega (arith, head_inside (seen c.requires c.plain_at-a.ensures c.plain_at-b.ensures c.plain_at-c.ensures c.bucket-h.ensures))

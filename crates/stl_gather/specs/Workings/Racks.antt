@@ -1,17 +1,13 @@
 -- What the code rests on: points are chained in buckets by their words, numbered from 1, and 0 ends a chain.
-use Rattle.std.specs.Prelude.{◌≡◌, Bool, false, List, ℕ, ◌+◌, ◌-◌, ◌*◌, ◌/◌, ◌^◌, ◌≤◌, ◌<◌, eqb, length, get_or}
+use Rattle.std.specs.Prelude.{◌≡◌, Option, Some, None, Bool, false, List, ℕ, ◌+◌, ◌-◌, ◌*◌, ◌/◌, ◌^◌, ◌≤◌, ◌<◌, eqb, length, get_or}
 use Rattle.std.specs.Int.Bits.{bit_and}
 use Rattle.base_limits.specs.Limits as limits
-use Rattle.surface_rules.specs.declared.Found.{Found}
-use Rattle.surface_rules.specs.declared.Found.TheVariants.{At, Nothing}
 use Rattle.surface_rules.specs.Threes.{Three, three}
 use Rattle.surface_twins.specs.Workings.Chains.{top}
 use Rattle.stl_facets.specs.Facets.{front, facet_bytes}
 use Rattle.stl_rules.specs.FirstUse.{first_uses}
 use Rattle.stl_rules.specs.File.{corners_to, agree, point_at, corner_place}
 use Rattle.stl_rules.specs.Reading.{none}
-use Rattle.stl_gather.specs.declared.Met.{Met}
-use Rattle.stl_gather.specs.declared.Met.TheVariants.{Points, TooMany}
 
 -- ---- buckets
 
@@ -65,9 +61,9 @@ pub record SeekRoom (ws links : List ℕ) (last a b c : ℕ) : Type 0 where
   pub here : 0 < last → home size met (last - 1) ≡ bucket_of size a b c
 
 -- a point with these words below n, or that there is none
-unfoldable pub Seeks : List ℕ → ℕ → ℕ → ℕ → ℕ → Found → Type 0
-Seeks ws a b c n (At k) = (k < n) × (point_in ws k ≡ three a b c)
-Seeks ws a b c n Nothing = (k : ℕ) → k < n → agree (point_in ws k) (three a b c) ≡ false
+unfoldable pub Seeks : List ℕ → ℕ → ℕ → ℕ → ℕ → Option ℕ → Type 0
+Seeks ws a b c n (Some k) = (k < n) × (point_in ws k ≡ three a b c)
+Seeks ws a b c n None = (k : ℕ) → k < n → agree (point_in ws k) (three a b c) ≡ false
 
 -- ---- the corners
 
@@ -114,9 +110,9 @@ pub record SettleRoom (file : List ℕ) (w : Rack) (at i n : ℕ) : Type 0 where
   pub inside : at + 12 ≤ length file
   pub room : i < length w.corners
 
-unfoldable pub Settled : List ℕ → Rack → ℕ → Met → Type 0
-Settled file w i (Points n) = RackedTo file w i n
-Settled file w i TooMany = length w.links < length (met_by file i)
+unfoldable pub Settled : List ℕ → Rack → ℕ → Option ℕ → Type 0
+Settled file w i (Some n) = RackedTo file w i n
+Settled file w i None = length w.links < length (met_by file i)
 
 pub record FacetRoom (file : List ℕ) (w : Rack) (at i n : ℕ) : Type 0 where
   pub racked : RackedTo file w i n

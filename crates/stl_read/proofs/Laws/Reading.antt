@@ -6,18 +6,20 @@ use Prim.Native.Nat.{ℕ, ◌*◌, ◌/◌, ◌≤◌, ◌<◌}
 use lib.Dec.{leb}
 use lib.ListN.{length}
 use borrow.Author.Tests.{le-leb, lt-leb, leb-true}
+use Rattle.std.specs.Prelude.{Ok, Err}
 use Rattle.base_answers.specs.Numbers.{refusing}
+use Rattle.base_answers.specs.declared.Refusal.{Refusal}
+use Rattle.base_answers.specs.declared.Refusal.TheVariants as refusal
 use Rattle.base_answers.specs.declared.Answer.{Answer}
-use Rattle.base_answers.specs.declared.Answer.TheVariants.{Done, Words, Misfit}
+use Rattle.base_answers.specs.Answers.{Words}
+use Rattle.base_answers.specs.declared.Answer.TheVariants.{Done, Refused}
 use Rattle.base_limits.specs.Limits as limits
 use Rattle.surface_rules.specs.Buffers.{over}
 use Rattle.surface_rules.specs.Refusals.{then_check, buffer_refusal, unnamed_refusal}
 use Rattle.surface_rules.specs.Threes.{flat}
 use Rattle.surface_rules.proofs.Laws.Thens.{then_refused, then_next}
 use Rattle.surface_rules.proofs.Laws.Threes.{flat_length}
-use Rattle.text_read.specs.declared.ReadSheet.{ReadSheet}
 use Rattle.text_read.specs.Outcome.{ReadOutcome, read_outcome, not_read, deliver}
-use Rattle.text_read.proofs.Laws.Deliver.{Refused, not_read_lem}
 use Rattle.stl_facets.specs.Facets.{front, facets}
 use Rattle.stl_rules.specs.Reading.{points_in, corners_in, size_refusal, file_refusal, read_refusal, reads_file}
 use Rattle.stl_rules.proofs.Laws.Files.{corners_count, all_named}
@@ -42,16 +44,14 @@ module _ (ws cs words corners : List ℕ) where
       go true q = ap whole (then_refused needed Done q)
       go false q = ap whole (then_next needed Done q) ∙ sym (ap (λ (t : Bool). cond t (not_read needed words corners) (whole Done)) q)
 
-  -- `t` says whether a, the answer for the buffers, refuses
-  module _ {a : Answer} (e : a ≡ buffer_refusal (length words ∷ length corners ∷ []) (length ws ∷ length cs ∷ [])) {t : Bool} (is : t ≡ refusing a) where
-    pub short_handed : (r : ReadSheet) → t ≡ true → Refused r a → read_outcome r words corners ≡ handed ws cs words corners
-    unfolding handed
-    short_handed r h k = not_read_lem r a words corners k ∙ rw (← e, ← is, h)
+  pub short_handed : {r : Refusal} → Refused r ≡ buffer_refusal (length words ∷ length corners ∷ []) (length ws ∷ length cs ∷ []) → read_outcome (Err r) words corners ≡ handed ws cs words corners
+  unfolding handed
+  short_handed e = rw (← e)
 
-    pub all_handed : {words' corners' : List ℕ} → t ≡ false → words' ≡ over ws words → corners' ≡ over cs corners
-        → read_outcome (record { answer = Done; pitch = 1; words = length ws; corners = length cs }) words' corners' ≡ handed ws cs words corners
-    unfolding handed
-    all_handed h p q = rw (p, q) (rw (← e, ← is, h))
+  pub all_handed : {words' corners' : List ℕ} → Done ≡ buffer_refusal (length words ∷ length corners ∷ []) (length ws ∷ length cs ∷ []) → words' ≡ over ws words → corners' ≡ over cs corners
+      → read_outcome (Ok (record { pitch = 1; words = length ws; corners = length cs })) words' corners' ≡ handed ws cs words corners
+  unfolding handed
+  all_handed e p q = rw (p, q) (rw (← e))
 
 -- ---- one file
 
@@ -66,29 +66,28 @@ module _ (b words corners : List ℕ) where
   short = buffer_refusal (length words ∷ length corners ∷ []) (3 * points ∷ 3 * facets b ∷ [])
 
   -- a file that is refused whatever is lent
-  file_refused : (r : ReadSheet) (a : Answer) → file_refusal b ≡ a → refusing a ≡ true → Refused r a → read_outcome r words corners ≡ reads_file b words corners
+  file_refused : {r : Refusal} → file_refusal b ≡ Refused r → read_outcome (Err r) words corners ≡ reads_file b words corners
   unfolding reads_file read_refusal
-  file_refused r a e h k = not_read_lem r a words corners k ∙ rw (e, h, h)
+  file_refused e = rw e
 
-  size_refused : (r : ReadSheet) (a : Answer) → a ≡ size → refusing a ≡ true → Refused r a → read_outcome r words corners ≡ reads_file b words corners
+  size_refused : {r : Refusal} → Refused r ≡ size → read_outcome (Err r) words corners ≡ reads_file b words corners
   unfolding file_refusal
-  size_refused r a e h = file_refused r a (rw (← e) (then_refused a _ h)) h
+  size_refused {r} e = file_refused (rw (← e) (then_refused (Refused r) (cond (leb points limits.points) Done Words) refl))
 
-  pub short_refused : (r : ReadSheet) → length b < front → Refused r Misfit → read_outcome r words corners ≡ reads_file b words corners
-  short_refused r l = size_refused r Misfit (misfit_short (length b) (facets b) l) refl
+  pub short_refused : length b < front → read_outcome (Err refusal.Misfit) words corners ≡ reads_file b words corners
+  short_refused l = size_refused (misfit_short (length b) (facets b) l)
 
-  -- `t` says whether a, the answer for the size and the count c, refuses
-  pub misfit_refused : (r : ReadSheet) {a : Answer} (c : ℕ) {t : Bool} → c ≡ facets b → a ≡ size_refusal (length b) c → t ≡ refusing a → t ≡ true → Refused r a
-      → read_outcome r words corners ≡ reads_file b words corners
-  misfit_refused r {a} c q e is h = size_refused r a (e ∙ ap (size_refusal (length b)) q) (sym is ∙ h)
+  -- c is its count
+  pub misfit_refused : (c : ℕ) {r : Refusal} → c ≡ facets b → Refused r ≡ size_refusal (length b) c → read_outcome (Err r) words corners ≡ reads_file b words corners
+  misfit_refused c q e = size_refused (e ∙ ap (size_refusal (length b)) q)
 
   module _ (fits : refusing size ≡ false) where
     file_is : file_refusal b ≡ cond (leb points limits.points) Done Words
     unfolding file_refusal
     file_is = then_next size _ fits
 
-    pub many_refused : (r : ReadSheet) → limits.points < points → Refused r Words → read_outcome r words corners ≡ reads_file b words corners
-    many_refused r m = file_refused r Words (file_is ∙ rw (lt-leb points limits.points m)) refl
+    pub many_refused : limits.points < points → read_outcome (Err refusal.Words) words corners ≡ reads_file b words corners
+    many_refused m = file_refused (file_is ∙ rw (lt-leb points limits.points m))
 
     pub reads_handed : points ≤ limits.points → handed (flat (points_in b)) (corners_in b) words corners ≡ reads_file b words corners
     unfolding handed reads_file read_refusal
@@ -98,8 +97,8 @@ module _ (b words corners : List ℕ) where
     pub delivers : points ≤ limits.points → deliver 1 (flat (points_in b)) (corners_in b) words corners ≡ reads_file b words corners
     delivers m = named_handed (flat (points_in b)) (corners_in b) words corners (all_named b) ∙ reads_handed m
 
-pub fitting : (b : List ℕ) {a : Answer} (c : ℕ) {t : Bool} → c ≡ facets b → a ≡ size_refusal (length b) c → t ≡ refusing a → t ≡ false → Fitting b c
-fitting b c q e is h = record { fits = rw (← q, ← e, ← is) h; count = q }
+pub fitting : (b : List ℕ) (c : ℕ) → c ≡ facets b → Done ≡ size_refusal (length b) c → Fitting b c
+fitting b c q e = record { fits = rw (← q, ← e) refl; count = q }
 
 -- a file that is refused with neither 16, 2 nor 1
 pub file_says : (b : List ℕ) → refusing (file_refusal b) ≡ false → (refusing (size_refusal (length b) (facets b)) ≡ false) × (length (points_in b) ≤ limits.points)

@@ -12,8 +12,7 @@ use Rattle.stl_facets.specs.Facets.{front, facet_bytes, facets}
 use Rattle.stl_rules.specs.Reading.{points_in, corners_in, reads_file}
 use Rattle.stl_rules.proofs.Laws.Files.{corners_count}
 use Rattle.stl_rules.proofs.Laws.Sizes.{size_says}
-use Rattle.stl_gather.specs.declared.Met.{Met}
-use Rattle.stl_gather.specs.declared.Met.TheVariants.{Points, TooMany}
+use Rattle.std.specs.Prelude.{Option, Some, None}
 use Rattle.stl_gather.specs.Gathering.{GatherRoom, Gathered, Gathers}
 use Rattle.stl_gather.proofs.Theorems.{points_few_by_corners}
 use Rattle.stl_read.specs.Workings.{Fitting, ReadRoom, handed}
@@ -63,10 +62,10 @@ take_le zero l e = omega arith
 take_le (suc k) [] e = absurd (omega arith)
 take_le (suc k) (x ∷ l) e = let z = take_le k l (omega (arith, e)) in omega arith
 
-pub too_many : {file ws cs heads links : List ℕ} {n : ℕ} {r : Met} (ws' cs' : List ℕ) → ReadRoom file ws cs heads links n → Gathers file (length links) r ws' cs' → r ≡ TooMany
+pub too_many : {file ws cs heads links : List ℕ} {n : ℕ} {r : Option ℕ} (ws' cs' : List ℕ) → ReadRoom file ws cs heads links n → Gathers file (length links) r ws' cs' → r ≡ None
     → limits.points < length (points_in file)
 unfolding Gathers
-too_many {file} {ws} {cs} {heads} {links} ws' cs' room g e = room.many (subst (λ (z : Met). Gathers file (length links) z ws' cs') e g)
+too_many {file} {ws} {cs} {heads} {links} ws' cs' room g e = room.many (subst (λ (z : Option ℕ). Gathers file (length links) z ws' cs') e g)
 
 -- m points were met in a file of n facets: their words and their numbers begin two lists
 pub record Taken (file : List ℕ) (m n : ℕ) (ws cs : List ℕ) : Type 0 where
@@ -76,11 +75,11 @@ pub record Taken (file : List ℕ) (m n : ℕ) (ws cs : List ℕ) : Type 0 where
   pub words_are : take (3 * m) ws ≡ flat (points_in file)
   pub corners_are : take (3 * n) cs ≡ corners_in file
 
-pub taken : {file ws cs heads links ws' cs' : List ℕ} {n m : ℕ} {r : Met} → ReadRoom file ws cs heads links n → Gathers file (length links) r ws' cs' → r ≡ Points m
+pub taken : {file ws cs heads links ws' cs' : List ℕ} {n m : ℕ} {r : Option ℕ} → ReadRoom file ws cs heads links n → Gathers file (length links) r ws' cs' → r ≡ Some m
     → Taken file m n ws' cs'
 unfolding Gathers
 taken {file} {ws} {cs} {heads} {links} {ws'} {cs'} {n} {m} room g e =
-    let a : Gathered file (length links) m ws' cs' = subst (λ (z : Met). Gathers file (length links) z ws' cs') e g in
+    let a : Gathered file (length links) m ws' cs' = subst (λ (z : Option ℕ). Gathers file (length links) z ws' cs') e g in
     record {
       fitting = room.fitting;
       few = let p = a.within in let q = room.room.links_few in omega arith;
@@ -95,9 +94,6 @@ module _ {file : List ℕ} {m n : ℕ} {ws cs : List ℕ} (t : Taken file m n ws
 
   pub corners_inside : 3 * n ≤ length cs
   corners_inside = take_le (3 * n) cs (ap length t.corners_are ∙ corners_count file ∙ ap (λ (z : ℕ). 3 * z) (sym t.fitting.count))
-
-  pub facets_few : n ≤ limits.triangles
-  facets_few = rw t.fitting.count (size_says (length file) (facets file) t.fitting.fits).1
 
   pub read_whole : (o : ReadOutcome) (words corners : List ℕ) → o ≡ handed (take (3 * m) ws) (take (3 * n) cs) words corners → o ≡ reads_file file words corners
   read_whole o words corners q =

@@ -1,29 +1,30 @@
 -- `read` refuses by the size, and then reads by way of as much scratch as the count asks for.
-use borrow.Author.Rules.{rules}
+use native.Mathlib.Omega.{arith}
+use Rattle.std.proofs.lemmas.Result.{err_from_is_err_and}
 use Rattle.stl_read.specs.Workings.{Fitting}
 use Rattle.stl_read.proofs.Laws.Reading.{short_refused, misfit_refused, fitting}
+use Rattle.stl_read.proofs.Laws.Rooms.{few_room, many_room}
 use Rattle.stl_read.proofs.read.Goals as goal
+use Rattle.stl_read.proofs.read.Goals.{In_ok-sized}
+
+-- a file that is not refused by its size
+fits : (u : In_ok-sized) → Fitting u.args.file.now u.count-count.result
+fits u = fitting _ _ u.count-count.ensures u.in_ok-sized.ensures
 
 pub returns-then-file-lt-FRONT : goal.returns-then-file-lt-FRONT
 returns-then-file-lt-FRONT c = search short_refused
 
-pub returns-then-refuses : goal.returns-then-refuses
-returns-then-refuses c = search misfit_refused
+pub returns-in_err-sized : goal.returns-in_err-sized
+returns-in_err-sized c =
+    let p = err_from_is_err_and c.from_residual.result c.from_residual.ensures.1 in
+    rw (p.1, p.2) (misfit_refused _ _ _ _ c.count-count.ensures c.in_err-sized.ensures)
 
-pub read_fewest-requires : goal.read_fewest-requires
-read_fewest-requires c = ((let it : Fitting c.args.file.now c.count-count.result = fitting _ _ c.count-count.ensures c.sized-fit.ensures c.refuses.ensures c.if-refuses.false in it), search rules)
+pub read_in-requires-clause-room : goal.read_in-requires-clause-room
+read_in-requires-clause-room c = few_room _ _ (fits (goal.at.read_in-requires-clause-room c).In_ok-sized) 4 (omega arith) (omega arith) c.if-facets-le-FEWEST.true
 
-pub returns-then-facets-le-FEWEST : goal.returns-then-facets-le-FEWEST
-returns-then-facets-le-FEWEST c = c.read_fewest.ensures
+pub read_in-requires-then-facets-le-FEW-clause-room : goal.read_in-requires-then-facets-le-FEW-clause-room
+read_in-requires-then-facets-le-FEW-clause-room c =
+    few_room _ _ (fits (goal.at.read_in-requires-then-facets-le-FEW-clause-room c).In_ok-sized) 16 (omega arith) (omega arith) c.if-facets-le-FEW.true
 
-pub read_few-requires : goal.read_few-requires
-read_few-requires c = ((let it : Fitting c.args.file.now c.count-count.result = fitting _ _ c.count-count.ensures c.sized-fit.ensures c.refuses.ensures c.if-refuses.false in it), search rules)
-
-pub returns-then-facets-le-FEW : goal.returns-then-facets-le-FEW
-returns-then-facets-le-FEW c = c.read_few.ensures
-
-pub read_many-requires : goal.read_many-requires
-read_many-requires c = (let it : Fitting c.args.file.now c.count-count.result = fitting _ _ c.count-count.ensures c.sized-fit.ensures c.refuses.ensures c.if-refuses.false in it)
-
-pub returns : goal.returns
-returns c = c.read_many.ensures
+pub read_in-requires-2-clause-room : goal.read_in-requires-2-clause-room
+read_in-requires-2-clause-room c = many_room _ _ (fits (goal.at.read_in-requires-2-clause-room c).In_ok-sized)

@@ -9,7 +9,8 @@ use native.Mathlib.Nat.{eq-or-lt_of_le}
 use lib.Dec.{eqb}
 use lib.ListN.{length, get_or, length-append, length-map}
 use borrow.Author.Tests.{eq-eqb, eqb-true, lt-leb}
-use Rattle.base_answers.specs.declared.Answer.TheVariants.{Done, Unnamed}
+use Rattle.base_answers.specs.Answers.{Unnamed}
+use Rattle.base_answers.specs.declared.Answer.TheVariants.{Done}
 use Rattle.surface_rules.specs.Smallest.{any}
 use Rattle.surface_rules.specs.Refusals.{unnamed, refuse_at, unnamed_refusal}
 use Rattle.surface_rules.specs.Threes.{Three, three, flat}

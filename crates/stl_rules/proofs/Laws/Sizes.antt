@@ -5,7 +5,8 @@ use Prim.Native.Nat.{ℕ, ◌+◌, ◌*◌, ◌≤◌, ◌<◌}
 use lib.Dec.{leb, eqb}
 use borrow.Author.Tests.{eq-eqb, ne_eqb, eqb-true, le-leb, lt-leb, leb-true}
 use Rattle.base_answers.specs.Numbers.{refusing}
-use Rattle.base_answers.specs.declared.Answer.TheVariants.{Done, Corners, Misfit}
+use Rattle.base_answers.specs.Answers.{Corners, Misfit}
+use Rattle.base_answers.specs.declared.Answer.TheVariants.{Done}
 use Rattle.base_limits.specs.Limits as limits
 use Rattle.surface_rules.specs.Refusals.{then_check}
 use Rattle.surface_rules.proofs.Laws.Tests.{both_true}

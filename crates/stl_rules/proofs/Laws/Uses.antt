@@ -1,4 +1,5 @@
 -- Things met one after another: one more is met last, no two of those met are one, and each stands at its own place.
+use Rattle.std.specs.Prelude.{Option, Some}
 use mathlib.Core.Path.{◌≡◌, refl, sym, ap, ◌∙◌, subst}
 use mathlib.Core.Bool.{Bool, true, false, cond}
 use mathlib.Core.Logic.{⊎_elim}
@@ -7,8 +8,6 @@ use Prim.Native.Nat.{ℕ, zero, suc, ◌+◌, ◌<◌, ◌≤◌}
 use native.Mathlib.Omega.{arith}
 use native.Mathlib.Nat.{eq-or-lt_of_le, le_refl}
 use lib.ListN.{length, get_or, get_or-append, length-append}
-use Rattle.surface_rules.specs.declared.Found.{Found}
-use Rattle.surface_rules.specs.declared.Found.TheVariants.{At}
 use Rattle.surface_rules.specs.Smallest.{least, any}
 use Rattle.surface_rules.proofs.Laws.Smallest.{any_never, any_index, index_any, never_any, never_least, least_at}
 use Rattle.stl_rules.specs.FirstUse.{stands, meet, meet_all, first_uses, index_or}
@@ -102,7 +101,7 @@ module _ {A : Type 0} (same : A → A → Bool) (no : A) where
   uses_distinct l = distinct_all [] l (λ j k a b. absurd (omega arith))
 
   -- each stands at its own place
-  pub stands_at : (met : List A) (k : ℕ) → Distinct met → k < length met → same (get_or met k no) (get_or met k no) ≡ true → stands same no met (get_or met k no) ≡ At k
+  pub stands_at : (met : List A) (k : ℕ) → Distinct met → k < length met → same (get_or met k no) (get_or met k no) ≡ true → stands same no met (get_or met k no) ≡ Some k
   unfolding stands Distinct
   stands_at met k d h e = least_at _ k (length met) (never_least _ k (λ j l. d j k l h)) e h
 
@@ -144,7 +143,7 @@ module _ {A : Type 0} (same : A → A → Bool) (no : A) where
     number_stands l i h =
         let s = all_stand [] l i h in
         let q = any_index (λ (k : ℕ). same (get_or (meet_all same no [] l) k no) (get_or l i no)) (length (meet_all same no [] l)) (index_any (λ (k : ℕ). same (get_or (meet_all same no [] l) k no) (get_or l i no)) (length (meet_all same no [] l)) s.0 s.1 s.2) in
-        ap (λ (f : Found). same (get_or (meet_all same no [] l) (index_or same no f) no) (get_or l i no)) q.1 ∙ q.3
+        ap (λ (f : Option ℕ). same (get_or (meet_all same no [] l) (index_or same no f) no) (get_or l i no)) q.1 ∙ q.3
 
     -- and that is the number of one that is met
     pub number_below : (l : List A) (i : ℕ) → i < length l → index_or same no (stands same no (first_uses same no l) (get_or l i no)) < length (first_uses same no l)
@@ -152,4 +151,4 @@ module _ {A : Type 0} (same : A → A → Bool) (no : A) where
     number_below l i h =
         let s = all_stand [] l i h in
         let q = any_index (λ (k : ℕ). same (get_or (meet_all same no [] l) k no) (get_or l i no)) (length (meet_all same no [] l)) (index_any (λ (k : ℕ). same (get_or (meet_all same no [] l) k no) (get_or l i no)) (length (meet_all same no [] l)) s.0 s.1 s.2) in
-        subst (λ (f : Found). index_or same no f < length (meet_all same no [] l)) (sym q.1) q.2
+        subst (λ (f : Option ℕ). index_or same no f < length (meet_all same no [] l)) (sym q.1) q.2

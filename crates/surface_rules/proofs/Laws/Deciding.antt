@@ -7,7 +7,8 @@ use native.Mathlib.Omega.{arith}
 use lib.ListN.{length}
 use Rattle.base_answers.specs.Numbers.{refusing}
 use Rattle.base_answers.specs.declared.Answer.{Answer}
-use Rattle.base_answers.specs.declared.Answer.TheVariants.{Done, NoPitch}
+use Rattle.base_answers.specs.Answers.{NoPitch}
+use Rattle.base_answers.specs.declared.Answer.TheVariants.{Done}
 use Rattle.base_types.specs.Pitches.{pitch_of, is_pitch}
 use Rattle.base_types.specs.declared.Pitch.{Pitch}
 use Rattle.base_types.proofs.Laws.Pitches.{pitch_is}

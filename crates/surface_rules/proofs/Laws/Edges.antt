@@ -1,4 +1,5 @@
 -- On a surface that is not refused a half-edge and its twin are each the other's, since no two half-edges have the same two ends in the same order.
+use Rattle.std.specs.Prelude.{Option, Some, None}
 use mathlib.Core.Path.{◌≡◌, refl, sym, ap, ◌∙◌, subst}
 use mathlib.Core.Bool.{true, false, true≢false}
 use mathlib.Core.List.{List}
@@ -6,8 +7,6 @@ use Prim.Native.Nat.{ℕ, zero, suc, ◌+◌, ◌*◌, ◌/◌, ◌%◌, ◌<◌
 use native.Mathlib.Omega.{arith}
 use lib.ListN.{length}
 use borrow.Author.Tests.{eqb-true, eqb-false, eq-eqb, not-true, not-false}
-use Rattle.surface_rules.specs.declared.Found.{Found}
-use Rattle.surface_rules.specs.declared.Found.TheVariants.{At, Nothing}
 use Rattle.surface_rules.specs.Edges.{Sound, following, start_of, end_of, goes, twin, is_open, repeats, twice}
 use Rattle.surface_rules.proofs.Laws.Tests.{both_true, either_false}
 use Rattle.surface_rules.proofs.Laws.Smallest.{any_none, any_some, least_never, least_sound, any_index, index_any}
@@ -85,27 +84,27 @@ repeats_from corners g h l r = index_any _ h g l (goes_from _ _ _ g r)
 
 -- ---- twins and open edges
 
-pub twin_says : (corners : List ℕ) (h g : ℕ) → twin corners h ≡ At g → (g < length corners) × Goes corners (end_of corners h) (start_of corners h) g
+pub twin_says : (corners : List ℕ) (h g : ℕ) → twin corners h ≡ Some g → (g < length corners) × Goes corners (end_of corners h) (start_of corners h) g
 unfolding twin
 twin_says corners h g e = let s = least_sound _ _ _ e in (s.0, goes_says _ _ _ g s.1)
 
-pub twin_none : (corners : List ℕ) (h : ℕ) → twin corners h ≡ Nothing → (g : ℕ) → g < length corners → Goes corners (end_of corners h) (start_of corners h) g → ⊥
+pub twin_none : (corners : List ℕ) (h : ℕ) → twin corners h ≡ None → (g : ℕ) → g < length corners → Goes corners (end_of corners h) (start_of corners h) g → ⊥
 unfolding twin
 twin_none corners h e g l r = true≢false (sym (goes_from _ _ _ g r) ∙ least_never _ _ e g l)
 
-pub open_none : (corners : List ℕ) (h : ℕ) → is_open corners h ≡ true → twin corners h ≡ Nothing
+pub open_none : (corners : List ℕ) (h : ℕ) → is_open corners h ≡ true → twin corners h ≡ None
 unfolding is_open
 open_none corners h e = any_none (twin corners h) (not-true _ e)
 
-pub none_open : (corners : List ℕ) (h : ℕ) → twin corners h ≡ Nothing → is_open corners h ≡ true
+pub none_open : (corners : List ℕ) (h : ℕ) → twin corners h ≡ None → is_open corners h ≡ true
 unfolding is_open
 none_open corners h e = rw e
 
-pub not_open : (corners : List ℕ) (h : ℕ) → is_open corners h ≡ false → (g : ℕ) × (twin corners h ≡ At g)
+pub not_open : (corners : List ℕ) (h : ℕ) → is_open corners h ≡ false → (g : ℕ) × (twin corners h ≡ Some g)
 unfolding is_open
 not_open corners h e = any_some (twin corners h) (not-false _ e)
 
-pub twin_not_open : (corners : List ℕ) (h g : ℕ) → twin corners h ≡ At g → is_open corners h ≡ false
+pub twin_not_open : (corners : List ℕ) (h g : ℕ) → twin corners h ≡ Some g → is_open corners h ≡ false
 unfolding is_open
 twin_not_open corners h g e = rw e
 
@@ -160,24 +159,24 @@ module _ (corners : List ℕ) (sound : Sound corners) where
   one_edge = one_below corners (length corners) (least_never (repeats corners) (length corners) sound.single)
 
   -- two edges with one twin are one edge
-  pub twin_inj : (e f g : ℕ) → e < length corners → f < length corners → twin corners e ≡ At g → twin corners f ≡ At g → e ≡ f
+  pub twin_inj : (e f g : ℕ) → e < length corners → f < length corners → twin corners e ≡ Some g → twin corners f ≡ Some g → e ≡ f
   twin_inj e f g le lf te tf =
       let p = (twin_says corners e g te).1 in
       let q = (twin_says corners f g tf).1 in
       one_edge e f le lf (sym p.ends ∙ q.ends) (sym p.starts ∙ q.starts)
 
   -- a half-edge that runs the other way is the twin, as no other does
-  pub twin_is : (h g : ℕ) → g < length corners → Goes corners (end_of corners h) (start_of corners h) g → twin corners h ≡ At g
+  pub twin_is : (h g : ℕ) → g < length corners → Goes corners (end_of corners h) (start_of corners h) g → twin corners h ≡ Some g
   twin_is h g l r = go (twin corners h) refl
     where
-      go : (f : Found) → twin corners h ≡ f → twin corners h ≡ At g
-      go (At k) e =
+      go : (f : Option ℕ) → twin corners h ≡ f → twin corners h ≡ Some g
+      go (Some k) e =
           let q = twin_says corners h k e in
-          e ∙ ap At (one_edge k g q.0 l (q.1.starts ∙ sym r.starts) (q.1.ends ∙ sym r.ends))
-      go Nothing e = absurd (twin_none corners h e g l r)
+          e ∙ ap Some (one_edge k g q.0 l (q.1.starts ∙ sym r.starts) (q.1.ends ∙ sym r.ends))
+      go None e = absurd (twin_none corners h e g l r)
 
   -- the twin's twin is the edge itself
-  pub twin_back : (h g : ℕ) → h < length corners → twin corners h ≡ At g → twin corners g ≡ At h
+  pub twin_back : (h g : ℕ) → h < length corners → twin corners h ≡ Some g → twin corners g ≡ Some h
   twin_back h g l t =
       let r = (twin_says corners h g t).1 in
       twin_is g h l (record { starts = sym r.ends; ends = sym r.starts })

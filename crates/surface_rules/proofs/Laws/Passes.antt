@@ -1,10 +1,9 @@
 -- A pass over all indices that keeps whether a property was met: at its end it says whether there is a smallest index with it.
+use Rattle.std.specs.Prelude.{Option, Some, None}
 use mathlib.Core.Path.{◌≡◌, refl, ap, ◌∙◌}
 use mathlib.Core.Bool.{Bool, true, false, not, ◌&&◌, cond}
 use Prim.Native.Nat.{ℕ, ◌+◌}
 use native.Mathlib.Numerals.{add-one}
-use Rattle.surface_rules.specs.declared.Found.{Found}
-use Rattle.surface_rules.specs.declared.Found.TheVariants.{At, Nothing}
 use Rattle.surface_rules.specs.Smallest.{or_else, least, any}
 
 module _ (p : ℕ → Bool) where
@@ -16,10 +15,10 @@ module _ (p : ℕ → Bool) where
   unfolding least
   all_more all t i h e = rw (add-one, h, e) (go (least p i) (p i))
     where
-      go : (f : Found) (b : Bool) → (not (any f) && not b) ≡ not (any (or_else f (cond b (At i) Nothing)))
-      go (At j) b = refl
-      go Nothing true = refl
-      go Nothing false = refl
+      go : (f : Option ℕ) (b : Bool) → (not (any f) && not b) ≡ not (any (or_else f (cond b (Some i) None)))
+      go (Some j) b = refl
+      go None true = refl
+      go None false = refl
 
   pub all_end : (all : Bool) (i n : ℕ) → all ≡ not (any (least p i)) → i ≡ n → all ≡ not (any (least p n))
   all_end all i n h e = h ∙ ap (λ (k : ℕ). not (any (least p k))) e

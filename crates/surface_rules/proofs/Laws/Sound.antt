@@ -1,4 +1,5 @@
 -- A surface that is not refused passed every part of the table; so it is sound.
+use Rattle.std.specs.Prelude.{Option, Some, None}
 use mathlib.Core.Path.{◌≡◌, refl, sym, ap, ◌∙◌}
 use mathlib.Core.Bool.{Bool, true, false, true≢false}
 use mathlib.Core.List.{List}
@@ -7,9 +8,8 @@ use native.Mathlib.Omega.{arith}
 use lib.ListN.{length}
 use Rattle.base_answers.specs.Numbers.{refusing}
 use Rattle.base_answers.specs.declared.Answer.{Answer}
-use Rattle.base_answers.specs.declared.Answer.TheVariants.{Done, Unnamed, Twice, Repeated}
-use Rattle.surface_rules.specs.declared.Found.{Found}
-use Rattle.surface_rules.specs.declared.Found.TheVariants.{At, Nothing}
+use Rattle.base_answers.specs.Answers.{Unnamed, Twice, Repeated}
+use Rattle.base_answers.specs.declared.Answer.TheVariants.{Done}
 use Rattle.surface_rules.specs.Smallest.{least}
 use Rattle.surface_rules.specs.Edges.{twice, repeats, Sound}
 use Rattle.surface_rules.specs.Refusals.{unnamed, then_check, refuse_at, pitch_refusal, count_refusal, buffer_refusal, corner_refusal, word_refusal, content_refusal, refusal}
@@ -55,16 +55,16 @@ pub passes : (pitch : ℕ) (words corners lent needs : List ℕ) → Passed pitc
 unfolding refusal content_refusal
 passes pitch words corners lent needs p = rw (p.pitched, p.counts, p.buffers, p.corner, p.word) refl
 
-corners_pass : (corners : List ℕ) (points : ℕ) → corner_refusal corners points ≡ Done → (least (twice corners) (length corners / 3) ≡ Nothing) × (least (repeats corners) (length corners) ≡ Nothing)
+corners_pass : (corners : List ℕ) (points : ℕ) → corner_refusal corners points ≡ Done → (least (twice corners) (length corners / 3) ≡ None) × (least (repeats corners) (length corners) ≡ None)
 unfolding corner_refusal
 corners_pass corners points = go (least (unnamed corners points) (length corners)) (least (twice corners) (length corners / 3)) refl (least (repeats corners) (length corners)) refl
   where
-    go : (n f : Found) → least (twice corners) (length corners / 3) ≡ f → (g : Found) → least (repeats corners) (length corners) ≡ g
-        → then_check (refuse_at Unnamed n) (then_check (refuse_at Twice f) (refuse_at Repeated g)) ≡ Done → (least (twice corners) (length corners / 3) ≡ Nothing) × (least (repeats corners) (length corners) ≡ Nothing)
-    go Nothing Nothing e Nothing h d = (e, h)
-    go Nothing Nothing e (At j) h d = let z : ◌≡◌ {A = ℕ} 0 1 = cc in absurd (omega arith)
-    go Nothing (At i) e g h d = let z : ◌≡◌ {A = ℕ} 0 1 = cc in absurd (omega arith)
-    go (At i) f e g h d = let z : ◌≡◌ {A = ℕ} 0 1 = cc in absurd (omega arith)
+    go : (n f : Option ℕ) → least (twice corners) (length corners / 3) ≡ f → (g : Option ℕ) → least (repeats corners) (length corners) ≡ g
+        → then_check (refuse_at Unnamed n) (then_check (refuse_at Twice f) (refuse_at Repeated g)) ≡ Done → (least (twice corners) (length corners / 3) ≡ None) × (least (repeats corners) (length corners) ≡ None)
+    go None None e None h d = (e, h)
+    go None None e (Some j) h d = let z : ◌≡◌ {A = ℕ} 0 1 = cc in absurd (omega arith)
+    go None (Some i) e g h d = let z : ◌≡◌ {A = ℕ} 0 1 = cc in absurd (omega arith)
+    go (Some i) f e g h d = let z : ◌≡◌ {A = ℕ} 0 1 = cc in absurd (omega arith)
 
 pub passed_sound : (pitch : ℕ) (words corners lent needs : List ℕ) → Passed pitch words corners lent needs → Sound corners
 passed_sound pitch words corners lent needs p =

@@ -1,4 +1,5 @@
 -- Checks one after the other: a refusal decides, and where none is given the next check does. What is no refusal in the table is `Done`.
+use Rattle.std.specs.Prelude.{Option, Some, None}
 use mathlib.Core.Path.{◌≡◌, refl, sym, ap₂, ◌∙◌}
 use mathlib.Core.Bool.{Bool, true, false, cond, true≢false, ◌&&◌}
 use mathlib.Core.List.{List, [], ◌∷◌}
@@ -8,12 +9,11 @@ use lib.ListN.{length, get_or}
 use borrow.Author.Tests.{eq-eqb, eqb-true, le-leb, leb-true, ltb-true, ltb-false}
 use Rattle.base_answers.specs.Numbers.{refusing}
 use Rattle.base_answers.specs.declared.Answer.{Answer}
-use Rattle.base_answers.specs.declared.Answer.TheVariants.{Done, Words, Corners, Buffer, Unnamed, Twice, Repeated, NotFinite, TooFar, NoPitch}
+use Rattle.base_answers.specs.Answers.{Words, Corners, Buffer, Unnamed, Twice, Repeated, NotFinite, TooFar, NoPitch}
+use Rattle.base_answers.specs.declared.Answer.TheVariants.{Done}
 use Rattle.base_types.specs.Counts.{threes}
 use Rattle.base_types.specs.Pitches.{is_pitch}
 use Rattle.base_limits.specs.Limits as limits
-use Rattle.surface_rules.specs.declared.Found.{Found}
-use Rattle.surface_rules.specs.declared.Found.TheVariants.{At, Nothing}
 use Rattle.surface_rules.specs.Smallest.{least}
 use Rattle.surface_rules.specs.Edges.{twice, repeats}
 use Rattle.surface_rules.specs.Refusals.{short, unnamed, not_finite, too_far, then_check, refuse_at, pitch_refusal, count_refusal, buffer_refusal, corner_refusal, word_refusal, content_refusal}
@@ -40,9 +40,9 @@ refusal_passing : (a : Answer) → refusing a ≡ true → Passing a
 unfolding Passing
 refusal_passing a r e = absurd (true≢false (sym r ∙ e))
 
-passing_at : (f : ℕ → Answer) (found : Found) → ((i : ℕ) → refusing (f i) ≡ true) → Passing (refuse_at f found)
-passing_at f (At i) r = refusal_passing (f i) (r i)
-passing_at f Nothing r = passing_done
+passing_at : (f : ℕ → Answer) (found : Option ℕ) → ((i : ℕ) → refusing (f i) ≡ true) → Passing (refuse_at f found)
+passing_at f (Some i) r = refusal_passing (f i) (r i)
+passing_at f None r = passing_done
 
 passing_unless : (t : Bool) (a : Answer) → refusing a ≡ true → Passing (cond t Done a)
 passing_unless true a r = passing_done
@@ -72,7 +72,7 @@ unfolding buffer_refusal
 buffer_passing lent needs = passing_at (λ i. Buffer (i + 1)) (least (short lent needs) (length needs)) (λ i. refl)
 
 -- two and three searches after each other
-passing_two : (f g : ℕ → Answer) (a b : Found) → ((i : ℕ) → refusing (f i) ≡ true) → ((i : ℕ) → refusing (g i) ≡ true) → Passing (then_check (refuse_at f a) (refuse_at g b))
+passing_two : (f g : ℕ → Answer) (a b : Option ℕ) → ((i : ℕ) → refusing (f i) ≡ true) → ((i : ℕ) → refusing (g i) ≡ true) → Passing (then_check (refuse_at f a) (refuse_at g b))
 passing_two f g a b p q = passing_then (refuse_at f a) (refuse_at g b) (passing_at f a p) (passing_at g b q)
 
 pub corner_passing : (corners : List ℕ) (points : ℕ) → Passing (corner_refusal corners points)
@@ -129,18 +129,18 @@ pub buffers_long : (lent needs : List ℕ) → buffer_refusal lent needs ≡ Don
 unfolding buffer_refusal short
 buffers_long lent needs d i l = go (least (short lent needs) (length needs)) refl d
   where
-    go : (f : Found) → least (short lent needs) (length needs) ≡ f → refuse_at (λ i. Buffer (i + 1)) f ≡ Done → get_or needs i 0 ≤ get_or lent i 0
-    go (At j) e d = let z : ◌≡◌ {A = ℕ} 0 1 = cc in absurd (omega arith)
-    go Nothing e d = ltb-false (get_or lent i 0) (get_or needs i 0) (least_never (short lent needs) (length needs) e i l)
+    go : (f : Option ℕ) → least (short lent needs) (length needs) ≡ f → refuse_at (λ i. Buffer (i + 1)) f ≡ Done → get_or needs i 0 ≤ get_or lent i 0
+    go (Some j) e d = let z : ◌≡◌ {A = ℕ} 0 1 = cc in absurd (omega arith)
+    go None e d = ltb-false (get_or lent i 0) (get_or needs i 0) (least_never (short lent needs) (length needs) e i l)
 
 -- and buffers that are, are not refused
 pub buffers_enough : (lent needs : List ℕ) → ((i : ℕ) → i < length needs → get_or needs i 0 ≤ get_or lent i 0) → buffer_refusal lent needs ≡ Done
 unfolding buffer_refusal short
 buffers_enough lent needs h = go (least (short lent needs) (length needs)) refl
   where
-    go : (f : Found) → least (short lent needs) (length needs) ≡ f → refuse_at (λ (i : ℕ). Buffer (i + 1)) f ≡ Done
-    go Nothing e = refl
-    go (At i) e =
+    go : (f : Option ℕ) → least (short lent needs) (length needs) ≡ f → refuse_at (λ (i : ℕ). Buffer (i + 1)) f ≡ Done
+    go None e = refl
+    go (Some i) e =
         let s = least_sound (short lent needs) (length needs) i e in
         let l : get_or lent i 0 < get_or needs i 0 = ltb-true (get_or lent i 0) (get_or needs i 0) s.1 in
         absurd (omega (arith, h i s.0))
@@ -171,12 +171,12 @@ three_long a b c k l m f g h = buffers_enough (a ∷ b ∷ c ∷ []) (k ∷ l �
     at_each (suc (suc (suc i))) p = absurd (omega arith)
 
 -- words that pass are finite and near
-pub words_pass : (pitch : ℕ) (words : List ℕ) → word_refusal pitch words ≡ Done → (least (not_finite words) (length words) ≡ Nothing) × (least (too_far pitch words) (length words) ≡ Nothing)
+pub words_pass : (pitch : ℕ) (words : List ℕ) → word_refusal pitch words ≡ Done → (least (not_finite words) (length words) ≡ None) × (least (too_far pitch words) (length words) ≡ None)
 unfolding word_refusal
 words_pass pitch words = go (least (not_finite words) (length words)) refl (least (too_far pitch words) (length words)) refl
   where
-    go : (f : Found) → least (not_finite words) (length words) ≡ f → (g : Found) → least (too_far pitch words) (length words) ≡ g
-        → then_check (refuse_at NotFinite f) (refuse_at TooFar g) ≡ Done → (least (not_finite words) (length words) ≡ Nothing) × (least (too_far pitch words) (length words) ≡ Nothing)
-    go Nothing e Nothing h d = (e, h)
-    go Nothing e (At j) h d = let z : ◌≡◌ {A = ℕ} 0 1 = cc in absurd (omega arith)
-    go (At i) e g h d = let z : ◌≡◌ {A = ℕ} 0 1 = cc in absurd (omega arith)
+    go : (f : Option ℕ) → least (not_finite words) (length words) ≡ f → (g : Option ℕ) → least (too_far pitch words) (length words) ≡ g
+        → then_check (refuse_at NotFinite f) (refuse_at TooFar g) ≡ Done → (least (not_finite words) (length words) ≡ None) × (least (too_far pitch words) (length words) ≡ None)
+    go None e None h d = (e, h)
+    go None e (Some j) h d = let z : ◌≡◌ {A = ℕ} 0 1 = cc in absurd (omega arith)
+    go (Some i) e g h d = let z : ◌≡◌ {A = ℕ} 0 1 = cc in absurd (omega arith)

@@ -1,4 +1,5 @@
 -- Where half-edge h is paired, its walk sees all that joins its two ends below h, so that its answer is right and what holds below h holds below h + 1.
+use Rattle.std.specs.Prelude.{None}
 use mathlib.Core.Path.{◌≡◌, refl, sym, ap, ap₂, ◌∙◌, subst}
 use mathlib.Core.Bool.{Bool, true, false, not, true≢false, and-false}
 use mathlib.Core.List.{List}
@@ -6,9 +7,8 @@ use mathlib.Core.Logic.{⊎_elim}
 use Prim.Native.Nat.{ℕ, ◌+◌, ◌<◌, ◌≤◌}
 use native.Mathlib.Omega.{arith}
 use lib.ListN.{length, get_or, set}
-use borrow.Author.Tests.{not-true, not-false}
+use borrow.Author.Tests.{not-true}
 use Rattle.base_limits.specs.Limits as limits
-use Rattle.surface_rules.specs.declared.Found.TheVariants as found
 use Rattle.surface_rules.specs.Smallest.{least}
 use Rattle.surface_rules.specs.Edges.{following, start_of, end_of, repeats}
 use Rattle.surface_rules.proofs.Laws.Tests.{lt_or_le}
@@ -95,20 +95,17 @@ module _ {size : ℕ} {corners : List ℕ} {h f u v : ℕ} {heads links ends tab
       answer_is : done ≡ not (repeats corners h)
       answer_is = d.answer ∙ ap not (met_repeats corners table h room.going.room room.going.fresh room.going.turns room.edge met sees)
 
-      pub pair_stops : {heads' links' ends' table' : List ℕ} → not done ≡ true → PairDone size corners h false heads' links' ends' table'
-      pair_stops q = record { answer = sym (not-true _ q) ∙ answer_is; going = λ e. absurd (true≢false (sym e)) }
+      pub pair_stops : {heads' links' ends' table' : List ℕ} → done ≡ false → PairDone size corners h false heads' links' ends' table'
+      pair_stops q = record { answer = sym q ∙ answer_is; going = λ e. absurd (true≢false (sym e)) }
 
-      module _ (went : not done ≡ false) where
-        q : done ≡ true
-        q = not-false _ went
-
+      module _ (q : done ≡ true) where
         not_refused : refused met table ≡ false
         not_refused = not-true _ (sym d.answer ∙ q)
 
         not_repeats : repeats corners h ≡ false
         not_repeats = not-true _ (sym answer_is ∙ q)
 
-        still_fresh : least (stops corners) (h + 1) ≡ found.Nothing
+        still_fresh : least (stops corners) (h + 1) ≡ None
         unfolding stops
         still_fresh = least_more (stops corners) h room.going.fresh (rw (not_repeats, room.proper, and-false))
 

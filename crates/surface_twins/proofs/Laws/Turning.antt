@@ -1,4 +1,5 @@
 -- One half-edge more in the table of turns: h repeats an earlier one exactly where it met one that runs its way, or one that has a twin already. Otherwise h and its twin alone get new entries, since no other half-edge below h runs as that twin does.
+use Rattle.std.specs.Prelude.{Option, Some, None}
 use mathlib.Core.Path.{◌≡◌, refl, sym, ap, ap₂, ◌∙◌}
 use mathlib.Core.Bool.{Bool, false, true≢false}
 use mathlib.Core.List.{List}
@@ -10,8 +11,6 @@ use lib.ListN.{length, get_or, set, length-set}
 use lib.Seq.{get_or-set_same, get_or-set_other}
 use borrow.Author.Tests.{ltb-false, lt-ltb, le-ltb}
 use Rattle.base_limits.specs.Limits as limits
-use Rattle.surface_rules.specs.declared.Found.{Found}
-use Rattle.surface_rules.specs.declared.Found.TheVariants as found
 use Rattle.surface_rules.specs.Smallest.{least, any}
 use Rattle.surface_rules.specs.Edges.{following, start_of, end_of, goes, repeats}
 use Rattle.surface_rules.proofs.Laws.Tests.{eq_or_not, not_so, either_false}
@@ -27,7 +26,7 @@ use Rattle.surface_twins.proofs.Laws.Searches.{least_skip, least_keeps}
 abbrev against : List ℕ → ℕ → ℕ → Bool
 against corners k = goes corners (end_of corners k) (start_of corners k)
 
-module _ (corners table : List ℕ) (h : ℕ) (room : Room corners table) (fresh : least (stops corners) h ≡ found.Nothing) (turns : TurnsBelow corners h table) (edge : h < length corners) where
+module _ (corners table : List ℕ) (h : ℕ) (room : Room corners table) (fresh : least (stops corners) h ≡ None) (turns : TurnsBelow corners h table) (edge : h < length corners) where
   -- below h no two run alike
   one_goes : (j k a b : ℕ) → j < h → k < h → Goes corners a b j → Goes corners a b k → j ≡ k
   unfolding stops
@@ -39,16 +38,16 @@ module _ (corners table : List ℕ) (h : ℕ) (room : Room corners table) (fresh
   unfolding TurnsBelow
   entry_is e l = turns e l
 
-  twin_small : (e g : ℕ) → e < h → least (against corners e) h ≡ found.At g → get_or table e 0 < open_mark
+  twin_small : (e g : ℕ) → e < h → least (against corners e) h ≡ Some g → get_or table e 0 < open_mark
   twin_small e g l q =
       let s : g < h = (least_sound (against corners e) h g q).0 in
       let n : length corners ≤ limits.corners = room.few in
       let i : following g < length corners = following_below (length corners) g room.triples (omega arith) in
-      let a : get_or table e 0 ≡ following g = entry_is e l ∙ ap (λ (z : Found). turn_by z e) q in
+      let a : get_or table e 0 ≡ following g = entry_is e l ∙ ap (λ (z : Option ℕ). turn_by z e) q in
       omega arith
 
-  open_great : (e : ℕ) → e < h → least (against corners e) h ≡ found.Nothing → get_or table e 0 ≡ open_mark + following e
-  open_great e l q = entry_is e l ∙ ap (λ (z : Found). turn_by z e) q
+  open_great : (e : ℕ) → e < h → least (against corners e) h ≡ None → get_or table e 0 ≡ open_mark + following e
+  open_great e l q = entry_is e l ∙ ap (λ (z : Option ℕ). turn_by z e) q
 
   -- a half-edge that runs against h has one that runs against it where h repeats that
   module _ (e : ℕ) (l : e < h) (r : Goes corners (end_of corners h) (start_of corners h) e) where
@@ -59,28 +58,28 @@ module _ (corners table : List ℕ) (h : ℕ) (room : Room corners table) (fresh
     unfolding repeats
     twin_repeats = go (least (against corners e) h) refl
       where
-        go : (f : Found) → least (against corners e) h ≡ f → ltb (get_or table e 0) open_mark ≡ any (least (goes corners (start_of corners h) (end_of corners h)) h)
-        go (found.At g) q = lt-ltb _ _ (twin_small e g l q) ∙ ap any (sym q ∙ same_search)
-        go found.Nothing q =
+        go : (f : Option ℕ) → least (against corners e) h ≡ f → ltb (get_or table e 0) open_mark ≡ any (least (goes corners (start_of corners h) (end_of corners h)) h)
+        go (Some g) q = lt-ltb _ _ (twin_small e g l q) ∙ ap any (sym q ∙ same_search)
+        go None q =
             let a : get_or table e 0 ≡ open_mark + following e = open_great e l q in
             le-ltb (get_or table e 0) open_mark (omega arith) ∙ ap any (sym q ∙ same_search)
 
-    twin_open : open_mark ≤ get_or table e 0 → least (against corners e) h ≡ found.Nothing
+    twin_open : open_mark ≤ get_or table e 0 → least (against corners e) h ≡ None
     twin_open m = go (least (against corners e) h) refl
       where
-        go : (f : Found) → least (against corners e) h ≡ f → least (against corners e) h ≡ found.Nothing
-        go (found.At g) q = let s : get_or table e 0 < open_mark = twin_small e g l q in absurd (omega arith)
-        go found.Nothing q = q
+        go : (f : Option ℕ) → least (against corners e) h ≡ f → least (against corners e) h ≡ None
+        go (Some g) q = let s : get_or table e 0 < open_mark = twin_small e g l q in absurd (omega arith)
+        go None q = q
 
     -- e is the twin of h, and the only one
-    twin_found : least (against corners h) (h + 1) ≡ found.At e
+    twin_found : least (against corners h) (h + 1) ≡ Some e
     twin_found = least_keeps (against corners h) h (h + 1) e (go (least (against corners h) h) refl) (omega arith)
       where
-        go : (f : Found) → least (against corners h) h ≡ f → least (against corners h) h ≡ found.At e
-        go (found.At g) q =
+        go : (f : Option ℕ) → least (against corners h) h ≡ f → least (against corners h) h ≡ Some e
+        go (Some g) q =
             let s = least_sound (against corners h) h g q in
-            q ∙ ap found.At (one_goes g e _ _ s.0 l (goes_says corners _ _ g s.1) r)
-        go found.Nothing q = absurd (true≢false (sym (goes_from corners _ _ e r) ∙ least_never (against corners h) h q e l))
+            q ∙ ap Some (one_goes g e _ _ s.0 l (goes_says corners _ _ g s.1) r)
+        go None q = absurd (true≢false (sym (goes_from corners _ _ e r) ∙ least_never (against corners h) h q e l))
 
     -- another half-edge below h is not opposed by h
     other_same : (k : ℕ) → k < h → (k ≡ e → ⊥) → least (against corners k) (h + 1) ≡ least (against corners k) h
@@ -99,7 +98,7 @@ module _ (corners table : List ℕ) (h : ℕ) (room : Room corners table) (fresh
         rw q
         (get_or-set_same (set table h (get_or table e 0 - open_mark)) e f 0 (rw (length-set table h (get_or table e 0 - open_mark)) (omega arith))
         ∙ ef
-        ∙ ap (λ (z : Found). turn_by z e) (sym (least_at (against corners e) h (h + 1) (twin_open m) (goes_from corners _ _ h (record { starts = sym r.ends; ends = sym r.starts })) (omega arith)))))
+        ∙ ap (λ (z : Option ℕ). turn_by z e) (sym (least_at (against corners e) h (h + 1) (twin_open m) (goes_from corners _ _ h (record { starts = sym r.ends; ends = sym r.starts })) (omega arith)))))
         (λ (q : k ≡ e → ⊥).
         get_or-set_other (set table h (get_or table e 0 - open_mark)) e k f 0 q
         ∙ ⊎_elim
@@ -107,10 +106,10 @@ module _ (corners table : List ℕ) (h : ℕ) (room : Room corners table) (fresh
         rw p
         (get_or-set_same table h (get_or table e 0 - open_mark) 0 (omega arith)
         ∙ (let a : get_or table e 0 ≡ open_mark + following e = open_great e l (twin_open m) in let d : get_or table e 0 - open_mark ≡ following e = omega arith in d)
-        ∙ ap (λ (z : Found). turn_by z h) (sym twin_found)))
+        ∙ ap (λ (z : Option ℕ). turn_by z h) (sym twin_found)))
         (λ (p : k ≡ h → ⊥).
         let n : k < h = omega arith in
-        get_or-set_other table h k (get_or table e 0 - open_mark) 0 p ∙ entry_is k n ∙ ap (λ (z : Found). turn_by z k) (sym (other_same k n q)))
+        get_or-set_other table h k (get_or table e 0 - open_mark) 0 p ∙ entry_is k n ∙ ap (λ (z : Option ℕ). turn_by z k) (sym (other_same k n q)))
         (eq_or_not k h))
         (eq_or_not k e)
       where
@@ -127,13 +126,13 @@ module _ (corners table : List ℕ) (h : ℕ) (room : Room corners table) (fresh
         rw p
         (get_or-set_same table h (open_mark + f) 0 (omega arith)
         ∙ ap (λ (z : ℕ). open_mark + z) ef
-        ∙ ap (λ (z : Found). turn_by z h)
+        ∙ ap (λ (z : Option ℕ). turn_by z h)
         (sym
         (least_more (against corners h) h (never_least (against corners h) h (λ j m. (none j m).1))
         (not_so _ (λ t. apart (goes_says corners _ _ h t).starts))))))
         (λ (p : k ≡ h → ⊥).
         let n : k < h = omega arith in
-        get_or-set_other table h k (open_mark + f) 0 p ∙ entry_is k n ∙ ap (λ (z : Found). turn_by z k)
+        get_or-set_other table h k (open_mark + f) 0 p ∙ entry_is k n ∙ ap (λ (z : Option ℕ). turn_by z k)
         (sym
         (least_skip (against corners k) h
         (not_so _

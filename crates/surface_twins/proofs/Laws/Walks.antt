@@ -5,7 +5,7 @@ use mathlib.Core.Logic.{⊎_elim}
 use Prim.Native.Nat.{ℕ, ◌-◌, ◌<◌, ◌≤◌}
 use native.Mathlib.Omega.{arith}
 use native.Mathlib.Nat.{eq-or-lt_of_le}
-use lib.ListN.{length, get_or}
+use lib.ListN.{get_or}
 use Rattle.surface_rules.specs.Edges.{end_of}
 use Rattle.surface_rules.proofs.Laws.Tests.{lt_or_le}
 use Rattle.surface_rules.proofs.Laws.Edges.{goes_from}
@@ -20,13 +20,6 @@ pub record Walking (corners links ends : List ℕ) (last u v g : ℕ) : Type 0 w
   pub within : g ≤ last
   pub here : 0 < g → home room.size corners (g - 1) ≡ bucket_of room.size u v
   pub passed : (k : ℕ) → g ≤ k → k < last → Apart corners u v k
-
--- e is a half-edge that is chained, and so is the one before it in its bucket
-pub record Standing (corners links ends : List ℕ) (e : ℕ) : Type 0 where
-  pub corner_in : e < length corners
-  pub link_in : e < length links
-  pub end_in : e < length ends
-  pub next_in : get_or links e 0 < length corners
 
 module _ {corners links ends : List ℕ} {last u v : ℕ} where
   pub walk_begins : MeetRoom corners links ends last u v → Walking corners links ends last u v last
@@ -62,14 +55,6 @@ module _ {corners links ends : List ℕ} {last u v : ℕ} where
 
       pub walk_less : get_or links (g - 1) 0 < g
       walk_less = let m : top (in_bucket size corners (bucket_of size u v)) (g - 1) ≤ g - 1 = top_le (in_bucket size corners (bucket_of size u v)) (g - 1) in let e = link_is in omega arith
-
-      pub walk_inside : Standing corners links ends (g - 1)
-      walk_inside =
-          let b : g ≤ last = w.within in
-          let i : last ≤ length corners = room.inside in
-          let l : length corners ≤ length links = room.links_long in
-          let m : length corners ≤ length ends = room.ends_long in
-          record { corner_in = omega arith; link_in = omega arith; end_in = omega arith; next_in = let n = walk_less in omega arith }
 
       pub walk_more : (get_or corners (g - 1) 0 ≡ v → get_or ends (g - 1) 0 ≡ u → ⊥) → (get_or corners (g - 1) 0 ≡ u → get_or ends (g - 1) 0 ≡ v → ⊥)
           → Walking corners links ends last u v (get_or links (g - 1) 0)

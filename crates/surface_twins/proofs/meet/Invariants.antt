@@ -1,5 +1,4 @@
 -- `meet` walks the chain of u and v from its head, and what it passed joins them neither way. The measure is the place itself, since a chain only goes back.
-use Prim.Native.Nat.{◌-◌}
 use Rattle.surface_twins.proofs.Laws.Walks.{Walking}
 use Rattle.surface_twins.proofs.meet.Given as goal
 

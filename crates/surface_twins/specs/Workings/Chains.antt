@@ -1,6 +1,5 @@
 -- Half-edges chained in buckets, numbered from 1, where 0 ends a chain; and what pairing one more takes and leaves.
-use Rattle.std.specs.Prelude.{◌≡◌, Bool, true, false, not, List, ℕ, zero, suc, ◌+◌, ◌-◌, ◌*◌, ◌/◌, ◌%◌, ◌≤◌, ◌<◌, eqb, ltb, length, get_or, set}
-use Rattle.surface_rules.specs.declared.Found.TheVariants as found
+use Rattle.std.specs.Prelude.{◌≡◌, Bool, true, false, not, List, ℕ, zero, suc, ◌+◌, ◌-◌, ◌*◌, ◌/◌, ◌%◌, ◌≤◌, ◌<◌, eqb, ltb, length, get_or, set, None}
 use Rattle.surface_rules.specs.Smallest.{least}
 use Rattle.surface_rules.specs.Edges.{following, start_of, end_of, goes, twice, repeats}
 use Rattle.surface_twins.specs.declared.Met.{Met}
@@ -107,7 +106,7 @@ TurnsBelow corners n table = (k : ℕ) → k < n → get_or table k 0 ≡ turn_b
 -- the half-edges below n are paired and chained, and the pairing did not stop there
 pub record Going (size : ℕ) (corners : List ℕ) (n : ℕ) (heads links ends table : List ℕ) : Type 0 where
   pub room : Room corners table
-  pub fresh : least (stops corners) n ≡ found.Nothing
+  pub fresh : least (stops corners) n ≡ None
   pub chained : Chained size corners n heads links ends
   pub turns : TurnsBelow corners n table
 

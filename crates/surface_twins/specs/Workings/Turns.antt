@@ -1,8 +1,6 @@
 -- The table of turns: for each half-edge, where the turn through the fan goes on from it.
-use Rattle.std.specs.Prelude.{◌≡◌, Bool, ◌&&◌, ◌||◌, List, ℕ, ◌+◌, ◌/◌, ◌%◌, ◌≤◌, ◌<◌, eqb, length, get_or}
+use Rattle.std.specs.Prelude.{◌≡◌, Bool, ◌&&◌, ◌||◌, List, ℕ, ◌+◌, ◌/◌, ◌%◌, ◌≤◌, ◌<◌, eqb, length, get_or, Option, Some, None}
 use Rattle.base_limits.specs.Limits as limits
-use Rattle.surface_rules.specs.declared.Found.{Found}
-use Rattle.surface_rules.specs.declared.Found.TheVariants.{At, Nothing}
 use Rattle.surface_rules.specs.Edges.{following, twin, twice, repeats}
 
 -- what stands with the edge after an open one, above every half-edge
@@ -10,9 +8,9 @@ abbrev pub open_mark : ℕ
 open_mark = 4096
 
 -- the edge after the twin; or, of an open edge, the mark and the edge after itself
-abbrev pub turn_by : Found → ℕ → ℕ
-turn_by (At g) h = following g
-turn_by Nothing h = open_mark + following h
+abbrev pub turn_by : Option ℕ → ℕ → ℕ
+turn_by (Some g) h = following g
+turn_by None h = open_mark + following h
 
 -- the table has every half-edge's turn
 unfoldable pub Turns : List ℕ → List ℕ → Type 0

@@ -1,17 +1,16 @@
 -- `survey` refuses a number that is no pitch, and hands on one that is.
-use Rattle.base_types.proofs.Laws.Pitches.{named_none, named_is}
+use Rattle.std.proofs.lemmas.Result.{err_from_is_err_and}
 use Rattle.survey_rules.specs.Outcome.{buffers}
 use Rattle.survey.proofs.Laws.Surveying.{pitch_refuse, at_pitch}
 use Rattle.survey.proofs.survey.Goals as goal
 
-pub returns-in-Nothing : goal.returns-in-Nothing
-returns-in-Nothing c =
+pub returns-in_err-step : goal.returns-in_err-step
+returns-in_err-step c =
     let a = c.args in
-    pitch_refuse _ a.words.now a.corners.now (buffers a.grid.now a.rings.now a.lengths.now) _ c.refused.ensures
-    (named_none _ c.of.ensures c.in-Nothing.is)
+    let p = err_from_is_err_and c.from_residual.result c.from_residual.ensures.1 in
+    rw (p.1, p.2) (pitch_refuse _ a.words.now a.corners.now (buffers a.grid.now a.rings.now a.lengths.now) c.in_err-step.ensures)
 
-pub returns-in-Is : goal.returns-in-Is
-returns-in-Is c =
+pub returns : goal.returns
+returns c =
     let a = c.args in
-    let p = c.in-Is.step in
-    at_pitch _ a.words.now a.corners.now (buffers a.grid.now a.rings.now a.lengths.now) p (named_is _ p c.of.ensures c.in-Is.is) c.survey_at.ensures
+    at_pitch _ a.words.now a.corners.now (buffers a.grid.now a.rings.now a.lengths.now) _ c.in_ok-step.ensures c.survey_at.ensures

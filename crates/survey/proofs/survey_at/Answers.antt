@@ -1,52 +1,38 @@
 -- `survey_at` writes nothing before every check is done.
-use mathlib.Core.Path.{◌≡◌, sym, ◌∙◌}
+use Rattle.std.proofs.Common.{refl, sym}
+use Rattle.std.proofs.lemmas.Result.{err_from_is_err_and}
 use native.Mathlib.Nat.{le_trans}
 use native.Mathlib.Omega.{arith}
 use lib.Dec.{lit≤}
-use lib.ListN.{length}
-use borrow.Author.Rules.{rules}
-use Rattle.base_answers.specs.declared.Answer.TheVariants.{Done}
-use Rattle.base_types.specs.Pitches.{pitch_of}
-use Rattle.surface_rules.specs.Refusals.{count_refusal}
+use Rattle.survey_rules.proofs.Laws.Known.{suited, enough, ready}
 use Rattle.surface_rules.proofs.Laws.Thens.{counts_fit}
-use Rattle.surface_rules.proofs.Laws.Deciding.{counts_pass}
-use Rattle.survey_rules.proofs.Laws.Known.{Suited, enough, ready}
-use Rattle.survey.proofs.Laws.Surveying.{counts_refuse, content_refuse, passed_known, done_is}
+use Rattle.survey.proofs.Laws.Surveying.{counts_refuse, content_refuse, done_is}
 use Rattle.survey.proofs.survey_at.Goals as goal
 
-pub returns-then-refuses : goal.returns-then-refuses
-returns-then-refuses c = search counts_refuse
+pub returns-in_err-check_counts : goal.returns-in_err-check_counts
+returns-in_err-check_counts c =
+    let p = err_from_is_err_and c.from_residual.result c.from_residual.ensures.1 in
+    rw (p.1, p.2) (counts_refuse _ _ _ _ c.in_err-check_counts.ensures)
 
-pub check-checked-requires : goal.check-checked-requires
-check-checked-requires c =
-    let e : count_refusal (length c.args.words.now) (length c.args.corners.now) ≡ Done = counts_pass _ _ _ c.check_counts-counted.ensures (sym c.refuses.ensures ∙ c.if-refuses.false) in
-    record { counts = e; long = le_trans (counts_fit _ _ e).few_corners (lit≤ tt) }
+pub check-requires : goal.check-requires
+check-requires c = let e = sym c.in_ok-check_counts.ensures in record { counts = e; long = le_trans (counts_fit _ _ e).few_corners (lit≤ tt) }
 
-pub returns-then-refuses-2 : goal.returns-then-refuses-2
-returns-then-refuses-2 c =
-    let e : count_refusal (length c.args.words.now) (length c.args.corners.now) ≡ Done = counts_pass _ _ _ c.check_counts-counted.ensures (sym c.refuses.ensures ∙ c.if-refuses.false) in
-    search (content_refuse, c.refused-then-refuses-2.ensures, c.refuses-2.ensures, c.if-refuses-2.true, c.check-checked.ensures, e)
+pub returns-in_err-check : goal.returns-in_err-check
+returns-in_err-check c =
+    let p = err_from_is_err_and c.from_residual-in_err-check.result c.from_residual-in_err-check.ensures.1 in
+    rw (p.1, p.2) (content_refuse _ _ _ _ (sym c.in_ok-check_counts.ensures) c.in_err-check.ensures)
 
 pub lay_grid-requires : goal.lay_grid-requires
 lay_grid-requires c =
-    let e : count_refusal (length c.args.words.now) (length c.args.corners.now) ≡ Done = counts_pass _ _ _ c.check_counts-counted.ensures (sym c.refuses.ensures ∙ c.if-refuses.false) in
-    let k : Suited (pitch_of c.args.pitch) c.args.words.now c.args.corners.now c.check-checked.new.turns c.args.grid.now c.args.rings.now c.args.lengths.now =
-    passed_known c.args.pitch e c.check-checked.ensures c.refuses-2.ensures c.if-refuses-2.false
-    in
+    let k = suited c.args.sheet.pitch _ _ _ c.args.grid.now c.args.rings.now c.args.lengths.now _ (sym c.in_ok-check_counts.ensures) c.in_ok-check.ensures refl in
     (k.known.on_grid, k.grid_long)
 
 pub list_loops-listed-requires : goal.list_loops-listed-requires
 list_loops-listed-requires c =
-    let e : count_refusal (length c.args.words.now) (length c.args.corners.now) ≡ Done = counts_pass _ _ _ c.check_counts-counted.ensures (sym c.refuses.ensures ∙ c.if-refuses.false) in
-    let k : Suited (pitch_of c.args.pitch) c.args.words.now c.args.corners.now c.check-checked.new.turns c.args.grid.now c.args.rings.now c.args.lengths.now =
-    passed_known c.args.pitch e c.check-checked.ensures c.refuses-2.ensures c.if-refuses-2.false
-    in
+    let k = suited c.args.sheet.pitch _ _ _ c.args.grid.now c.args.rings.now c.args.lengths.now _ (sym c.in_ok-check_counts.ensures) c.in_ok-check.ensures refl in
     ready k.known _ _ _ (le_trans k.known.fits.few_corners (omega arith)) k.rings_long k.lengths_long (enough k.known (lit≤ tt))
 
 pub returns : goal.returns
 returns c =
-    let e : count_refusal (length c.args.words.now) (length c.args.corners.now) ≡ Done = counts_pass _ _ _ c.check_counts-counted.ensures (sym c.refuses.ensures ∙ c.if-refuses.false) in
-    let k : Suited (pitch_of c.args.pitch) c.args.words.now c.args.corners.now c.check-checked.new.turns c.args.grid.now c.args.rings.now c.args.lengths.now =
-    passed_known c.args.pitch e c.check-checked.ensures c.refuses-2.ensures c.if-refuses-2.false
-    in
+    let k = suited c.args.sheet.pitch _ _ _ c.args.grid.now c.args.rings.now c.args.lengths.now _ (sym c.in_ok-check_counts.ensures) c.in_ok-check.ensures refl in
     done_is k c.list_loops-listed.ensures c.lay_grid.ensures

@@ -10,13 +10,9 @@ use lib.IntN.{ℤ, pos}
 use lib.ListN.{length, get_or, take, set, length-map}
 use lib.Seq.{take_all, take-suc, length-take-le}
 use lib.Ieee.{binary32, of_bits}
-use mir.Syntax.{w32}
-use mir.Val.{to_z, of_z}
-use Rattle.grid_coordinate.specs.Units.{units}
-use Rattle.grid_coordinate.specs.Places.{whole, Places}
+use Rattle.grid_coordinate.specs.Places.{Places}
 use Rattle.grid_coordinate.specs.declared.Coordinate.TheVariants.{NotFinite, TooFar}
 use Rattle.grid_coordinate.proofs.Laws.Floats.{field, no_number}
-use Rattle.grid_coordinate.proofs.Laws.Coordinates.{held}
 use Rattle.grid_place.proofs.Laws.Placing.{beyond}
 use Rattle.surface_rules.specs.Buffers.{over}
 use Rattle.surface_rules.specs.Refusals.{not_finite, too_far}
@@ -45,10 +41,6 @@ module _ (pitch : ℕ) (some : 0 < pitch) (most : pitch ≤ 10) (words : List �
           (λ (e : field (get_or words i 0) ≡ 255). no_nan (no_number (get_or words i 0) e))
           (λ (n : field (get_or words i 0) ≡ 255 → ⊥). not_far (of_bits binary32 (get_or words i 0)) (beyond (get_or words i 0) pitch some most h n))
           (eq_or_not (field (get_or words i 0)) 255)
-
-pub whole_is : (pitch word : ℕ) → 0 < pitch → field word < 149 → (k : ℤ) → k ≡ whole pitch (units (of_bits binary32 word)) → to_z w32 (of_z w32 k) ≡ whole_of pitch word
-unfolding whole_of
-whole_is pitch word some h k e = held word h pitch some k e
 
 -- the first i words are laid
 unfoldable pub Laid : ℕ → List ℕ → List ℤ → ℕ → List ℤ → Type 0

@@ -61,9 +61,9 @@ module _ (text : List ℕ) (e limit v k i : ℕ) (r : Read ℕ) (q : r ≡ until
         unfolding until
         dec_big m = sym (q ∙ rw (drop-cons text i 0, ne_eqb _ _ n, ← is, not-false digit t, digit_is _ digit is t, lt-leb _ _ m))
 
-        pub dec_more : v * 10 + (get_or text i 0 - 48) ≤ limit → r ≡ until e limit (v * 10 + (get_or text i 0 - 48)) (k + 1) (drop (i + 1) text)
+        pub dec_more : v * 10 + (get_or text i 0 - 48) ≤ limit → (j : ℕ) → j ≡ k + 1 → r ≡ until e limit (v * 10 + (get_or text i 0 - 48)) j (drop (i + 1) text)
         unfolding until
-        dec_more m = q ∙ rw (drop-cons text i 0, ne_eqb _ _ n, ← is, not-false digit t, digit_is _ digit is t, le-leb _ _ m, add-one i)
+        dec_more m j z = q ∙ rw (z, drop-cons text i 0, ne_eqb _ _ n, ← is, not-false digit t, digit_is _ digit is t, le-leb _ _ m, add-one i)
 
 -- the same where reading begins there
 module _ (text : List ℕ) (e limit v k i : ℕ) (l : i < length text) where
@@ -80,7 +80,7 @@ module _ (text : List ℕ) (e limit v k i : ℕ) (l : i < length text) where
 
       -- what reading on gives
       pub chain_on : (s : Read ℕ) → s ≡ until e limit (v * 10 + (get_or text i 0 - 48)) (k + 1) (drop (i + 1) text) → v * 10 + (get_or text i 0 - 48) ≤ limit → s ≡ until e limit v k (drop i text)
-      chain_on s p m = p ∙ sym (dec_more text e limit v k i (until e limit v k (drop i text)) refl l n digit is t m)
+      chain_on s p m = p ∙ sym (dec_more text e limit v k i (until e limit v k (drop i text)) refl l n digit is t m (k + 1) refl)
 
 -- the fourth digit is the last
 module _ (text : List ℕ) (e limit v i : ℕ) (room : i + 2 ≤ length text) (low : 100 ≤ v) (top : v < 1000) (most : limit < 10000)

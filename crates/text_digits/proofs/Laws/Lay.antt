@@ -1,5 +1,5 @@
 -- Writing into a lent buffer, byte by byte: what is left to lay over the present text gives the whole.
-use mathlib.Core.Path.{◌≡◌, sym, ap, ◌∙◌}
+use mathlib.Core.Path.{◌≡◌, refl, sym, ap, ◌∙◌}
 use mathlib.Core.List.{List, [], ◌∷◌, ◌++◌}
 use Prim.Native.Nat.{ℕ, suc, ◌+◌, ◌<◌, ◌≤◌}
 use native.Mathlib.Nat.{add-zero}
@@ -7,7 +7,8 @@ use native.Mathlib.Numerals.{add-one}
 use native.Mathlib.Omega.{arith}
 use lib.ListN.{length, drop, get_or, set, drop_of_length-le}
 use lib.Seq.{take-suc-set, drop-set-lt, append_snoc, drop-cons}
-use Rattle.surface_rules.specs.Buffers.{laid}
+use borrow.Rule.Slice.PartMut.{put_mid}
+use Rattle.surface_rules.specs.Buffers.{laid, over}
 use Rattle.surface_rules.proofs.Laws.Laid.{laid_none, laid_length, laid_then}
 
 pub laid_cons : (at x : ℕ) (front whole : List ℕ) → at < length whole → laid at (x ∷ front) whole ≡ laid (at + 1) front (set whole at x)
@@ -15,13 +16,6 @@ unfolding laid
 laid_cons at x front whole h =
     let e : at + suc (length front) ≡ at + 1 + length front = omega arith in
     rw (e, drop-set-lt (at + 1 + length front) whole at x (omega arith), add-one at, take-suc-set whole at x h, append_snoc)
-
--- a copy: what is left of the source, laid over the present buffer, gives the whole
-pub copy_more : (src : List ℕ) (i : ℕ) (text whole : List ℕ) → i < length src → i < length text → whole ≡ laid i (drop i src) text → whole ≡ laid (i + 1) (drop (i + 1) src) (set text i (get_or src i 0))
-copy_more src i text whole h l q = q ∙ rw (drop-cons src i 0, add-one i) (rw (← add-one i) (laid_cons i (get_or src i 0) (drop (i + 1) src) text l))
-
-pub copy_end : (src : List ℕ) (i : ℕ) (text whole : List ℕ) → length src ≤ i → whole ≡ laid i (drop i src) text → text ≡ whole
-copy_end src i text whole h q = sym (q ∙ rw (drop_of_length-le src h) (laid_none i text))
 
 -- two writings, the second right after the first, are one
 pub lay_two : (at k : ℕ) (a b text middle after : List ℕ) → at + length a ≤ length text → k ≡ at + length a → middle ≡ laid at a text → after ≡ laid k b middle → after ≡ laid at (a ++ b) text
@@ -43,3 +37,8 @@ bytes_begin src at text = rw add-zero
 
 pub bytes_end : (src : List ℕ) (at i : ℕ) (text whole : List ℕ) → length src ≤ i → whole ≡ laid (at + i) (drop i src) text → text ≡ whole
 bytes_end src at i text whole h q = sym (q ∙ rw (drop_of_length-le src h) (laid_none (at + i) text))
+
+-- a copy into the start of a buffer that is as long as what is copied
+pub copied : (k : ℕ) (buffer src part : List ℕ) → k ≡ length src → part ≡ src → put_mid 0 k buffer part ≡ over src buffer
+unfolding over
+copied k buffer src part many same = rw (same, many) refl

@@ -1,6 +1,5 @@
 -- `key_at`: what is left of the key, read at the present place, is the whole key read at the first.
 use mathlib.Core.Path.{refl}
-use Prim.Native.Nat.{◌-◌}
 use native.Mathlib.Nat.{add-zero}
 use borrow.Author.Rules.{rules}
 use Rattle.text_digits.proofs.Laws.Keys.{key_over, key_past, key_end, key_bad, key_more}
@@ -13,7 +12,7 @@ pub returns-then-text-key-2 : goal.returns-then-text-key-2
 returns-then-text-key-2 c = search (key_past, rules)
 
 pub loop-k-init : goal.loop-k-init
-loop-k-init c = (search rules, search rules, rw add-zero refl)
+loop-k-init c = (search rules, rw add-zero refl)
 
 pub returns-then-text-at : goal.returns-then-text-at
 returns-then-text-at c = search key_bad

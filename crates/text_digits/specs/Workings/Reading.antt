@@ -1,10 +1,6 @@
 -- Reading at the front of some bytes, and when it reads exactly what a way of writing writes.
-use Rattle.std.specs.Prelude.{◌≡◌, cond, ◌&&◌, List, [], ◌∷◌, ◌++◌, ℕ, zero, suc, ◌+◌, ◌-◌, ◌*◌, ◌≤◌, ltb, leb, eqb, drop}
+use Rattle.std.specs.Prelude.{◌≡◌, cond, ◌&&◌, List, [], ◌∷◌, ◌++◌, ℕ, zero, suc, ◌+◌, ◌-◌, ◌*◌, ◌≤◌, ltb, leb, eqb, drop, Option, Some, None}
 use Rattle.text_digits.specs.Numeral.{size}
-use Rattle.text_digits.specs.declared.Number.{Number}
-use Rattle.text_digits.specs.declared.Number.TheVariants.{Is, Wrong}
-use Rattle.text_digits.specs.declared.Place.{Place}
-use Rattle.text_digits.specs.declared.Place.TheVariants.{Past, Not}
 
 -- a value and the bytes after it, or nothing
 pub data Read (A : Type 0) : Type 0 where
@@ -50,10 +46,10 @@ until e limit v k (x ∷ bytes) =
 unfoldable pub read_decimal : ℕ → ℕ → List ℕ → Read ℕ
 read_decimal e limit bytes = until e limit 0 0 bytes
 
--- what an answer says of the text
-abbrev pub seen : List ℕ → Number → Read ℕ
-seen text (Is v next) = got v (drop next text)
-seen text Wrong = wrong
+-- what an answer, a number and the place after it, says of the text
+abbrev pub seen : List ℕ → Option (ℕ × ℕ) → Read ℕ
+seen text (Some (v, next)) = got v (drop next text)
+seen text None = wrong
 
 -- the bytes of key
 unfoldable pub read_key : List ℕ → List ℕ → Read Unit
@@ -61,11 +57,12 @@ read_key [] bytes = got tt bytes
 read_key (k ∷ key) [] = wrong
 read_key (k ∷ key) (x ∷ bytes) = cond (eqb x k) (read_key key bytes) wrong
 
-abbrev pub met : List ℕ → Place → Read Unit
-met text (Past next) = got tt (drop next text)
-met text Not = wrong
+-- what the place after a key says of the text
+abbrev pub met : List ℕ → Option ℕ → Read Unit
+met text (Some next) = got tt (drop next text)
+met text None = wrong
 
 -- the place after a number that was read is at most n
-abbrev pub UpTo : ℕ → Number → Type 0
-UpTo n (Is v next) = next ≤ n
-UpTo n Wrong = Unit {0}
+abbrev pub UpTo : ℕ → Option (ℕ × ℕ) → Type 0
+UpTo n (Some (v, next)) = next ≤ n
+UpTo n None = Unit {0}

@@ -9,17 +9,13 @@ use lib.ListN.{length, get_or, set, length-set}
 use lib.Seq.{get_or-set_same, get_or-set_other}
 use Rattle.surface_rules.specs.Buffers.{laid}
 use Rattle.surface_rules.proofs.Laws.Tests.{eq_or_not}
-use Rattle.surface_rules.proofs.Laws.Laid.{laid_none, laid_length}
+use Rattle.surface_rules.proofs.Laws.Laid.{laid_none}
 use Rattle.text_digits.specs.Numeral.{byte_of, places, hex}
 use Rattle.text_digits.proofs.Laws.Digit.{byte_small}
 use Rattle.text_digits.proofs.Laws.Exactly.{length_places}
 use Rattle.text_digits.proofs.Laws.Lay.{laid_cons, lay_two, lay_byte}
-use Rattle.text_figures.specs.Workings.Tables.{pair_of, Spelled, four}
+use Rattle.text_figures.specs.Workings.Tables.{pair_of, Spelled}
 use Rattle.text_figures.proofs.Laws.Parts.{part_div, part_mod}
-
--- nothing is spelt yet
-pub spell_none : (pairs : List ℕ) → length pairs ≡ 256 → Spelled 0 pairs
-spell_none pairs e = record { long = e; pair = λ b h. absurd (omega (arith, h)) }
 
 pub spell_more : (n m v : ℕ) (pairs : List ℕ) → n < 256 → m ≡ n + 1 → v ≡ pair_of n → Spelled n pairs → Spelled m (set pairs n v)
 spell_more n m v pairs h e z s = record { long = length-set pairs n v ∙ s.long; pair = λ b l. go b l (eq_or_not b n) }
@@ -92,9 +88,6 @@ hex_is w =
     let c : w % 65536 % 256 ≡ w % 256 = part_mod 256 w 256 (omega arith) (omega arith) in
     first w ∙ rw (second (w % 16777216), a, m, third (w % 65536), b, c, fourth (w % 256))
 
-pub spell_end : (n m : ℕ) (pairs : List ℕ) → n ≡ m → Spelled n pairs → Spelled m pairs
-spell_end n m pairs e s = rw e at s
-
 -- the digits of a byte by a table
 abbrev pub pair_at : List ℕ → ℕ → List ℕ
 pair_at pairs b = get_or pairs b 0 % 256 ∷ get_or pairs b 0 / 256 ∷ []
@@ -134,6 +127,3 @@ module _ {pairs : List ℕ} (spelled : Spelled 256 pairs) (at w e : ℕ) (text :
 
   pub lay_word : set four (at + 8) e ≡ laid at (hex w ++ (e ∷ [])) text
   lay_word = lay_byte at (at + 8) e (hex w) text four (omega (arith, length_places 16 8 w)) (omega (arith, length_places 16 8 w)) laid_all
-
-  pub word_length : length (set four (at + 8) e) ≡ length text
-  word_length = length-set four (at + 8) e ∙ ap length laid_all ∙ laid_length at text (hex w) (omega (arith, length_places 16 8 w))

@@ -1,20 +1,17 @@
 -- `put_bytes`: what is left of the bytes, laid over the present text, gives the whole.
 use lib.ListN.{length-set}
 use mathlib.Core.Path.{refl}
-use Prim.Native.Nat.{◌-◌}
-use borrow.Author.Rules.{rules}
 use native.Mathlib.Omega.{arith}
 use Rattle.text_digits.proofs.Laws.Lay.{bytes_begin, bytes_more, bytes_end}
 use Rattle.text_figures.proofs.put_bytes.Goals as goal
 
 pub loop-i-init : goal.loop-i-init
-loop-i-init c = (search rules, refl, bytes_begin _ _ _)
+loop-i-init c = (refl, bytes_begin _ _ _)
 
 pub loop-i-preserved : goal.loop-i-preserved
 loop-i-preserved c = (
-  search rules,
-  rw length-set c.loop-i.invariant.1,
-  bytes_more _ _ _ _ _ c.loop-i-test.true (omega (arith, c.requires, c.loop-i.invariant.1)) c.loop-i.invariant.2,
+  rw length-set c.loop-i.invariant.0,
+  bytes_more _ _ _ _ _ c.loop-i-test.true (omega (arith, c.requires, c.loop-i.invariant.0)) c.loop-i.invariant.1,
 )
 
 pub returns : goal.returns

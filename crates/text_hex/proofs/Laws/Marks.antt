@@ -166,11 +166,6 @@ module _ (text : List ℕ) (at e p q : ℕ) (room : at + 9 ≤ length text) (fir
           far : suc (at + 8) ≡ at + 9
           far = omega arith
 
-pub mark_end : (d : ℕ) (values : List ℕ) → d ≤ 16 → 16 ≤ d → Marked d values → Marked 16 values
-mark_end d values h l m =
-    let e : d ≡ 16 = omega arith in
-    rw e at m
-
 -- how much a byte weighs at most
 pub record Weighed (values : List ℕ) (x : ℕ) : Type 0 where
   pub byte : x < 256

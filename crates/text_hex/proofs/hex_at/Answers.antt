@@ -3,9 +3,6 @@ use borrow.Author.Rules.{rules}
 use Rattle.text_hex.proofs.Laws.Marks.{hex_high, hex_low, hex_unended, hex_done}
 use Rattle.text_hex.proofs.hex_at.Goals as goal
 
-pub half_at-low-requires : goal.half_at-low-requires
-half_at-low-requires c = search (rules, c.requires)
-
 pub returns-then-high-ge65536 : goal.returns-then-high-ge65536
 returns-then-high-ge65536 c = search (hex_high, c.requires, c.half_at-high, c.half_at-low)
 

@@ -25,19 +25,12 @@ use Rattle.text_line.specs.Workings.Means.{Counted, needed}
 abbrev pub Flag : ℕ → ℕ → ℕ → Type 0
 Flag t c a = ((t ≤ c) × (a ≡ 1)) ⊎ ((c < t) × (a ≡ 0))
 
-flag_most : {t c a : ℕ} → Flag t c a → a ≤ 1
-flag_most (inl w) = omega (arith, w.1)
-flag_most (inr w) = omega (arith, w.1)
-
 -- for each power of ten
 pub record Flags (c a b d e : ℕ) : Type 0 where
   pub tens : Flag 10 c a
   pub hundreds : Flag 100 c b
   pub thousands : Flag 1000 c d
   pub last : Flag 10000 c e
-
-pub flags_most : {c a b d e : ℕ} → Flags c a b d e → (a ≤ 1) × (b ≤ 1) × (d ≤ 1) × (e ≤ 1)
-flags_most f = (flag_most f.tens, flag_most f.hundreds, flag_most f.thousands, flag_most f.last)
 
 pub flags_size : {c a b d e : ℕ} → c < 100000 → Flags c a b d e → 1 + a + b + d + e ≡ size c
 flags_size {c} {a} {b} {d} {e} h flags = go flags.tens flags.hundreds flags.thousands flags.last
@@ -65,9 +58,6 @@ pub record Summed (corners : List ℕ) (i sum : ℕ) : Type 0 where
   pub within : i ≤ length corners
   pub small : sum ≤ 5 * i
   pub rest : sum + length (digits_of (drop i corners)) ≡ length (digits_of corners)
-
-pub sum_begins : (corners : List ℕ) → Summed corners 0 0
-sum_begins corners = record { within = omega arith; small = omega arith; rest = omega arith }
 
 module _ {corners : List ℕ} {i sum : ℕ} (s : Summed corners i sum) where
   pub sum_more : {r : ℕ} → i < length corners → r ≡ size (get_or corners i 0) → r ≤ 5 → Summed corners (i + 1) (sum + r)

@@ -1,7 +1,7 @@
 -- `corner_size` adds one for each power of ten that the corner has reached.
 use mathlib.Core.Logic.{inl, inr}
 use native.Mathlib.Omega.{arith}
-use Rattle.text_line.proofs.Laws.Sizes.{Flags, flags_most, flags_size}
+use Rattle.text_line.proofs.Laws.Sizes.{Flags, flags_size}
 use Rattle.text_line.proofs.corner_size.Goals as goal
 use Rattle.text_line.proofs.corner_size.Goals.{then-c-ge10, else-c-ge10, then-c-ge100, else-c-ge100, then-c-ge1000, else-c-ge1000, then-c-ge10000, else-c-ge10000}
 

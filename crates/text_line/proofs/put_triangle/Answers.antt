@@ -1,6 +1,6 @@
 -- `put_triangle` lays two bytes and three corners, each behind the last.
 use native.Mathlib.Omega.{arith}
-use Rattle.text_line.proofs.Laws.Rows.{RowRoom, row_room, triangle_laid}
+use Rattle.text_line.proofs.Laws.Rows.{row_room, triangle_laid}
 use Rattle.text_line.proofs.put_triangle.Goals as goal
 
 pub bounds-buffer-at : goal.bounds-buffer-at

@@ -11,9 +11,8 @@ use Rattle.base_limits.specs.Limits as limits
 use Rattle.surface_rules.specs.Threes.{flat}
 use Rattle.text_rules.specs.Fault.{Fault}
 use Rattle.text_rules.specs.Workings.Scanning.{Scanned}
-use Rattle.text_rules.specs.declared.Scan.{Scan}
-use Rattle.text_rules.specs.declared.Scan.TheVariants.{Whole, Wrong}
-use Rattle.text_rules.proofs.Laws.Scanning.{wrong_parsed, kept}
+use Rattle.std.specs.Prelude.{Ok, Err}
+use Rattle.text_rules.proofs.Laws.Scanning.{Scan, wrong_parsed, kept}
 use Rattle.text_rules.proofs.Laws.Taking.{fault_near}
 use Rattle.text_sheet.specs.Sheet.{points, triangles, sheet, sheet_of}
 use Rattle.text_sheet.specs.Workings.Heads.{HeadAt}
@@ -24,7 +23,7 @@ use Rattle.text_sheet.proofs.Laws.Texts.{text_parse, fault_is}
 use Rattle.text_read.specs.Workings.Taking.{TakesWhole}
 
 module _ (text : List ℕ) (at : ℕ) (s : Scan) (a b words corners : List ℕ) (h : Scanned flat flat (parse (drop at text)) s a b words corners) where
-  module _ {l : ℕ} (e : s ≡ Wrong l) where
+  module _ {l : ℕ} (e : s ≡ Err l) where
     fault_there : Fault below (drop at text) l
     fault_there = fault_is (wrong_parsed flat flat (parse (drop at text)) s l a b words corners h e)
 
@@ -35,10 +34,10 @@ module _ (text : List ℕ) (at : ℕ) (s : Scan) (a b words corners : List ℕ) 
     wrong_taken : {pitch : ℕ} → HeadAt text pitch at → at ≡ 0 → Fault sheet text l
     wrong_taken d z = fault_alone d z fault_there
 
-    later_taken : {pitch : ℕ} → HeadAt text pitch at → (at ≡ 0 → ⊥) → Fault sheet text (l + 1)
-    later_taken d z = rw add-one (fault_under d z fault_there)
+    later_taken : {pitch : ℕ} → HeadAt text pitch at → (pitch ≡ 1 → ⊥) → Fault sheet text (l + 1)
+    later_taken d o = rw add-one (fault_under d (λ z. o (head_nothing d z)) fault_there)
 
-  whole_taken : {pitch n t : ℕ} → HeadAt text pitch at → s ≡ Whole n t → TakesWhole text pitch n t a b words corners
+  whole_taken : {pitch n t : ℕ} → HeadAt text pitch at → s ≡ Ok (n, t) → TakesWhole text pitch n t a b words corners
   whole_taken {pitch} {n} {t} d e =
       let k = kept flat flat parse (drop at text) s n t a b words corners h e in
       record {
@@ -51,16 +50,13 @@ module _ (text : List ℕ) (at : ℕ) (s : Scan) (a b words corners : List ℕ) 
         corners_laid = k.second_over;
       }
 
--- where the head takes nothing, what is taken in is the whole text, at pitch 1
-module _ (text : List ℕ) {pitch at : ℕ} (s : Scan) (a b words corners : List ℕ) (h : Scanned flat flat (parse text) s a b words corners) (d : HeadAt text pitch at) (z : at ≡ 0) where
-  bare : HeadAt text pitch 0
-  bare = subst (HeadAt text pitch) z d
+-- where there is no head, what is taken in is the whole text, at pitch 1
+module _ (text : List ℕ) (s : Scan) (a b words corners : List ℕ) (h : Scanned flat flat (parse text) s a b words corners) (d : HeadAt text 1 0) where
+  pub wrong_bare : {l : ℕ} → s ≡ Err l → Fault sheet text l
+  wrong_bare e = wrong_taken text 0 s a b words corners h e d refl
 
-  pub wrong_bare : {l : ℕ} → s ≡ Wrong l → Fault sheet text l
-  wrong_bare e = wrong_taken text 0 s a b words corners h e bare refl
-
-  pub whole_bare : {n t : ℕ} → s ≡ Whole n t → TakesWhole text 1 n t a b words corners
-  whole_bare {n} {t} e = subst (λ (p : ℕ). TakesWhole text p n t a b words corners) (head_nothing d z) (whole_taken text 0 s a b words corners h bare e)
+  pub whole_bare : {n t : ℕ} → s ≡ Ok (n, t) → TakesWhole text 1 n t a b words corners
+  whole_bare e = whole_taken text 0 s a b words corners h d e
 
 -- the bytes from a place on, as a part of the text
 part_is : (text : List ℕ) (at : ℕ) → take (length text - at) (drop at text) ≡ drop at text
@@ -70,13 +66,13 @@ module _ (text : List ℕ) (at : ℕ) (s : Scan) (a b words corners : List ℕ) 
   here : Scanned flat flat (parse (drop at text)) s a b words corners
   here = subst (λ (l : List ℕ). Scanned flat flat (parse l) s a b words corners) (part_is text at) h
 
-  pub few_below : {l : ℕ} → s ≡ Wrong l → l ≤ limits.points + limits.triangles + 3
+  pub few_below : {l : ℕ} → s ≡ Err l → l ≤ limits.points + limits.triangles + 3
   few_below e = line_few text at s a b words corners here e
 
-  pub later_below : {l : ℕ} {pitch : ℕ} → s ≡ Wrong l → HeadAt text pitch at → (at ≡ 0 → ⊥) → Fault sheet text (l + 1)
+  pub later_below : {l : ℕ} {pitch : ℕ} → s ≡ Err l → HeadAt text pitch at → (pitch ≡ 1 → ⊥) → Fault sheet text (l + 1)
   later_below e = later_taken text at s a b words corners here e
 
-  pub whole_below : {pitch n t : ℕ} → HeadAt text pitch at → s ≡ Whole n t → TakesWhole text pitch n t a b words corners
+  pub whole_below : {pitch n t : ℕ} → HeadAt text pitch at → s ≡ Ok (n, t) → TakesWhole text pitch n t a b words corners
   whole_below = whole_taken text at s a b words corners here
 
 -- room for a text is room for what stands below its head

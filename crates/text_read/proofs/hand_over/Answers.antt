@@ -1,22 +1,48 @@
 -- `hand_over` refuses a short buffer, then a corner that names no point, and writes only after both.
+use mathlib.Core.Path.{sym}
+use Rattle.std.proofs.lemmas.Result.{err_from_is_err_and}
+use lib.Seq.{length-take-le}
+use Prim.Native.Nat.{◌≤◌}
+use lib.ListN.{length}
+use Rattle.text_digits.proofs.Laws.Lay.{copied}
 use Rattle.text_sheet.proofs.Laws.Rooms.{two_fit}
 use Rattle.text_read.proofs.Laws.Deliver.{short_handed, unnamed_handed, all_handed}
 use Rattle.text_read.proofs.hand_over.Goals as goal
+use Rattle.text_read.proofs.hand_over.Goals.{In_ok-check_buffers}
 
-pub returns-then-refuses : goal.returns-then-refuses
-returns-then-refuses c = search short_handed
+-- there is room for both
+fit : (c : In_ok-check_buffers) → (length c.args.ws.now ≤ length c.args.words.now) × (length c.args.cs.now ≤ length c.args.corners.now)
+fit c = two_fit c.in_ok-check_buffers.ensures
 
-pub returns-in-At : goal.returns-in-At
-returns-in-At c = search (unnamed_handed, c.check_buffers-short, c.refuses, c.if-refuses, c.requires, c.first_unnamed, c.refused-in-At)
+pub returns-in_err-check_buffers : goal.returns-in_err-check_buffers
+returns-in_err-check_buffers c =
+    let s = c.args in
+    let p = err_from_is_err_and c.from_residual.result c.from_residual.ensures.1 in
+    rw (p.1, p.2) (short_handed s.pitch s.ws.now s.cs.now s.words.now s.corners.now c.in_err-check_buffers.ensures)
 
-pub copy_words-requires : goal.copy_words-requires
-copy_words-requires c = (two_fit c.check_buffers-short.ensures c.refuses.ensures c.if-refuses.false).0
+pub returns-in-Some : goal.returns-in-Some
+returns-in-Some c = let s = c.args in unnamed_handed s.pitch s.ws.now s.cs.now s.words.now s.corners.now c.in_ok-check_buffers.ensures s.points c.requires.0 c.first_unnamed.ensures c.in-Some.is
 
-pub copy_corners-requires : goal.copy_corners-requires
-copy_corners-requires c = (two_fit c.check_buffers-short.ensures c.refuses.ensures c.if-refuses.false).1
+pub slice_bounds-copy_from_slice-end : goal.slice_bounds-copy_from_slice-end
+slice_bounds-copy_from_slice-end c = (fit (goal.at.slice_bounds-copy_from_slice-end c).In_ok-check_buffers).0
+
+pub slice_bounds-copy_from_slice-end-2 : goal.slice_bounds-copy_from_slice-end-2
+slice_bounds-copy_from_slice-end-2 c = sym (length-take-le _ _ (fit (goal.at.slice_bounds-copy_from_slice-end-2 c).In_ok-check_buffers).0)
+
+pub copy_from_slice-requires : goal.copy_from_slice-requires
+copy_from_slice-requires c = length-take-le _ _ (fit (goal.at.copy_from_slice-requires c).In_ok-check_buffers).0
+
+pub slice_bounds-copy_from_slice-end-3 : goal.slice_bounds-copy_from_slice-end-3
+slice_bounds-copy_from_slice-end-3 c = (fit (goal.at.slice_bounds-copy_from_slice-end-3 c).In_ok-check_buffers).1
+
+pub slice_bounds-copy_from_slice-end-4 : goal.slice_bounds-copy_from_slice-end-4
+slice_bounds-copy_from_slice-end-4 c = sym (length-take-le _ _ (fit (goal.at.slice_bounds-copy_from_slice-end-4 c).In_ok-check_buffers).1)
+
+pub copy_from_slice-requires-2 : goal.copy_from_slice-requires-2
+copy_from_slice-requires-2 c = length-take-le _ _ (fit (goal.at.copy_from_slice-requires-2 c).In_ok-check_buffers).1
 
 pub returns : goal.returns
 returns c =
     let s = c.args in
-    all_handed s.pitch s.ws.now s.cs.now s.words.now s.corners.now c.check_buffers-short.ensures c.refuses.ensures c.if-refuses.false
-    s.points c.requires.0 c.first_unnamed.ensures c.in_default.is c.copy_words.ensures c.copy_corners.ensures
+    all_handed s.pitch s.ws.now s.cs.now s.words.now s.corners.now c.in_ok-check_buffers.ensures
+    s.points c.requires.0 c.first_unnamed.ensures c.in_default.is (search copied) (search copied)

@@ -1,11 +1,10 @@
 -- What taking in a whole sheet text gives.
-use Rattle.std.specs.Prelude.{◌≡◌, List, ℕ, length}
+use Rattle.std.specs.Prelude.{◌≡◌, List, ℕ, length, Result, Ok, Err}
 use Rattle.surface_rules.specs.Buffers.{over}
 use Rattle.text_rules.specs.Text.{TextOf}
 use Rattle.text_rules.specs.Fault.{Fault}
 use Rattle.text_sheet.specs.Sheet.{Sheet, sheet, pitch_said, words_said, corners_said}
 use Rattle.text_read.specs.declared.Intake.{Intake}
-use Rattle.text_read.specs.declared.Intake.TheVariants.{Whole, Wrong}
 
 -- the sheet that the bytes say, by its pitch and its counts, with its words and corners over the starts of two buffers
 pub record TakesWhole (bytes : List ℕ) (pitch points triangles : ℕ) (words' corners' words corners : List ℕ) : Type 0 where
@@ -18,6 +17,6 @@ pub record TakesWhole (bytes : List ℕ) (pitch points triangles : ℕ) (words' 
   pub corners_laid : corners' ≡ over (corners_said said) corners
 
 -- or the line of their fault
-abbrev pub Takes : List ℕ → Intake → List ℕ → List ℕ → List ℕ → List ℕ → Type 0
-Takes bytes (Whole pitch points triangles) words' corners' words corners = TakesWhole bytes pitch points triangles words' corners' words corners
-Takes bytes (Wrong line) words' corners' words corners = Fault sheet bytes line
+abbrev pub Takes : List ℕ → Result Intake ℕ → List ℕ → List ℕ → List ℕ → List ℕ → Type 0
+Takes bytes (Ok s) words' corners' words corners = TakesWhole bytes s.pitch s.points s.triangles words' corners' words corners
+Takes bytes (Err line) words' corners' words corners = Fault sheet bytes line

@@ -1,13 +1,13 @@
 -- Handing a set over, case by case, and that this is what reading promises.
 use mathlib.Core.Path.{◌≡◌, sym, ap, ap₂, ◌∙◌}
-use mathlib.Core.Bool.{Bool, true, false}
 use mathlib.Core.List.{List, [], ◌∷◌}
 use Prim.Native.Nat.{ℕ, ◌+◌, ◌*◌, ◌≤◌}
 use native.Mathlib.Omega.{arith}
 use lib.ListN.{length, take}
-use Rattle.base_answers.specs.Numbers.{refusing}
-use Rattle.base_answers.specs.declared.Answer.{Answer}
-use Rattle.base_answers.specs.declared.Answer.TheVariants.{Done, Line}
+use Rattle.base_answers.specs.Answers.{Line}
+use Rattle.base_answers.specs.declared.Answer.TheVariants.{Done, Refused}
+use Rattle.base_answers.specs.declared.Refusal.{Refusal}
+use Rattle.base_answers.specs.declared.Refusal.TheVariants as refusal
 use Rattle.base_limits.specs.Limits as limits
 use Rattle.surface_rules.specs.Buffers.{over}
 use Rattle.surface_rules.specs.Refusals.{buffer_refusal}
@@ -16,32 +16,22 @@ use Rattle.surface_rules.proofs.Laws.Over.{start_of, front_in}
 use Rattle.surface_rules.proofs.Laws.Threes.{front_of, front_within}
 use Rattle.text_rules.specs.Workings.Parse.{Parsed, said, fault}
 use Rattle.text_rules.specs.Workings.Scanning.{Scanned}
-use Rattle.text_rules.specs.declared.Scan.{Scan}
-use Rattle.text_rules.specs.declared.Scan.TheVariants.{Whole, Wrong}
-use Rattle.text_rules.proofs.Laws.Scanning.{wrong_parsed, Kept, kept}
+use Rattle.std.specs.Prelude.{Ok, Err}
+use Rattle.text_rules.proofs.Laws.Scanning.{Scan, wrong_parsed, Kept, kept}
 use Rattle.text_sheet.specs.Workings.Parse.{Room}
 use Rattle.text_read_set.specs.Outcome.{SetOutcome, set_outcome, not_read, deliver, ReadsSet}
 use Rattle.text_read_set.specs.Workings.Scanning.{parse, numbers}
-use Rattle.text_read_set.specs.declared.ReadSet.{ReadSet}
 use Rattle.text_read_set.proofs.Laws.Texts.{parse_text, text_parse, fault_only, fault_line}
 
--- an answer that refuses
-abbrev pub Refused : ReadSet → Answer → Type 0
-Refused r a = (r.answer ≡ a) × (r.states ≡ 0) × (r.corners ≡ 0)
-
-not_read_lem : (r : ReadSet) (a : Answer) (states corners : List ℕ) → Refused r a → set_outcome r states corners ≡ not_read a states corners
-not_read_lem r a states corners h = rw (h.0, h.1, h.2)
-
--- `b` says whether a, the answer for the buffers, refuses
-module _ (ss cs states corners : List ℕ) {a : Answer} (e : a ≡ buffer_refusal (length states ∷ length corners ∷ []) (length ss ∷ length cs ∷ [])) {b : Bool} (is : b ≡ refusing a) where
-  pub short_handed : (r : ReadSet) → b ≡ true → Refused r a → set_outcome r states corners ≡ deliver ss cs states corners
+module _ (ss cs states corners : List ℕ) where
+  pub short_handed : {r : Refusal} → Refused r ≡ buffer_refusal (length states ∷ length corners ∷ []) (length ss ∷ length cs ∷ []) → set_outcome (Err r) states corners ≡ deliver ss cs states corners
   unfolding deliver
-  short_handed r h k = not_read_lem r a states corners k ∙ rw (← e, ← is, h)
+  short_handed e = rw (← e)
 
-  pub all_handed : {states' corners' : List ℕ} → b ≡ false → states' ≡ over ss states → corners' ≡ over cs corners
-      → set_outcome (record { answer = Done; states = length ss; corners = length cs }) states' corners' ≡ deliver ss cs states corners
+  pub all_handed : {states' corners' : List ℕ} → Done ≡ buffer_refusal (length states ∷ length corners ∷ []) (length ss ∷ length cs ∷ []) → states' ≡ over ss states → corners' ≡ over cs corners
+      → set_outcome (Ok (record { states = length ss; corners = length cs })) states' corners' ≡ deliver ss cs states corners
   unfolding deliver
-  all_handed h f g = rw (f, g, ← e, ← is, h)
+  all_handed e f g = rw (f, g) (rw (← e))
 
 -- what a reading of the text leaves
 unfoldable outcome_of : ℕ → List ℕ → List ℕ → Parsed ℕ Three → SetOutcome
@@ -63,21 +53,20 @@ unfolding Room
 scratch_room long = λ k a b. omega arith
 
 -- a text that has a fault
-module _ (text : List ℕ) (r : Scan) (l : ℕ) (a b ss cs : List ℕ) (h : Scanned numbers flat (parse text) r a b ss cs) (e : r ≡ Wrong l) where
+module _ (text : List ℕ) (r : Scan) (l : ℕ) (a b ss cs : List ℕ) (h : Scanned numbers flat (parse text) r a b ss cs) (e : r ≡ Err l) where
   faulty : parse text ≡ fault l
   faulty = wrong_parsed numbers flat (parse text) r l a b ss cs h e
 
   pub wrong_line_lem : l ≤ limits.states + limits.patches + 3
   wrong_line_lem = fault_line text l faulty
 
-  pub fault_promised : (before : ℕ) (states corners : List ℕ) (s : ReadSet) → Refused s (Line (before + l)) → ReadsSet text before states corners (set_outcome s states corners)
+  pub fault_promised : (before : ℕ) (states corners : List ℕ) → ReadsSet text before states corners (set_outcome (Err (refusal.Line (before + l))) states corners)
   unfolding outcome_of
-  fault_promised before states corners s k =
-      promised text before states corners (set_outcome s states corners)
-      (not_read_lem s (Line (before + l)) states corners k ∙ sym (ap (outcome_of before states corners) faulty))
+  fault_promised before states corners =
+      promised text before states corners (set_outcome (Err (refusal.Line (before + l))) states corners) (sym (ap (outcome_of before states corners) faulty))
 
 -- a text that was taken in
-pub taken : {text : List ℕ} {s : Scan} {n t : ℕ} {a b ss cs : List ℕ} → Scanned numbers flat (parse text) s a b ss cs → s ≡ Whole n t → Kept numbers flat parse text n t a b ss cs
+pub taken : {text : List ℕ} {s : Scan} {n t : ℕ} {a b ss cs : List ℕ} → Scanned numbers flat (parse text) s a b ss cs → s ≡ Ok (n, t) → Kept numbers flat parse text n t a b ss cs
 taken {text} {s} {n} {t} {a} {b} {ss} {cs} = kept numbers flat parse text s n t a b ss cs
 
 module _ {text : List ℕ} {n t : ℕ} {a b ss cs : List ℕ} (k : Kept numbers flat parse text n t a b ss cs) where

@@ -10,17 +10,13 @@ use lib.ListN.{length, take, drop, get_or, length-append, length-drop, take-appe
 use lib.Seq.{length-take-le, take_at, drop_at}
 use borrow.Author.Tests.{eqb-true, eqb-false}
 use Rattle.base_types.specs.Pitches.{is_pitch, Names}
+use Rattle.base_answers.specs.declared.Refusal.{Refusal}
 use Rattle.base_types.specs.declared.Pitch.{Pitch}
-use Rattle.base_types.specs.declared.Named.{Named}
-use Rattle.base_types.specs.declared.Named.TheVariants.{Nothing}
-use Rattle.base_types.specs.declared.Named.TheVariants as named
-use Rattle.base_types.proofs.Laws.Pitches.{pitch_is, not_pitch, named_none, named_is}
+use Rattle.std.specs.Prelude.{Result, Ok, Err, Some, None}
+use Rattle.std.specs.Result.{result_ok}
+use Rattle.base_types.proofs.Laws.Pitches.{pitch_is, not_pitch}
 use Rattle.surface_rules.specs.Threes.{Three}
-use Rattle.text_digits.specs.Workings.Reading.{Read, wrong, got, read_key, read_decimal, seen, met, UpTo}
-use Rattle.text_digits.specs.declared.Number.{Number}
-use Rattle.text_digits.specs.declared.Number.TheVariants.{Is, Wrong}
-use Rattle.text_digits.specs.declared.Place.{Place}
-use Rattle.text_digits.specs.declared.Place.TheVariants.{Past, Not}
+use Rattle.text_digits.specs.Workings.Reading.{Read, wrong, got, read_key, read_decimal}
 use Rattle.text_digits.proofs.Laws.Exactly.{wrong_not_got}
 use Rattle.text_rules.specs.Text.{TextOf, feed, count, Both, under}
 use Rattle.text_rules.specs.Fault.{Fault}
@@ -29,7 +25,7 @@ use Rattle.text_rules.proofs.Laws.Counts.{count_exact}
 use Rattle.text_rules.proofs.Laws.Headed.{text_below, fault_below, text_bare, fault_bare}
 use Rattle.text_sheet.specs.Sheet.{pitch=, head, sheet}
 use Rattle.text_sheet.specs.Workings.Heads.{HeadAt}
-use Rattle.text_sheet.proofs.Laws.Told.{number_is, number_not, number_by, count_not, count_is}
+use Rattle.text_sheet.proofs.Laws.Told.{count_not, count_is}
 use Rattle.text_sheet.proofs.Laws.Heads.{below, head_none, head_line, head_flat, head_long, line_is, line_long, line_read, heads_apart, bare_one}
 
 -- ---- finding it
@@ -85,28 +81,29 @@ module _ {bytes : List ℕ} where
         none = λ p. absurd (o p);
       }
 
--- so it is found by what is answered for its key and its number
-module _ (bytes : List ℕ) (p : Place) (h : met bytes p ≡ read_key pitch= bytes) where
-  pub head_keyless : p ≡ Not → HeadAt bytes 1 0
-  head_keyless e = head_unread (sym (count_not bytes pitch= 10 0 h e))
+-- so it is found by what is read of its key and its number
+module _ (bytes : List ℕ) where
+  pub head_keyless : wrong ≡ read_key pitch= bytes → HeadAt bytes 1 0
+  head_keyless h = head_unread (sym (count_not bytes pitch= 10 0 h))
 
-  module _ {i : ℕ} (e : p ≡ Past i) (r : Number) (d : seen bytes r ≡ read_decimal feed 10 (drop i bytes)) where
-    counted : seen bytes r ≡ read_count pitch= 10 bytes
-    counted = count_is bytes pitch= 10 0 h e d
+  module _ (i : ℕ) (h : got tt (drop i bytes) ≡ read_key pitch= bytes) where
+    pub head_numberless : wrong ≡ read_decimal feed 10 (drop i bytes) → HeadAt bytes 1 0
+    head_numberless d = head_unread (sym (count_is bytes pitch= 10 0 i h d))
 
-    pub head_numberless : r ≡ Wrong → HeadAt bytes 1 0
-    head_numberless f = head_unread (number_not bytes counted f)
+    module _ (n at : ℕ) (d : got n (drop at bytes) ≡ read_decimal feed 10 (drop i bytes)) where
+      counted : read_count pitch= 10 bytes ≡ got n (drop at bytes)
+      counted = sym (count_is bytes pitch= 10 0 i h d)
 
-    module _ {n at : ℕ} (f : r ≡ Is n at) where
-      pub head_one : n ≡ 1 → HeadAt bytes n 0
-      head_one o = subst (λ (k : ℕ). HeadAt bytes k 0) (sym o) (head_unnamed (number_is bytes counted f) (λ v. o))
+      pub head_one : n ≡ 1 → HeadAt bytes 1 0
+      head_one o = head_unnamed counted (λ v. o)
 
-      module _ {m : Named} (k : Names n m) where
-        pub head_pitchless : m ≡ Nothing → HeadAt bytes 1 0
-        head_pitchless z = head_unnamed (number_is bytes counted f) (λ v. absurd (not_pitch n v (named_none n k z)))
+      pub head_pitchless : (m : Result Pitch Refusal) → Names n m → result_ok m ≡ None → HeadAt bytes 1 0
+      head_pitchless (Ok q) k e = let z : ◌≡◌ {A = ℕ} 0 1 = cc in absurd (omega arith)
+      head_pitchless (Err r) k e = head_unnamed counted (λ v. absurd (not_pitch n v k.0))
 
-        pub head_pitched : UpTo (length bytes) r → {q : Pitch} → m ≡ named.Is q → (n ≡ 1 → ⊥) → HeadAt bytes n at
-        head_pitched u {q} z o = head_found (number_by u f) (number_is bytes counted f) (ap is_pitch (named_is n q k z) ∙ pitch_is q) o
+      pub head_pitched : (m : Result Pitch Refusal) → Names n m → at ≤ length bytes → {q : Pitch} → result_ok m ≡ Some q → (n ≡ 1 → ⊥) → HeadAt bytes n at × (n ≡ 1 → ⊥)
+      head_pitched (Ok p) k u e o = (head_found u counted (ap is_pitch k ∙ pitch_is p) o, o)
+      head_pitched (Err r) k u e o = let z : ◌≡◌ {A = ℕ} 0 1 = cc in absurd (omega arith)
 
 -- so every text has one
 pub head_of : (bytes : List ℕ) → (n : ℕ) × (at : ℕ) × HeadAt bytes n at

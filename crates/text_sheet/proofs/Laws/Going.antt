@@ -4,12 +4,12 @@ use mathlib.Core.List.{List, [], ◌∷◌}
 use Prim.Native.Nat.{ℕ, suc, ◌+◌, ◌-◌, ◌*◌, ◌<◌, ◌≤◌}
 use native.Mathlib.Omega.{arith}
 use native.Mathlib.Nat.{add_assoc, zero-add}
-use lib.ListN.{length, drop, get_or, set, length-set, length-drop}
+use lib.ListN.{length, drop, set, length-set, length-drop}
 use Rattle.surface_rules.specs.Buffers.{over, laid}
 use Rattle.surface_rules.specs.Threes.{Three, flat}
 use Rattle.surface_rules.proofs.Laws.Laid.{laid_none}
 use Rattle.text_digits.specs.Workings.Reading.{Read, wrong, got}
-use Rattle.text_digits.proofs.Laws.Lay.{laid_cons, copy_more}
+use Rattle.text_digits.proofs.Laws.Lay.{laid_cons}
 use Rattle.text_rules.specs.Workings.Parse.{Rows, stuck, all, more, rows, Outline, stops, leaves, outline, values}
 use Rattle.text_sheet.specs.Workings.Parse.{Room}
 
@@ -17,11 +17,6 @@ use Rattle.text_sheet.specs.Workings.Parse.{Room}
 pub over_laid : (front whole : List ℕ) → over front whole ≡ laid 0 front whole
 unfolding over laid
 over_laid front whole = rw (zero-add (length front))
-
--- one more element of a list is copied to a buffer's start
-pub copied_more : (src dst dst₀ : List ℕ) (i : ℕ) → i < length src → length src ≤ length dst₀ → (length dst ≡ length dst₀) × (over src dst₀ ≡ laid i (drop i src) dst)
-    → (length (set dst i (get_or src i 0)) ≡ length dst₀) × (over src dst₀ ≡ laid (i + 1) (drop (i + 1) src) (set dst i (get_or src i 0)))
-copied_more src dst dst₀ i h l g = (length-set dst i (get_or src i 0) ∙ g.0, copy_more src i dst (over src dst₀) h (omega arith) g.1)
 
 -- i lines more before an outline
 abbrev push : ℕ → Outline → Outline

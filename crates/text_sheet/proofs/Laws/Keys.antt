@@ -19,24 +19,24 @@ module _ (text : List ℕ) (at k l b : ℕ) (room : at + b ≤ length text) (bot
   more : at + 1 < length text
   more = omega (arith, leb-true 2 b both)
 
-  pub key_first_bad : (get_or text at 0 ≡ k → ⊥) → read_key (k ∷ l ∷ []) (drop at text) ≡ wrong
+  pub key_first_bad : (get_or text at 0 ≡ k → ⊥) → wrong ≡ read_key (k ∷ l ∷ []) (drop at text)
   unfolding read_key
-  key_first_bad d = rw (drop-cons text at 0 (omega (arith, more)), ne_eqb (get_or text at 0) k d)
+  key_first_bad d = sym (rw (drop-cons text at 0 (omega (arith, more)), ne_eqb (get_or text at 0) k d))
 
   module _ (e : get_or text at 0 ≡ k) where
     opened : read_key (k ∷ l ∷ []) (drop at text) ≡ read_key (l ∷ []) (drop (at + 1) text)
     unfolding read_key
     opened = rw (drop-cons text at 0 (omega (arith, more)), eq-eqb (get_or text at 0) k e, add-one at)
 
-    pub key_second_bad : (get_or text (at + 1) 0 ≡ l → ⊥) → read_key (k ∷ l ∷ []) (drop at text) ≡ wrong
+    pub key_second_bad : (get_or text (at + 1) 0 ≡ l → ⊥) → wrong ≡ read_key (k ∷ l ∷ []) (drop at text)
     unfolding read_key
-    key_second_bad d = opened ∙ rw (drop-cons text (at + 1) 0 more, ne_eqb (get_or text (at + 1) 0) l d)
+    key_second_bad d = sym (opened ∙ rw (drop-cons text (at + 1) 0 more, ne_eqb (get_or text (at + 1) 0) l d))
 
-    pub key_whole : get_or text (at + 1) 0 ≡ l → read_key (k ∷ l ∷ []) (drop at text) ≡ got tt (drop (at + 2) text)
+    pub key_whole : get_or text (at + 1) 0 ≡ l → got tt (drop (at + 2) text) ≡ read_key (k ∷ l ∷ []) (drop at text)
     unfolding read_key
     key_whole d =
         let e : suc (at + 1) ≡ at + 2 = omega arith in
-        opened ∙ rw (drop-cons text (at + 1) 0 more, eq-eqb (get_or text (at + 1) 0) l d) (ap (λ (n : ℕ). got tt (drop n text)) e)
+        sym (opened ∙ rw (drop-cons text (at + 1) 0 more, eq-eqb (get_or text (at + 1) 0) l d) (ap (λ (n : ℕ). got tt (drop n text)) e))
 
 pub point_short : (text : List ℕ) (at : ℕ) → length text < at + 29 → wrong ≡ read_point (drop at text)
 point_short text at h = sym (go (read_point (drop at text)) refl)

@@ -1,15 +1,12 @@
 -- How much room reading needs: scratch for no more than a text's limits allow and its bytes can fill, and buffers that are long enough.
-use mathlib.Core.Path.{◌≡◌, sym, ap, ◌∙◌}
-use mathlib.Core.Bool.{Bool, false}
+use mathlib.Core.Path.{◌≡◌, sym}
 use mathlib.Core.List.{[], ◌∷◌}
 use Prim.Native.Nat.{ℕ, ◌*◌, ◌≤◌}
 use native.Mathlib.Omega.{arith}
-use Rattle.base_answers.specs.Numbers.{refusing}
-use Rattle.base_answers.specs.declared.Answer.{Answer}
 use Rattle.base_answers.specs.declared.Answer.TheVariants.{Done}
 use Rattle.base_limits.specs.Limits as limits
 use Rattle.surface_rules.specs.Refusals.{buffer_refusal}
-use Rattle.surface_rules.proofs.Laws.Thens.{buffer_passing, done_of, buffers_long}
+use Rattle.surface_rules.proofs.Laws.Thens.{buffers_long}
 use Rattle.text_sheet.specs.Workings.Parse.{Room}
 
 pub room_less : (size most n long room : ℕ) → n ≤ most → Room size most long room → Room size n long room
@@ -36,7 +33,6 @@ module _ (long : ℕ) where
   long_corners = λ k a b. omega arith
 
 -- where a check of two buffers refuses nothing, both are long enough
-pub two_fit : {a : Answer} {x y n m : ℕ} {b : Bool} → a ≡ buffer_refusal (x ∷ y ∷ []) (n ∷ m ∷ []) → b ≡ refusing a → b ≡ false → (n ≤ x) × (m ≤ y)
-two_fit {x = x} {y = y} {n = n} {m = m} e i h =
-    let d : buffer_refusal (x ∷ y ∷ []) (n ∷ m ∷ []) ≡ Done = done_of _ (buffer_passing (x ∷ y ∷ []) (n ∷ m ∷ [])) (ap refusing (sym e) ∙ sym i ∙ h) in
-    (buffers_long (x ∷ y ∷ []) (n ∷ m ∷ []) d 0 (omega arith), buffers_long (x ∷ y ∷ []) (n ∷ m ∷ []) d 1 (omega arith))
+pub two_fit : {x y n m : ℕ} → Done ≡ buffer_refusal (x ∷ y ∷ []) (n ∷ m ∷ []) → (n ≤ x) × (m ≤ y)
+two_fit {x} {y} {n} {m} e =
+    (buffers_long (x ∷ y ∷ []) (n ∷ m ∷ []) (sym e) 0 (omega arith), buffers_long (x ∷ y ∷ []) (n ∷ m ∷ []) (sym e) 1 (omega arith))

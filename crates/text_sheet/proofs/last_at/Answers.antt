@@ -1,27 +1,25 @@
 -- `last_at` reads a line near the end of the text, number by number.
-use mathlib.Core.Path.{◌≡◌}
-use lib.ListN.{drop}
-use Rattle.text_digits.specs.Workings.Reading.{got, read_key}
-use Rattle.text_sheet.specs.Sheet.{t=}
-use Rattle.text_sheet.proofs.Laws.Told.{past_is, past_not, number_by, row_key, row_first, row_second, row_third, row_whole}
+use Rattle.text_sheet.proofs.Laws.Told.{row_key, row_first, row_second, row_third, row_whole}
 use Rattle.text_sheet.proofs.last_at.Goals as goal
-use Rattle.text_sheet.proofs.last_at.Goals.{In-Past}
 
--- the key was read
-key : (c : In-Past) → read_key t= (drop c.args.at c.args.text.now) ≡ got tt (drop c.in-Past.i c.args.text.now)
-key c = past_is _ (search) c.in-Past.is
+pub returns-in_err-i : goal.returns-in_err-i
+returns-in_err-i c = rw c.from_residual.ensures (row_key c.args.text.now _ _ _ c.args.at c.in_err-i.ensures, tt)
 
-pub returns-in_default : goal.returns-in_default
-returns-in_default c = search (row_key, past_not)
+pub returns-in_err-a : goal.returns-in_err-a
+returns-in_err-a c = rw c.from_residual-in_err-a.ensures (row_first c.args.text.now _ _ _ c.args.at _ c.in_ok-i.ensures c.in_err-a.ensures.0, tt)
 
-pub returns-in_default-decimal_at : goal.returns-in_default-decimal_at
-returns-in_default-decimal_at c = search (row_first, key (goal.at.returns-in_default-decimal_at c).In-Past, c.decimal_at)
+pub returns-in_err-b : goal.returns-in_err-b
+returns-in_err-b c =
+    rw c.from_residual-in_err-b.ensures
+    (row_second c.args.text.now _ _ _ c.args.at c.in_ok-i.i c.in_ok-i.ensures _ c.in_ok-a.j c.in_ok-a.ensures.0 c.in_err-b.ensures.0, tt)
 
-pub returns-in_default-decimal_at-2 : goal.returns-in_default-decimal_at-2
-returns-in_default-decimal_at-2 c = search (row_second, key (goal.at.returns-in_default-decimal_at-2 c).In-Past, c.decimal_at, c.in-Is, c.decimal_at-2)
-
-pub returns-in_default-decimal_at-3 : goal.returns-in_default-decimal_at-3
-returns-in_default-decimal_at-3 c = search (row_third, key (goal.at.returns-in_default-decimal_at-3 c).In-Past, c.decimal_at, c.in-Is, c.decimal_at-2, c.in-Is-decimal_at, c.decimal_at-3)
+pub returns-in_err-c : goal.returns-in_err-c
+returns-in_err-c c =
+    rw c.from_residual-in_err-c.ensures
+    (row_third c.args.text.now _ _ _ c.args.at c.in_ok-i.i c.in_ok-i.ensures _ c.in_ok-a.j c.in_ok-a.ensures.0 _ c.in_ok-b.k c.in_ok-b.ensures.0 c.in_err-c.ensures.0, tt)
 
 pub returns : goal.returns
-returns c = (search (row_whole, key (goal.at.returns c).In-Past, c.decimal_at, c.in-Is, c.decimal_at-2, c.in-Is-decimal_at, c.decimal_at-3), number_by c.decimal_at-3.ensures.1 c.in-Is-decimal_at-2.is)
+returns c = (
+  row_whole c.args.text.now _ _ _ c.args.at c.in_ok-i.i c.in_ok-i.ensures _ c.in_ok-a.j c.in_ok-a.ensures.0 _ c.in_ok-b.k c.in_ok-b.ensures.0 _ c.in_ok-c.next c.in_ok-c.ensures.0,
+  c.in_ok-c.ensures.1,
+)

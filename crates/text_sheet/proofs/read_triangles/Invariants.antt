@@ -1,5 +1,5 @@
 -- `read_triangles` lays the numbers of one line after the other.
-use Prim.Native.Nat.{◌-◌, ◌≤◌}
+use Prim.Native.Nat.{◌≤◌}
 use lib.ListN.{length, drop}
 use Rattle.text_sheet.specs.Workings.Parse.{read_triangle}
 use Rattle.text_sheet.proofs.Laws.Going.{Going, by_threes}
@@ -7,6 +7,3 @@ use Rattle.text_sheet.proofs.read_triangles.Given as goal
 
 abbrev pub invariant-loop-i : goal.invariant-loop-i
 invariant-loop-i l = Going by_threes read_triangle 8 l.n (drop l.at l.text) l.initial.corners l.i (drop l.place l.text) l.corners × (l.place ≤ length l.text)
-
-abbrev pub decreases-loop-i : goal.decreases-loop-i
-decreases-loop-i l = l.n - l.i

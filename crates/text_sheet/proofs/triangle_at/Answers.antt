@@ -1,43 +1,45 @@
 -- `triangle_at` reads a line for which there is room, number by number.
-use mathlib.Core.Path.{◌≡◌}
-use Prim.Native.Nat.{◌+◌, ◌≤◌}
+use mathlib.Core.Path.{◌≡◌, refl}
+use Prim.Native.Nat.{◌+◌}
 use native.Mathlib.Omega.{arith}
-use lib.ListN.{length, drop}
+use lib.ListN.{drop}
 use Rattle.text_digits.specs.Workings.Reading.{got, read_key}
 use Rattle.text_sheet.specs.Sheet.{t=}
-use Rattle.text_sheet.proofs.Laws.Told.{number_by, row_key, row_first, row_second, row_third, row_whole}
+use Rattle.text_sheet.proofs.Laws.Told.{row_key, row_first, row_second, row_third, row_whole}
 use Rattle.text_sheet.proofs.Laws.Keys.{key_first_bad, key_second_bad, key_whole}
 use Rattle.text_sheet.proofs.triangle_at.Goals as goal
-use Rattle.text_sheet.proofs.triangle_at.Goals.{Else-text-at-ne61, In-Is-number_at}
+use Rattle.text_sheet.proofs.triangle_at.Goals.{Else-text-at-ne61}
 
 -- the key was read
-key : (c : Else-text-at-ne61) → read_key t= (drop c.args.at c.args.text.now) ≡ got tt (drop (c.args.at + 2) c.args.text.now)
-key c = search key_whole
-
--- so many bytes are left after two numbers
-nearer : (c : In-Is-number_at) → c.in-Is-number_at.k + 5 ≤ length c.args.text.now
-nearer c = omega (arith, c.if-text-at, number_by c.number_at.ensures.1 c.in-Is.is, number_by c.number_at-2.ensures.1 c.in-Is-number_at.is)
+key : (c : Else-text-at-ne61) → got tt (drop (c.args.at + 2) c.args.text.now) ≡ read_key t= (drop c.args.at c.args.text.now)
+key c = key_whole c.args.text.now c.args.at 116 61 17 c.if-text-at.false refl c.if-text-at-ne116.false c.if-text-at-ne61.false
 
 pub returns-then-text-at-ne116 : goal.returns-then-text-at-ne116
-returns-then-text-at-ne116 c = search (row_key, key_first_bad)
+returns-then-text-at-ne116 c = (row_key c.args.text.now _ _ _ c.args.at (key_first_bad c.args.text.now c.args.at 116 61 17 c.if-text-at.false refl c.if-text-at-ne116.true), tt)
 
 pub returns-then-text-at-ne61 : goal.returns-then-text-at-ne61
-returns-then-text-at-ne61 c = search (row_key, key_second_bad)
+returns-then-text-at-ne61 c =
+    (row_key c.args.text.now _ _ _ c.args.at (key_second_bad c.args.text.now c.args.at 116 61 17 c.if-text-at.false refl c.if-text-at-ne116.false c.if-text-at-ne61.true), tt)
 
-pub returns-in_default : goal.returns-in_default
-returns-in_default c = search (row_first, key (goal.at.returns-in_default c).Else-text-at-ne61, c.number_at)
+pub returns-in_err-a : goal.returns-in_err-a
+returns-in_err-a c =
+    let k = key (goal.at.returns-in_err-a c).Else-text-at-ne61 in
+    rw c.from_residual.ensures (row_first c.args.text.now _ _ _ c.args.at (c.args.at + 2) k c.in_err-a.ensures.0, tt)
 
-pub number_at-requires-2 : goal.number_at-requires-2
-number_at-requires-2 c = omega (arith, c.if-text-at, number_by c.number_at.ensures.1 c.in-Is.is)
+pub returns-in_err-b : goal.returns-in_err-b
+returns-in_err-b c =
+    let k = key (goal.at.returns-in_err-b c).Else-text-at-ne61 in
+    rw c.from_residual-in_err-b.ensures (row_second c.args.text.now _ _ _ c.args.at (c.args.at + 2) k _ c.in_ok-a.j c.in_ok-a.ensures.0 c.in_err-b.ensures.0, tt)
 
-pub returns-in_default-number_at : goal.returns-in_default-number_at
-returns-in_default-number_at c = search (row_second, key (goal.at.returns-in_default-number_at c).Else-text-at-ne61, c.number_at, c.in-Is, c.number_at-2)
-
-pub number_at-requires-3 : goal.number_at-requires-3
-number_at-requires-3 c = omega (arith, nearer (goal.at.number_at-requires-3 c).In-Is-number_at)
-
-pub returns-in_default-number_at-2 : goal.returns-in_default-number_at-2
-returns-in_default-number_at-2 c = search (row_third, key (goal.at.returns-in_default-number_at-2 c).Else-text-at-ne61, c.number_at, c.in-Is, c.number_at-2, c.in-Is-number_at, c.number_at-3)
+pub returns-in_err-c : goal.returns-in_err-c
+returns-in_err-c c =
+    let k = key (goal.at.returns-in_err-c c).Else-text-at-ne61 in
+    rw c.from_residual-in_err-c.ensures
+    (row_third c.args.text.now _ _ _ c.args.at (c.args.at + 2) k _ c.in_ok-a.j c.in_ok-a.ensures.0 _ c.in_ok-b.k c.in_ok-b.ensures.0 c.in_err-c.ensures.0, tt)
 
 pub returns : goal.returns
-returns c = (search (row_whole, key (goal.at.returns c).Else-text-at-ne61, c.number_at, c.in-Is, c.number_at-2, c.in-Is-number_at, c.number_at-3), omega (arith, nearer (goal.at.returns c).In-Is-number_at, number_by c.number_at-3.ensures.1 c.in-Is-number_at-2.is))
+returns c =
+    let k = key (goal.at.returns c).Else-text-at-ne61 in (
+      row_whole c.args.text.now _ _ _ c.args.at (c.args.at + 2) k _ c.in_ok-a.j c.in_ok-a.ensures.0 _ c.in_ok-b.k c.in_ok-b.ensures.0 _ c.in_ok-c.next c.in_ok-c.ensures.0,
+      omega (arith, c.if-text-at.false, c.in_ok-a.ensures.1, c.in_ok-b.ensures.1, c.in_ok-c.ensures.1),
+    )

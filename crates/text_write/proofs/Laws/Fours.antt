@@ -1,4 +1,5 @@
 -- The table of digits: filled number by number, it serves every corner that names a point.
+use Rattle.std.specs.Prelude.{None}
 use mathlib.Core.Path.{◌≡◌, subst, ◌∙◌}
 use mathlib.Core.List.{List}
 use mathlib.Core.Logic.{◌⊎◌, inl, inr}
@@ -7,7 +8,6 @@ use native.Mathlib.Omega.{arith}
 use lib.ListN.{length, get_or, set, length-set}
 use lib.Seq.{get_or-set_same, get_or-set_other}
 use borrow.Author.Tests.{leb-false}
-use Rattle.surface_rules.specs.declared.Found.TheVariants.{Nothing}
 use Rattle.surface_rules.specs.Smallest.{least}
 use Rattle.surface_rules.specs.Refusals.{unnamed}
 use Rattle.surface_rules.proofs.Laws.Smallest.{least_never}
@@ -42,7 +42,7 @@ unfolding Numbered
 number_end n i fours h m = λ c b. m c (omega arith)
 
 -- every corner names a point, so the table of the points serves
-pub serves : (n : ℕ) (corners fours : List ℕ) → least (unnamed corners n) (length corners) ≡ Nothing → Numbered n fours → Serves corners fours
+pub serves : (n : ℕ) (corners fours : List ℕ) → least (unnamed corners n) (length corners) ≡ None → Numbered n fours → Serves corners fours
 unfolding Numbered Serves unnamed
 serves n corners fours e m = λ i h. m (get_or corners i 0) (leb-false n (get_or corners i 0) (least_never (unnamed corners n) (length corners) e i h))
 

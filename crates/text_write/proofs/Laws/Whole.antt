@@ -6,7 +6,8 @@ use Prim.Native.Nat.{ℕ, ◌+◌, ◌*◌, ◌/◌, ◌≤◌}
 use native.Mathlib.Omega.{arith}
 use lib.ListN.{length, length-append}
 use Rattle.base_answers.specs.Numbers.{refusing}
-use Rattle.base_answers.specs.declared.Answer.TheVariants.{Done, NoPitch}
+use Rattle.base_answers.specs.Answers.{NoPitch}
+use Rattle.base_answers.specs.declared.Answer.TheVariants.{Done}
 use Rattle.base_types.specs.Pitches.{is_pitch}
 use Rattle.base_limits.specs.Limits as limits
 use Rattle.surface_rules.specs.Buffers.{laid, over}

@@ -1,20 +1,12 @@
 -- `put_points`: after some turns what is left to write, laid over the present buffer, gives the whole.
-use Prim.Native.Nat.{ℕ, ◌-◌, ◌+◌, ◌*◌}
+use Prim.Native.Nat.{◌+◌, ◌*◌}
 use native.Mathlib.Omega.{arith}
-use lib.ListN.{get_or, length-replicate}
+use lib.ListN.{get_or}
 use Rattle.surface_rules.specs.Threes.{three}
-use Rattle.text_digits.proofs.Laws.Laying.{laying_begins}
-use Rattle.text_figures.proofs.Laws.Spelling.{spell_none}
 use Rattle.text_sheet.specs.Sheet.{points}
 use Rattle.text_sheet.proofs.Laws.Exactly.{point_length}
 use Rattle.text_sheet.proofs.Laws.Putting.{putting_room, putting_more, putting_ends}
 use Rattle.text_write.proofs.put_points.Goals as goal
-
-pub spell_bytes-requires : goal.spell_bytes-requires
-spell_bytes-requires c = spell_none _ (length-replicate {A = ℕ} 256 0)
-
-pub loop-k-init : goal.loop-k-init
-loop-k-init c = search laying_begins
 
 pub put_point-requires : goal.put_point-requires
 put_point-requires c = (
@@ -27,16 +19,6 @@ put_point-requires c = (
   ),
   c.spell_bytes.ensures,
 )
-
-pub overflow_add-place : goal.overflow_add-place
-overflow_add-place c =
-    omega (
-      arith,
-      putting_room points.show c.args.words.now c.loop-k.k c.loop-k.invariant (omega arith),
-      point_length
-          (three (get_or c.args.words.now (3 * c.loop-k.k) 0) (get_or c.args.words.now (3 * c.loop-k.k + 1) 0)
-          (get_or c.args.words.now (3 * c.loop-k.k + 2) 0)),
-    )
 
 pub loop-k-preserved : goal.loop-k-preserved
 loop-k-preserved c =

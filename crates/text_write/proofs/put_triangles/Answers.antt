@@ -1,14 +1,10 @@
 -- `put_triangles`: after some turns what is left to write, laid over the present buffer, gives the whole.
-use Prim.Native.Nat.{◌-◌, ◌+◌, ◌*◌}
+use Prim.Native.Nat.{◌+◌, ◌*◌}
 use native.Mathlib.Omega.{arith}
-use Rattle.text_digits.proofs.Laws.Laying.{laying_begins}
 use Rattle.text_sheet.specs.Sheet.{triangles}
 use Rattle.text_sheet.proofs.Laws.Putting.{putting_room, putting_more, putting_ends}
 use Rattle.text_write.proofs.Laws.Fours.{served}
 use Rattle.text_write.proofs.put_triangles.Goals as goal
-
-pub loop-k-init : goal.loop-k-init
-loop-k-init c = search laying_begins
 
 pub put_triangle-place-requires : goal.put_triangle-place-requires
 put_triangle-place-requires c =

@@ -1,8 +1,7 @@
 -- What the code that writes a text goes by: a table of digits, and what was checked before anything is written. No promise needs it.
-use Rattle.std.specs.Prelude.{◌≡◌, ℕ, ◌/◌, ◌<◌, ◌≤◌, length, get_or}
+use Rattle.std.specs.Prelude.{◌≡◌, ℕ, ◌/◌, ◌<◌, ◌≤◌, length, get_or, None}
 use mathlib.Core.List.{List, map, flatten}
 use Rattle.base_answers.specs.declared.Answer.TheVariants.{Done}
-use Rattle.surface_rules.specs.declared.Found.TheVariants.{Nothing}
 use Rattle.surface_rules.specs.Smallest.{least}
 use Rattle.surface_rules.specs.Refusals.{pitch_refusal, count_refusal, unnamed}
 use Rattle.surface_rules.specs.Threes.{threes}
@@ -29,4 +28,4 @@ pub record Ready (pitch : ℕ) (words corners buffer : List ℕ) : Type 0 where
   pub pitched : pitch_refusal pitch ≡ Done
   pub counts : count_refusal (length words) (length corners) ≡ Done
   pub room : length (text pitch words corners) ≤ length buffer
-  pub named : least (unnamed corners (length words / 3)) (length corners) ≡ Nothing
+  pub named : least (unnamed corners (length words / 3)) (length corners) ≡ None

@@ -3,4 +3,4 @@ use Rattle.wazelpunt.proofs.Printing.{told_print}
 use Rattle.wazelpunt.proofs.wazelpunt_list_text.Goals as goal
 
 pub returns : goal.returns
-returns c = search told_print
+returns c = told_print _ _ c.tell_bytes.ensures.told c.tell_bytes.ensures.counted c.print-listed.ensures

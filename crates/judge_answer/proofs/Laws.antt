@@ -1,2 +1,0 @@
--- The laws of what the checker leaves.
-pub mod Fronts
