@@ -82,7 +82,7 @@ pub fn chain(
 }
 
 // Chains all edges of the input.
-fn chain_input(
+pub fn chain_input(
     corners: &[u16],
     heads: &mut [u16; Surface::POINTS],
     links: &mut [u16],
@@ -104,7 +104,7 @@ fn chain_input(
 
 // Chains the first side of each laid triangle from p up to `end`, as edge e and on, and gives the number of edges then. The other
 // sides are first sides of triangles laid with it, or sides of the loop, which the input has.
-fn chain_laid(
+pub fn chain_laid(
     patches: &[u16],
     p: usize,
     end: usize,
@@ -126,7 +126,7 @@ fn chain_laid(
 
 // Bars the positions of the ring: a row for each, with a bit for each position that no diagonal may join it with. No stamp is
 // over the base before; afterwards the ring's are.
-fn bars_of(
+pub fn bars_of(
     ring: &[u16],
     heads: &[u16; Surface::POINTS],
     links: &[u16],

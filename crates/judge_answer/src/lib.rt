@@ -19,5 +19,8 @@ pub fn lay_front(from: &[u16], n: usize, buffer: &mut [u16])
     requires { (n ≤ length from.now) × (n ≤ length buffer.old) }
     ensures { buffer.new ≡ over (take n from.now) buffer.old }
 {
-    buffer[..n].copy_from_slice(&from[..n]);
+    // A loop, since whoever links the archive would have to bring `memmove` too for `copy_from_slice`, one name more from outside.
+    for i in 0..n {
+        buffer[i] = from[i];
+    }
 }

@@ -14,7 +14,8 @@ use loop_leaders::WALKED;
 use surface_twins::OPEN;
 
 // Lists all loops: their rings one after the other, their lengths, and the half-edge that each is listed from. The table of
-// turns is used up.
+// turns is used up. It is never inlined, so that its path is not on the stack of the checks.
+#[inline(never)]
 pub fn list_loops(
     corners: &[u16],
     turns: &mut [u16],

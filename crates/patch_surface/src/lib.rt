@@ -26,6 +26,7 @@ pub struct Patched {
 
 // Refusals 3 to 8 at that pitch, with a table of turns that is long enough. Where none is given, the table is filled and the grid is laid:
 // from then on nobody needs the words.
+#[inline(always)]
 pub fn check(
     sheet: Sheet,
     turns: &mut [u16],

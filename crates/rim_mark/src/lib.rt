@@ -111,7 +111,8 @@ pub fn mark_counted(
     count
 }
 
-// The same for loops of which there are no more than MOST.
+// The same for loops of which there are no more than MOST. It is never inlined, so that their runs are not on the stack of the checks.
+#[inline(never)]
 fn mark_within<const MOST: usize>(
     grid: &[i32],
     corners: &[u16],

@@ -1,9 +1,10 @@
 // Reading a file of facets into lent buffers.
 #![tactic(auto)]
 
-ghost use Rattle.std.specs.Prelude.{◌≡◌, ◌≤◌, replicate};
+ghost use Rattle.std.specs.Prelude.{◌≡◌, ◌≤◌, length, replicate};
 ghost use Rattle.base_answers.specs.Answers.{said};
 ghost use Rattle.base_limits.specs.Limits as limits;
+ghost use Rattle.surface_rules.specs.Buffers.{over};
 ghost use Rattle.text_read.specs.Outcome.{read_outcome};
 ghost use Rattle.stl_rules.specs.Reading.{size_refusal, reads_file};
 ghost use Rattle.stl_read.specs.Workings.{ReadRoom, handed};
@@ -47,6 +48,17 @@ pub fn sized(length: usize, count: u32) -> Result<(), Refusal>
     Err(Refusal::Misfit)
 }
 
+// A list is laid over a buffer's start. A loop, since whoever links the archive would have to bring `memmove` too for `copy_from_slice`, one
+// name more from outside.
+fn lay_over<T: Copy>(from: &[T], buffer: &mut [T])
+    requires { length from.now ≤ length buffer.old }
+    ensures { buffer.new ≡ over from.now buffer.old }
+{
+    for i in 0..from.len() {
+        buffer[i] = from[i];
+    }
+}
+
 // Hands words and corners over, where there is room. Every corner of a file names a point, so that is not asked. The corners go first: the
 // other way round the compiler keeps one place less in registers while points are gathered, an instruction more for each corner.
 fn hand_over(
@@ -58,8 +70,8 @@ fn hand_over(
     ensures { read_outcome result words.new corners.new ≡ handed ws.now cs.now words.old corners.old }
 {
     check_shape::check_buffers(&[words.len(), corners.len()], &[ws.len(), cs.len()])?;
-    corners[..cs.len()].copy_from_slice(cs);
-    words[..ws.len()].copy_from_slice(ws);
+    lay_over(cs, corners);
+    lay_over(ws, words);
     Ok(ReadSheet {
         pitch: 1,
         words: ws.len(),

@@ -9,7 +9,7 @@ use Rattle.surface_rules.proofs.Laws.Thens.{counts_fit}
 use Rattle.surface_rules.proofs.Laws.Lists.{as_long}
 use Rattle.survey_rules.proofs.Laws.Known.{still_long}
 use Rattle.chart_surface.specs.Outcome.{Buffers, buffers}
-use Rattle.chart_surface.proofs.Laws.Answering.{checked_refuse, checked_in, checked_room, points_here, loop_bench, chart_bench, checked_charts}
+use Rattle.chart_surface.proofs.Laws.Answering.{checked_refuse, checked_in, checked_room, checked_charts}
 use Rattle.chart.proofs.chart_fitting.Goals as goal
 
 pub check-requires : goal.check-requires
@@ -20,25 +20,19 @@ returns-in_err-check c =
     let p = err_from_is_err_and c.from_residual.result c.from_residual.ensures.1 in
     rw (p.1, p.2) (checked_refuse (pitch_of c.args.sheet.pitch) c.args.sheet.words.now c.args.sheet.corners.now (buffers c.args.grid.now c.args.rings.now c.args.records.now c.args.report.now) c.in_err-check.ensures)
 
-pub slice_bounds-chart_checked-end-9 : goal.slice_bounds-chart_checked-end-9
-slice_bounds-chart_checked-end-9 c = checked_in (pitch_of c.args.sheet.pitch) c.args.sheet.words.now c.args.sheet.corners.now (buffers c.args.grid.now c.args.rings.now c.args.records.now c.args.report.now) c.in_ok-check.ensures refl
+pub slice_bounds-chart_checked-end-2 : goal.slice_bounds-chart_checked-end-2
+slice_bounds-chart_checked-end-2 c = checked_in (pitch_of c.args.sheet.pitch) c.args.sheet.words.now c.args.sheet.corners.now (buffers c.args.grid.now c.args.rings.now c.args.records.now c.args.report.now) c.in_ok-check.ensures refl
 
-pub slice_bounds-chart_checked-end-10 : goal.slice_bounds-chart_checked-end-10
-slice_bounds-chart_checked-end-10 c =
+pub slice_bounds-chart_checked-end-3 : goal.slice_bounds-chart_checked-end-3
+slice_bounds-chart_checked-end-3 c =
     as_long _ _
     (checked_in (pitch_of c.args.sheet.pitch) c.args.sheet.words.now c.args.sheet.corners.now (buffers c.args.grid.now c.args.rings.now c.args.records.now c.args.report.now) c.in_ok-check.ensures refl)
 
 pub chart_checked-requires : goal.chart_checked-requires
-chart_checked-requires c =
-    let w = c.args.sheet.words.now in let n = c.args.sheet.corners.now in
-    let g = c.turns-2-1.given in
-    record {
-      loop_room = checked_room (pitch_of c.args.sheet.pitch) w n (buffers c.args.grid.now c.args.rings.now c.args.records.now c.args.report.now) c.in_ok-check.ensures refl;
-      loop_bench = (
-        loop_bench w c.requires (points_here (pitch_of c.args.sheet.pitch) w n (buffers c.args.grid.now c.args.rings.now c.args.records.now c.args.report.now) c.in_ok-check.ensures refl) (still_long (lit≤ tt) g) (lit≤ tt) (lit≤ tt) (lit≤ tt) (lit≤ tt) (lit≤ tt) (lit≤ tt),
-        chart_bench w c.requires (still_long (lit≤ tt) g) (lit≤ tt) (lit≤ tt),
-      );
-    }
+chart_checked-requires c = record {
+  room = checked_room (pitch_of c.args.sheet.pitch) c.args.sheet.words.now c.args.sheet.corners.now (buffers c.args.grid.now c.args.rings.now c.args.records.now c.args.report.now) c.in_ok-check.ensures refl;
+  turns_long = still_long (lit≤ tt) c.turns-2-1.given;
+}
 
 pub returns : goal.returns
 returns c = checked_charts (pitch_of c.args.sheet.pitch) c.args.sheet.words.now c.args.sheet.corners.now (buffers c.args.grid.now c.args.rings.now c.args.records.now c.args.report.now) c.in_ok-check.ensures refl c.chart_checked.ensures

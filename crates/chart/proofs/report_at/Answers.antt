@@ -13,7 +13,7 @@ use Rattle.surface_rules.proofs.Laws.Thens.{counts_fit}
 use Rattle.surface_rules.proofs.Laws.Deciding.{counts_pass}
 use Rattle.surface_rules.proofs.Laws.Lists.{as_long}
 use Rattle.survey_rules.proofs.Laws.Known.{still_long}
-use Rattle.chart_surface.proofs.Laws.Answering.{alone_counts, alone_checked, alone_in, alone_points, alone_room, alone_charted, loop_bench}
+use Rattle.chart_surface.proofs.Laws.Answering.{alone_counts, alone_checked, alone_in, alone_room, alone_charted}
 use Rattle.chart.proofs.report_at.Goals as goal
 
 pub returns-in_err-check_counts : goal.returns-in_err-check_counts
@@ -42,22 +42,21 @@ slice_bounds-grid-end c =
     let a = c.args in
     alone_in (pitch_of a.sheet.pitch) a.sheet.words.now a.sheet.corners.now a.report.now few c.in_ok-check_with.ensures refl
 
-pub slice_bounds-chart_loops-end-8 : goal.slice_bounds-chart_loops-end-8
-slice_bounds-chart_loops-end-8 c =
+pub slice_bounds-report_checked-end-2 : goal.slice_bounds-report_checked-end-2
+slice_bounds-report_checked-end-2 c =
     let e = sym c.in_ok-check_counts.ensures in
     let few : length c.args.sheet.words.now ≤ limits.words = (counts_fit (length c.args.sheet.words.now) (length c.args.sheet.corners.now) e).few_words in
     let a = c.args in
     as_long _ _ (alone_in (pitch_of a.sheet.pitch) a.sheet.words.now a.sheet.corners.now a.report.now few c.in_ok-check_with.ensures refl)
 
-pub chart_loops-requires : goal.chart_loops-requires
-chart_loops-requires c =
+pub report_checked-requires : goal.report_checked-requires
+report_checked-requires c =
     let e = sym c.in_ok-check_counts.ensures in
     let few : length c.args.sheet.words.now ≤ limits.words = (counts_fit (length c.args.sheet.words.now) (length c.args.sheet.corners.now) e).few_words in
     let a = c.args in
     record {
-      loop_room = alone_room (pitch_of a.sheet.pitch) a.sheet.words.now a.sheet.corners.now a.report.now few c.in_ok-check_with.ensures refl (lit≤ tt) c.requires;
-      loop_bench = loop_bench a.sheet.words.now e (alone_points (pitch_of a.sheet.pitch) a.sheet.words.now a.sheet.corners.now a.report.now few c.in_ok-check_with.ensures refl)
-          (still_long (lit≤ tt) c.turns-2-1.given) (lit≤ tt) (lit≤ tt) (lit≤ tt) (lit≤ tt) (lit≤ tt) (lit≤ tt);
+      room = λ rings h. alone_room (pitch_of a.sheet.pitch) a.sheet.words.now a.sheet.corners.now a.report.now few c.in_ok-check_with.ensures refl h c.requires;
+      turns_long = still_long (lit≤ tt) c.turns-2-1.given;
     }
 
 pub returns : goal.returns
@@ -65,4 +64,4 @@ returns c =
     let e = sym c.in_ok-check_counts.ensures in
     let few : length c.args.sheet.words.now ≤ limits.words = (counts_fit (length c.args.sheet.words.now) (length c.args.sheet.corners.now) e).few_words in
     let a = c.args in
-    alone_charted (pitch_of a.sheet.pitch) a.sheet.words.now a.sheet.corners.now a.report.now few c.in_ok-check_with.ensures refl c.chart_loops.ensures
+    alone_charted (pitch_of a.sheet.pitch) a.sheet.words.now a.sheet.corners.now a.report.now few c.in_ok-check_with.ensures refl c.report_checked.ensures.3

@@ -1,9 +1,12 @@
--- What is copied is the front, and it is as long as what it covers.
-use mathlib.Core.Path.{refl}
-use lib.Seq.{length-take-le}
-use Rattle.surface_rules.specs.Buffers.{over}
+-- `lay_front` lays number after number.
+use Rattle.judge_answer.proofs.Laws.Fronts.{laying_begins, laying_more, laying_ends}
 use Rattle.judge_answer.proofs.lay_front.Goals as goal
 
+pub loop-i-init : goal.loop-i-init
+loop-i-init c = laying_begins
+
+pub loop-i-preserved : goal.loop-i-preserved
+loop-i-preserved c = search laying_more
+
 pub returns : goal.returns
-unfolding over
-returns c = rw (c.copy_from_slice.ensures.after, length-take-le c.args.n c.args.from.now (c.requires.0)) refl
+returns c = search laying_ends

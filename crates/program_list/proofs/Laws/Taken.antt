@@ -59,6 +59,12 @@ module _ {text : List ℕ} {p n t : ℕ} {a b ws cs : List ℕ} (whole : TakesWh
   standing : {u : Taken} → ◌≡◌ {A = Result Taken Refusal} (Ok counts) (Ok u) → Standing whole.said u b
   standing {u} e = let q : counts ≡ u = cc in subst (λ (v : Taken). Standing whole.said v b) q (record { words_are = sym long ∙ ap length (deliver.words_are whole); corners_are = deliver.corners_are whole })
 
+  -- refused or not, the corners that the text says stand at the start of theirs
+  stand : take (length (corners_said whole.said)) b ≡ corners_said whole.said
+  stand =
+      let many : length (take (3 * t) b) ≡ 3 * t = length-take-le (3 * t) b (deliver.corners_inside whole) in
+      subst (λ (m : ℕ). take m b ≡ corners_said whole.said) (sym many ∙ ap length (deliver.corners_are whole)) (deliver.corners_are whole)
+
   module _ (bs : Buffers) {turns : List ℕ} {grid' : List ℤ} where
     checks_said : {ans : Answer} → Checks p (take (3 * n) a) (take (3 * t) b) bs ans turns grid'
         → Checks (pitch_said whole.said) (words_said whole.said) (corners_said whole.said) bs ans turns grid'
@@ -75,7 +81,7 @@ module _ {text : List ℕ} {p n t : ℕ} {a b ws cs : List ℕ} (whole : TakesWh
 
     pub refused_takes : {r : Refusal} → Checks p (take (3 * n) a) (take (3 * t) b) bs (Refused r) turns grid' → TakesUp text bs (Err r) b turns grid' × Took bs (Err r) b turns grid'
     refused_takes {r} k =
-        let u : TakesUp text bs (Err r) b turns grid' = whole_up (record { checks = checks_said k; standing = λ u e. let z : ◌≡◌ {A = ℕ} 0 1 = cc in absurd (omega arith) }) in
+        let u : TakesUp text bs (Err r) b turns grid' = whole_up (record { checks = checks_said k; corners_stand = stand; standing = λ u e. let z : ◌≡◌ {A = ℕ} 0 1 = cc in absurd (omega arith) }) in
         (u, record { bytes = text; takes = u; patchable = λ u e. let z : ◌≡◌ {A = ℕ} 0 1 = cc in absurd (omega arith) })
 
     module _ (k : Checks p (take (3 * n) a) (take (3 * t) b) bs Done turns grid') where
@@ -88,7 +94,7 @@ module _ {text : List ℕ} {p n t : ℕ} {a b ws cs : List ℕ} (whole : TakesWh
 
       pub whole_takes : TakesUp text bs (Ok counts) b turns grid' × Took bs (Ok counts) b turns grid'
       whole_takes =
-          let u : TakesUp text bs (Ok counts) b turns grid' = whole_up (record { checks = checks_said k; standing = λ u e. standing e }) in
+          let u : TakesUp text bs (Ok counts) b turns grid' = whole_up (record { checks = checks_said k; corners_stand = stand; standing = λ u e. standing e }) in
           (u, record { bytes = text; takes = u; patchable = λ u e. patchable e })
 
 -- ---- what was taken up is refused, or patched

@@ -10,13 +10,15 @@ use Rattle.text_rules.specs.Fault.{Fault}
 use Rattle.text_sheet.specs.Sheet.{Sheet, sheet, pitch_said, words_said, corners_said}
 use Rattle.program_list.specs.declared.Taken.{Taken}
 
--- what the checks say of what the text says; where they refuse nothing, its corners stand at the start of theirs
+-- how many words and corners the text says, where nothing is refused
 pub record Standing (s : Sheet) (u : Taken) (corners : List ℕ) : Type 0 where
   pub words_are : u.words ≡ length (words_said s)
   pub corners_are : take u.corners corners ≡ corners_said s
 
+-- what the checks say of what the text says, whose corners stand at the start of theirs, refused or not
 pub record SaidUp (s : Sheet) (b : Buffers) (r : Result Taken Refusal) (corners turns : List ℕ) (grid' : List ℤ) : Type 0 where
   pub checks : Checks (pitch_said s) (words_said s) (corners_said s) b (said r) turns grid'
+  pub corners_stand : take (length (corners_said s)) corners ≡ corners_said s
   pub standing : (u : Taken) → r ≡ Ok u → Standing s u corners
 
 -- a text with a fault has its line, and the grid stays

@@ -1,10 +1,7 @@
 -- `hand_over` writes only where both buffers are long enough.
-use mathlib.Core.Path.{sym}
 use Rattle.std.proofs.lemmas.Result.{err_from_is_err_and}
-use lib.Seq.{length-take-le}
 use Prim.Native.Nat.{◌≤◌}
 use lib.ListN.{length}
-use Rattle.text_digits.proofs.Laws.Lay.{copied}
 use Rattle.text_sheet.proofs.Laws.Rooms.{two_fit}
 use Rattle.stl_read.proofs.Laws.Reading.{short_handed, all_handed}
 use Rattle.stl_read.proofs.hand_over.Goals as goal
@@ -20,25 +17,13 @@ returns-in_err-check_buffers c =
     let p = err_from_is_err_and c.from_residual.result c.from_residual.ensures.1 in
     rw (p.1, p.2) (short_handed s.ws.now s.cs.now s.words.now s.corners.now c.in_err-check_buffers.ensures)
 
-pub slice_bounds-copy_from_slice-end : goal.slice_bounds-copy_from_slice-end
-slice_bounds-copy_from_slice-end c = (fit (goal.at.slice_bounds-copy_from_slice-end c).In_ok-check_buffers).1
+pub lay_over-requires : goal.lay_over-requires
+lay_over-requires c = (fit (goal.at.lay_over-requires c).In_ok-check_buffers).1
 
-pub slice_bounds-copy_from_slice-end-2 : goal.slice_bounds-copy_from_slice-end-2
-slice_bounds-copy_from_slice-end-2 c = sym (length-take-le _ _ (fit (goal.at.slice_bounds-copy_from_slice-end-2 c).In_ok-check_buffers).1)
-
-pub copy_from_slice-requires : goal.copy_from_slice-requires
-copy_from_slice-requires c = length-take-le _ _ (fit (goal.at.copy_from_slice-requires c).In_ok-check_buffers).1
-
-pub slice_bounds-copy_from_slice-end-3 : goal.slice_bounds-copy_from_slice-end-3
-slice_bounds-copy_from_slice-end-3 c = (fit (goal.at.slice_bounds-copy_from_slice-end-3 c).In_ok-check_buffers).0
-
-pub slice_bounds-copy_from_slice-end-4 : goal.slice_bounds-copy_from_slice-end-4
-slice_bounds-copy_from_slice-end-4 c = sym (length-take-le _ _ (fit (goal.at.slice_bounds-copy_from_slice-end-4 c).In_ok-check_buffers).0)
-
-pub copy_from_slice-requires-2 : goal.copy_from_slice-requires-2
-copy_from_slice-requires-2 c = length-take-le _ _ (fit (goal.at.copy_from_slice-requires-2 c).In_ok-check_buffers).0
+pub lay_over-requires-2 : goal.lay_over-requires-2
+lay_over-requires-2 c = (fit (goal.at.lay_over-requires-2 c).In_ok-check_buffers).0
 
 pub returns : goal.returns
 returns c =
     let s = c.args in
-    all_handed s.ws.now s.cs.now s.words.now s.corners.now c.in_ok-check_buffers.ensures (search copied) (search copied)
+    all_handed s.ws.now s.cs.now s.words.now s.corners.now c.in_ok-check_buffers.ensures c.lay_over-2.ensures c.lay_over.ensures

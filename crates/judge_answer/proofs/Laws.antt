@@ -1,0 +1,2 @@
+-- The laws of what the checker leaves.
+pub mod Fronts
